@@ -1,7 +1,6 @@
 -- What a written line and a saved track leave of the entries.
-use Rattle.std.proofs.Common.{◌≡◌, ℕ, ◌<◌, ◌≤◌, ◌^◌, false, eqb, List, [], ◌∷◌, ◌++◌, Some}
-use Rattle.std.proofs.Common.{None, length, refl, sym, ap, ◌∙◌, subst, arith, inl, inr}
-use Rattle.std.proofs.Common.{length-append}
+use Rattle.std.proofs.Common.{◌≡◌, ℕ, ◌<◌, ◌≤◌, ◌^◌, eqb, List, [], ◌∷◌, ◌++◌, Some, None}
+use Rattle.std.proofs.Common.{length, refl, sym, ap, ◌∙◌, subst, arith, inl, inr, length-append}
 use Rattle.std.proofs.lemmas.Bool.{cases_Bool, cases_lt, eqb-true}
 use Rattle.std.specs.Prelude.{if◌then◌else◌, unwrap_or, is_some, IfSome, Result, OnErr, Err}
 use Rattle.std.specs.FinMap as finite
@@ -11,15 +10,14 @@ use Rattle.detector.specs.declared.line_entry.LineEntry.{LineEntry}
 use Rattle.detector.specs.Entries.{Entries, IsEntry, blank_entry, entry_at}
 use Rattle.sharing_rules.specs.declared.line_kind.LineKind.{LineKind}
 use Rattle.sharing_rules.specs.declared.line_kind.LineKind.TheVariants.{Observed, Shifted, Doubled}
-use Rattle.line_tracks.specs.Kept.{IsBlank, IsInTime, Kept}
+use Rattle.line_tracks.specs.Kept.{Kept}
 use Rattle.detector.specs.Added.{IsAddable}
 use Rattle.detector.specs.Index.{IsIndexed, IsNamed, Names, names_in, place_in}
 use Rattle.detector.specs.Named.{line_of_base, track_named}
 use Rattle.detector.specs.Tasks.{with_name}
-use Rattle.detector.proofs.AroundLaws.{is_some-kept}
+use Rattle.detector.proofs.NamedLaws.{is_some-kept, named-more, same_name, with_name-other}
 use Rattle.detector.proofs.CountLaws.{count_at-counts_of}
 use Rattle.detector.proofs.FourPlaces.{slice_get-more}
-use Rattle.detector.proofs.NamedLaws.{named-more, same_name, with_name-other}
 use Rattle.detector.proofs.SettleLaws.{changed-names}
 use Rattle.detector.proofs.TaskLaws.{none_from}
 use Rattle.sharing_rules.specs.Laws.Lists.{slice_cases}
@@ -44,7 +42,7 @@ written_small m q only some = elim (cases_lt (2 ^ 30) q) [
 
 -- an entry that counts as many writes
 abbrev pub counting : LineEntry → ℕ → LineEntry
-counting e n = record { writes = n; track = e.track; shifted = e.shifted; doubled = e.doubled }
+counting e n = record e { writes = n }
 
 counting-places : (e : LineEntry) (n : ℕ) (kind : LineKind) → place_in (counting e n) kind
     ≡ place_in e kind
@@ -65,16 +63,12 @@ written-indexed f h g xs T p k n e each lent fresh few indexed = record {
       elim (cases_Bool (eqb q k)) [
         | inl here ↦ let none : (f q).writes ≡ 0 = ap (λ z. (f z).writes) (eqb-true q k here)
             ∙ fresh in omega arith
-        | inr other ↦ subst (λ z. T ≤ z) (sym (ap (λ (x : LineEntry). x.writes)
-            (elsewhere q other))) late
+        | inr other ↦ rw (each q, other) late
       ];
   written = λ q.
       elim (cases_Bool (eqb q k)) [
-        | inl here ↦
-            subst (λ z. z ≤ p) (sym (ap (λ (x : LineEntry). x.writes)
-            (each q ∙ ap (λ b. if b then counting e n else f q) here))) few
-        | inr other ↦ subst (λ z. z ≤ p) (sym (ap (λ (x : LineEntry). x.writes)
-            (elsewhere q other))) (indexed.written q)
+        | inl here ↦ rw (each q, here) few
+        | inr other ↦ rw (each q, other) (indexed.written q)
       ];
   in_time = indexed.in_time;
   blank = indexed.blank;
@@ -84,9 +78,6 @@ written-indexed f h g xs T p k n e each lent fresh few indexed = record {
     names : names_in h ≡ names_in f
     names = changed-names f h k (counting e n) each
         (λ kind. counting-places e n kind ∙ ap (λ (x : LineEntry). place_in x kind) lent)
-
-    elsewhere : (q : ℕ) → eqb q k ≡ false → h q ≡ f q
-    elsewhere q other = each q ∙ ap (λ b. if b then counting e n else f q) other
 
 -- the line of a track that may be added was written
 pub addable-written : (m : Entries) (g : Grid) (xs : List Kept) (v : Levels) (p k : ℕ) (x : Kept)
@@ -113,7 +104,6 @@ pub added-indexed : (m n : Entries) (g : Grid) (xs ys : List Kept) (v : Levels) 
 added-indexed m n g xs ys v p k x addable line names writes room is =
     let can = addable.can in
     let indexed = addable.indexed in
-    let N : Names = names_in (entry_at m) in
     let now : names_in (entry_at n) ≡ with_name (names_in (entry_at m)) x.kind
     (line_of_base g x.range) (Some (length xs)) =
     names ∙ ap (λ q. with_name (names_in (entry_at m)) x.kind q (Some (length xs))) line in
@@ -136,11 +126,11 @@ added-indexed m n g xs ys v p k x addable line names writes room is =
       written = λ q. subst (λ z. z ≤ p) (sym (writes q)) (indexed.written q);
       in_time = λ i y at. elim (slice_get-more xs x y i at) [
         | inl before ↦ indexed.in_time i y before
-        | inr last ↦ subst (λ (z : Kept). IsInTime z p) (sym last.1) can.in_time
+        | inr last ↦ rw last.1 can.in_time
       ];
       blank = λ i y at. elim (slice_get-more xs x y i at) [
         | inl before ↦ indexed.blank i y before
-        | inr last ↦ subst (λ (z : Kept). z.start ≡ None → IsBlank z) (sym last.1) can.blank
+        | inr last ↦ rw last.1 can.blank
       ];
       few = omega (arith, length-append xs (x ∷ []));
     })

@@ -1,13 +1,13 @@
 -- What the code does at an access is what the exact step says.
 use Rattle.std.proofs.Common.{◌≡◌, ℕ, ◌+◌, ◌%◌, ◌<◌, ◌≤◌, ◌^◌, Bool, true, false, eqb, leb, ltb}
 use Rattle.std.proofs.Common.{◌&&◌, ◌||◌, List, [], ◌++◌, Option, Some, Fits, w64, None, map}
-use Rattle.std.proofs.Common.{length, refl, sym, ap, ◌∙◌, subst, arith, inl, inr}
+use Rattle.std.proofs.Common.{length, refl, sym, ap, ◌∙◌, subst, arith, inl, inr, ◌-◌, not}
 use Rattle.std.proofs.lemmas.Bool.{cases_Bool, false≢true, and_parts, and_left, or_parts, eqb-true}
 use Rattle.std.proofs.lemmas.Bool.{leb-true}
 use Rattle.std.proofs.lemmas.Bool.Decides.{nat_tests}
 use Rattle.std.proofs.lemmas.Option.{none-some}
 use Rattle.std.proofs.lemmas.List.{append-nil, length-append}
-use Rattle.std.specs.Prelude.{if◌then◌else◌}
+use Rattle.std.specs.Prelude.{if◌then◌else◌, is_some}
 use Rattle.std.specs.Option.{option_map_or}
 use Rattle.base.specs.Lines.{Grid, is_layout, line_number}
 use Rattle.base.specs.Levels.{Levels, are_levels, is_from_to}
@@ -16,7 +16,6 @@ use Rattle.base.specs.declared.layout.Range.{Range}
 use Rattle.detector.specs.Entries.{Entries, blank_entry, entry_at, no_entries}
 use Rattle.detector.specs.declared.line_entry.LineEntry.{LineEntry}
 use Rattle.sharing_rules.specs.Listed.{may_predict}
-use Rattle.sharing_rules.specs.Predicted.{is_native_size}
 use Rattle.sharing_rules.specs.declared.line_kind.LineKind.{LineKind}
 use Rattle.sharing_rules.specs.declared.line_kind.LineKind.TheVariants.{Observed, Shifted, Doubled}
 use Rattle.line_tracks.specs.Kept.{Kept}
@@ -24,19 +23,23 @@ use Rattle.detector.specs.declared.openings.Openings.{Openings}
 use Rattle.detector.specs.declared.task.Task.{Task}
 use Rattle.detector.specs.Counts.{count_at, counts_of, with_write}
 use Rattle.detector.specs.Index.{IsIndexed, IsNamed, Names, names_in}
-use Rattle.detector.specs.Noting.{IsNotable}
+use Rattle.detector.specs.Noting.{IsNotable, have_opened, places}
 use Rattle.detector.specs.Openings.{nothing_opens, opened_tracks, waiting_for}
+use Rattle.detector.specs.Openings.{openings}
 use Rattle.detector.specs.Pairs.{IsNativeGrid}
 use Rattle.detector.specs.Tasks.{IsDueAt, IsTaskOf, counted, tracks_begun, tracks_changed}
 use Rattle.detector.specs.Tasks.{task_opens}
-use Rattle.detector.specs.Watch.{Watch, begins_track, is_first_write, is_search, may_take_memory}
+use Rattle.detector.specs.Watch.{begins_track, is_first_write, is_search, may_take_memory}
 use Rattle.detector.specs.Watch.{opens_at, touched, tracks_after, tracks_noted, watch_of, watched}
 use Rattle.detector.specs.Watch.{writes_after}
 use Rattle.detector.specs.Named.{number_of}
 use Rattle.detector.proofs.CountLaws.{count_at-counts_of, entry_at-empty}
-use Rattle.detector.proofs.SettleLaws.{counted-names, counted-writes}
+use Rattle.detector.proofs.SettleLaws.{counted-names, counted-writes, layout-small}
+use Rattle.detector.proofs.ToldLaws.{under}
 use Rattle.detector.proofs.TouchLaws.{indexed-touched}
-use Rattle.detector.proofs.ChangeLaws.{layout-small}
+use Rattle.sharing_rules.specs.Opened.{even_lower}
+use Rattle.detector.proofs.NamedLaws.{is_some-kept, named-map}
+use Rattle.detector.proofs.InTimeLaws.{touched-kind, touched-range}
 
 -- the task by an entry that was lent
 pub task-lent : (f : ℕ → LineEntry) (k : ℕ) (e : LineEntry) (v : Levels) (task : Task) → e ≡ f k
@@ -46,23 +49,12 @@ task-lent f k e v task same t = subst (λ (x : LineEntry). IsTaskOf x v task) sa
 begins-is : (m : Entries) (k : ℕ) (v : Levels) (a : Touch) (task : Task) → is_write a.kind ≡ true
     → IsTaskOf (entry_at m k) v task
     → task.begins ≡ begins_track v.tracking (counts_of m) k a
-begins-is m k v a task writes t =
-    t.begins ∙ ap (λ n. eqb (n + 1) v.tracking) (sym (count_at-counts_of m k))
-    ∙ sym (ap (λ b. b && eqb (count_at (counts_of m) k + 1) v.tracking) writes)
-
-searched : (o : Option ℕ) (n c : ℕ) (w : Bool) → n ≡ c → w ≡ true
-    → option_map_or (λ P. eqb ((n + 1) % P) 0) o false ≡ option_map_or
-    (λ P. w && eqb ((c + 1) % P) 0) o false
-searched None n c w e h = refl
-searched (Some P) n c w e h = ap (λ z. eqb ((z + 1) % P) 0) e
-    ∙ sym (ap (λ b. b && eqb ((c + 1) % P) 0) h)
+begins-is m k v a task writes t = rw (t.begins, writes, count_at-counts_of m k)
 
 pub searches-is : (m : Entries) (k : ℕ) (v : Levels) (a : Touch) (task : Task) → is_write a.kind
     ≡ true → IsTaskOf (entry_at m k) v task
     → task.searches ≡ is_search v.prediction (counts_of m) k a
-searches-is m k v a task writes t = t.searches
-    ∙ searched v.prediction (entry_at m k).writes (count_at (counts_of m) k) (is_write a.kind)
-    (sym (count_at-counts_of m k)) writes
+searches-is m k v a task writes t = rw (t.searches, writes, count_at-counts_of m k)
 
 -- the tracks after a write
 pub after-task : (m : Entries) (xs : List Kept) (g : Grid) (v : Levels) (p k : ℕ) (a : Touch)
@@ -71,21 +63,14 @@ pub after-task : (m : Entries) (xs : List Kept) (g : Grid) (v : Levels) (p k : �
     → tracks_changed g k p a task.begins task.searches (map (touched p a) xs)
     ≡ tracks_after (watch_of m xs g v p) k a
 after-task m xs g v p k a task writes t =
-    ap (λ b. tracks_changed g k p a b task.searches (map (touched p a) xs))
-    (begins-is m k v a task writes t)
-    ∙ ap (λ s. tracks_changed g k p a (begins_track v.tracking (counts_of m) k a) s
-    (map (touched p a) xs))
-    (searches-is m k v a task writes t)
+    rw (begins-is m k v a task writes t, searches-is m k v a task writes t)
 
 pub after-plain : (m : Entries) (xs : List Kept) (g : Grid) (v : Levels) (p k : ℕ) (a : Touch)
     → begins_track v.tracking (counts_of m) k a
     ≡ false → is_search v.prediction (counts_of m) k a ≡ false
     → map (touched p a) xs ≡ tracks_after (watch_of m xs g v p) k a
 after-plain m xs g v p k a quiet unsearched =
-    sym (append-nil (map (touched p a) xs)) ∙ sym (append-nil (map (touched p a) xs ++ []))
-    ∙ sym (ap (λ b. tracks_changed g k p a b (is_search v.prediction (counts_of m) k a)
-    (map (touched p a) xs)) quiet
-    ∙ ap (λ s. tracks_changed g k p a false s (map (touched p a) xs)) unsearched)
+    rw (quiet, unsearched) (simp append-nil)
 
 pub after-write : (m : Entries) (xs : List Kept) (g : Grid) (v : Levels) (p k : ℕ) (a : Touch)
     (task : Task) → is_write a.kind ≡ true
@@ -117,39 +102,36 @@ after-read m xs g v p k a reads =
 pub counts-write : (m n : Entries) (k : ℕ) (a : Touch) → is_write a.kind ≡ true → counts_of n
     ≡ with_write (counts_of m) k
     → counts_of n ≡ writes_after k a (counts_of m)
-counts-write m n k a writes e = e ∙ sym (ap (λ b. if b then with_write (counts_of m) k
-    else counts_of m) writes)
+counts-write m n k a writes e = rw (e, writes)
 
 pub counts-read : (m : Entries) (k : ℕ) (a : Touch) → is_write a.kind ≡ false → counts_of m
     ≡ writes_after k a (counts_of m)
-counts-read m k a reads = sym (ap (λ b. if b then with_write (counts_of m) k else counts_of m)
-    reads)
+counts-read m k a reads = rw reads
 
 -- thresholds
 from_one : (low high n : ℕ) → is_from_to low high n ≡ true → low ≤ n
 from_one low high n h = let parts = and_parts (leb low n) (leb n high) h in leb-true low n parts.0
 
-pub levels-some : (v : Levels) → are_levels v.tracking v.prediction v.report ≡ true → 1 ≤ v.tracking
-levels-some v h =
+levels-parts : (v : Levels) → are_levels v.tracking v.prediction v.report ≡ true
+    → (1 ≤ v.tracking) × (option_map_or (is_from_to v.tracking (2 ^ 32)) v.prediction true ≡ true)
+levels-parts v h =
     let outer = and_parts (is_from_to 1 (2 ^ 32) v.tracking && option_map_or
     (is_from_to v.tracking (2 ^ 32)) v.prediction true)
     (is_from_to 1 (2 ^ 40) v.report) h in
     let inner = and_parts (is_from_to 1 (2 ^ 32) v.tracking)
     (option_map_or (is_from_to v.tracking (2 ^ 32)) v.prediction true) outer.0 in
-    from_one 1 (2 ^ 32) v.tracking inner.0
+    (from_one 1 (2 ^ 32) v.tracking inner.0, inner.1)
+
+pub levels-some : (v : Levels) → are_levels v.tracking v.prediction v.report ≡ true → 1 ≤ v.tracking
+levels-some v h = (levels-parts v h).0
 
 pub levels-positive : (v : Levels) (P : ℕ) → are_levels v.tracking v.prediction v.report ≡ true
     → v.prediction ≡ Some P → 0 < P
 levels-positive v P h is =
-    let outer = and_parts (is_from_to 1 (2 ^ 32) v.tracking && option_map_or
-    (is_from_to v.tracking (2 ^ 32)) v.prediction true)
-    (is_from_to 1 (2 ^ 40) v.report) h in
-    let inner = and_parts (is_from_to 1 (2 ^ 32) v.tracking)
-    (option_map_or (is_from_to v.tracking (2 ^ 32)) v.prediction true) outer.0 in
-    let at : is_from_to v.tracking (2 ^ 32) P ≡ true =
-    sym (ap (λ o. option_map_or (is_from_to v.tracking (2 ^ 32)) o true) is) ∙ inner.1 in
+    let parts = levels-parts v h in
+    let some = parts.0 in
+    let at = rw is at parts.1 in
     let low = from_one v.tracking (2 ^ 32) P at in
-    let some = levels-some v h in
     omega arith
 
 pub native-grid : (f : ℕ → LineEntry) (k : ℕ) (g : Grid) (v : Levels) (task : Task)
@@ -161,11 +143,8 @@ native-grid f k g v task may t searches = by_prediction v.prediction refl
     by_prediction None is = absurd (false≢true (sym
         (t.searches ∙ ap (λ z. option_map_or (λ P. eqb (((f k).writes + 1) % P) 0) z false) is)
         ∙ searches))
-    by_prediction (Some P) is =
-        let parts = and_parts (is_native_size g.size) (eqb g.offset 0)
-        (sym (ap (λ z. option_map_or (λ P. is_native_size g.size && eqb g.offset 0) z true) is)
-        ∙ may) in
-        record { size = parts.0; offset = eqb-true g.offset 0 parts.1 }
+    by_prediction (Some P) is = let u = under g v P may is in
+        record { size = u.native; offset = u.offset }
 
 pub due-at : (f : ℕ → LineEntry) (g : Grid) (xs : List Kept) (k : ℕ) (v : Levels) (task : Task)
     (p : ℕ) → IsIndexed f g xs v.tracking p
@@ -176,30 +155,15 @@ due-at f g xs k v task p indexed some t = record {
   due = λ b. eqb-true ((f k).writes + 1) v.tracking (sym t.begins ∙ b);
 }
 
--- the same, where an entry was lent and left as it was
-pub due-lent : (m n : Entries) (g : Grid) (xs : List Kept) (k : ℕ) (v : Levels) (task : Task)
-    (p : ℕ) → n ≡ m
-    → IsIndexed (entry_at m) g xs v.tracking p → 1 ≤ v.tracking → IsTaskOf (entry_at m k) v task
-    → IsDueAt (entry_at n) g xs k task p v.tracking
-due-lent m n g xs k v task p same indexed some t =
-    subst (λ (z : Entries). IsDueAt (entry_at z) g xs k task p v.tracking) (sym same)
-    (due-at (entry_at m) g xs k v task p indexed some t)
-
 -- a plain write
 pub plain-indexed : (f h : ℕ → LineEntry) (g : Grid) (xs ys : List Kept) (T p k : ℕ) (a : Touch)
     → IsIndexed f g xs T p
     → ((q : ℕ) → h q ≡ (if eqb q k then counted (f k) else f q)) → ys ≡ map (touched p a) xs
     → IsIndexed h g ys T (p + 1)
 plain-indexed f h g xs ys T p k a indexed each is =
-    let writes = counted-writes f h k each in
     subst (λ zs. IsIndexed h g zs T (p + 1)) (sym is)
-    (indexed-touched f h g xs T p a indexed (λ q. named Observed q) (λ q. named Shifted q)
-    (λ q. named Doubled q) (λ q. more q)
-    (λ q. few q))
+    (indexed-touched f h g xs T p a indexed (counted-names f h k each) more few)
   where
-    named : (kind : LineKind) (q : ℕ) → names_in h kind q ≡ names_in f kind q
-    named kind q = ap (λ (N : Names). N kind q) (counted-names f h k each)
-
     more : (q : ℕ) → (f q).writes ≤ (h q).writes
     more q = elim (cases_Bool (eqb q k)) [
       | inl here ↦ let same = eqb-true q k here in let is_k : (f q).writes ≡ (f k).writes =
@@ -220,8 +184,8 @@ pub read-indexed : (f : ℕ → LineEntry) (g : Grid) (xs ys : List Kept) (T p :
     → ys ≡ map (touched p a) xs → IsIndexed f g ys T (p + 1)
 read-indexed f g xs ys T p a indexed is =
     subst (λ zs. IsIndexed f g zs T (p + 1)) (sym is)
-    (indexed-touched f f g xs T p a indexed (λ q. refl) (λ q. refl) (λ q. refl)
-    (λ q. omega arith) (λ q. let d = indexed.written q in omega arith))
+    (indexed-touched f f g xs T p a indexed refl (λ q. omega arith)
+    (λ q. let d = indexed.written q in omega arith))
 
 pub notable : (f h : ℕ → LineEntry) (g : Grid) (xs : List Kept) (T p k : ℕ) (a : Touch)
     → IsIndexed f g xs T p → names_in h ≡ names_in f
@@ -264,44 +228,43 @@ pub record IsQuiet (m : Entries) (xs : List Kept) (g : Grid) (p k : ℕ) (a : To
   pub opens : task_opens g k task.searches (tracks_begun g k p a task.begins (map (touched p a) xs))
       ≡ nothing_opens
 
--- the line of a write that takes no memory was written
-pub first-written : (m : Entries) (xs : List Kept) (g : Grid) (v : Levels) (p k : ℕ) (a : Touch)
-    → is_write a.kind ≡ true
-    → may_take_memory (watch_of m xs g v p) k a ≡ false → 0 < (entry_at m k).writes
-first-written m xs g v p k a writes none =
+-- a write that takes no memory is not its line's first, begins no track, and opens nothing
+none-taken : (m : Entries) (xs : List Kept) (g : Grid) (v : Levels) (p k : ℕ) (a : Touch)
+    → may_take_memory (watch_of m xs g v p) k a ≡ false
+    → (is_first_write (counts_of m) k a ≡ false)
+    × (begins_track v.tracking (counts_of m) k a ≡ false)
+    × (ltb 0 (length (opened_tracks (opens_at (watch_of m xs g v p) k a
+    (tracks_noted (watch_of m xs g v p) k a)))) ≡ false)
+none-taken m xs g v p k a none =
     let outer = or_parts (is_first_write (counts_of m) k a || begins_track v.tracking
     (counts_of m) k a)
     (ltb 0 (length (opened_tracks (opens_at (watch_of m xs g v p) k a
     (tracks_noted (watch_of m xs g v p) k a))))) none in
     let inner = or_parts (is_first_write (counts_of m) k a)
     (begins_track v.tracking (counts_of m) k a) outer.0 in
-    let counted_none : eqb (count_at (counts_of m) k) 0 ≡ false =
-    sym (ap (λ z. z && eqb (count_at (counts_of m) k) 0) writes) ∙ inner.0 in
+    (inner.0, inner.1, outer.1)
+
+-- the line of a write that takes no memory was written
+pub first-written : (m : Entries) (xs : List Kept) (g : Grid) (v : Levels) (p k : ℕ) (a : Touch)
+    → is_write a.kind ≡ true
+    → may_take_memory (watch_of m xs g v p) k a ≡ false → 0 < (entry_at m k).writes
+first-written m xs g v p k a writes none =
+    let first = (none-taken m xs g v p k a none).0 in
     some_writes (entry_at m k).writes (ap (λ n. eqb n 0) (sym (count_at-counts_of m k))
-    ∙ counted_none)
+    ∙ sym (ap (λ z. z && eqb (count_at (counts_of m) k) 0) writes) ∙ first)
 
 pub quiet : (m : Entries) (xs : List Kept) (g : Grid) (v : Levels) (p k : ℕ) (a : Touch)
     (task : Task) → is_write a.kind ≡ true
     → IsTaskOf (entry_at m k) v task → may_take_memory (watch_of m xs g v p) k a ≡ false
     → IsQuiet m xs g p k a task
 quiet m xs g v p k a task writes t none =
-    let w : Watch = watch_of m xs g v p in
-    let outer = or_parts (is_first_write (counts_of m) k a || begins_track v.tracking
-    (counts_of m) k a)
-    (ltb 0 (length (opened_tracks (opens_at (watch_of m xs g v p) k a
-    (tracks_noted (watch_of m xs g v p) k a))))) none in
-    let inner = or_parts (is_first_write (counts_of m) k a)
-    (begins_track v.tracking (counts_of m) k a) outer.0 in
-    let b = begins-is m k v a task writes t in
-    let s = searches-is m k v a task writes t in
+    let w = none-taken m xs g v p k a none in
     record {
       written = first-written m xs g v p k a writes none;
-      begins = b ∙ inner.1;
-      opens =
-          ap (λ z. task_opens g k task.searches (tracks_begun g k p a z (map (touched p a) xs))) b
-          ∙ ap (λ z. task_opens g k z (tracks_noted (watch_of m xs g v p) k a)) s
-          ∙ nothing_added (opens_at (watch_of m xs g v p) k a
-          (tracks_noted (watch_of m xs g v p) k a)) (no_length _ outer.1);
+      begins = begins-is m k v a task writes t ∙ w.1;
+      opens = rw (begins-is m k v a task writes t, searches-is m k v a task writes t)
+          (nothing_added (opens_at (watch_of m xs g v p) k a
+          (tracks_noted (watch_of m xs g v p) k a)) (no_length _ w.2));
     }
 
 -- the value after an access
@@ -309,12 +272,7 @@ pub watched-is : (m n : Entries) (xs ys : List Kept) (g : Grid) (v : Levels) (p 
     → k ≡ number_of g a
     → ys ≡ tracks_after (watch_of m xs g v p) k a → counts_of n ≡ writes_after k a (counts_of m)
     → watch_of n ys g v (p + 1) ≡ watched (watch_of m xs g v p) a
-watched-is m n xs ys g v p k a line tracks counts =
-    let ks : ys ≡ tracks_after (watch_of m xs g v p) (number_of g a) a = tracks
-    ∙ ap (λ q. tracks_after (watch_of m xs g v p) q a) line in
-    let cs : counts_of n ≡ writes_after (number_of g a) a (counts_of m) = counts
-    ∙ ap (λ q. writes_after q a (counts_of m)) line in
-    λ i. record { position = p + 1; grid = g; levels = v; writes = cs i; tracks = ks i }
+watched-is m n xs ys g v p k a line tracks counts = rw (tracks, counts, line)
 
 -- where nothing is kept yet
 pub indexed-empty : (m : Entries) (g : Grid) (T p : ℕ) → m ≡ no_entries
@@ -356,3 +314,56 @@ writes-few f g xs T p k e indexed early is =
 
 pub one-more-fits : (n : ℕ) → n < 2 ^ 40 → Fits w64 (n + 1)
 one-more-fits n few = omega arith
+
+-- A search opens nothing where all predicted lines of a line have opened.
+
+lower-named : (f : ℕ → LineEntry) (k : ℕ) → is_some (places f k).doubled ≡ true
+    → is_some (names_in f Doubled (even_lower k)) ≡ true
+lower-named f k e =
+    elim (cases_Bool (eqb (k % 2) 1)) [
+      | inl odd ↦ let at = rw odd at e in rw odd at
+      | inr even ↦ let at = rw even at e in rw even at
+    ]
+
+opened-none : (f : ℕ → LineEntry) (g : Grid) (xs : List Kept) (k : ℕ) → IsNamed (names_in f) g xs
+    → have_opened (places f k) ≡ true → openings g k xs ≡ nothing_opens
+opened-none f g xs k named all =
+    let one = and_parts (is_some (places f k).shifted && is_some (places f k).below)
+    (is_some (places f k).doubled) all in
+    let two = and_parts (is_some (places f k).shifted) (is_some (places f k).below) one.0 in
+    rw (
+      is_some-kept (names_in f) g xs Shifted (k - 1) named ∙ two.1,
+      is_some-kept (names_in f) g xs Shifted k named ∙ two.0,
+      is_some-kept (names_in f) g xs Doubled (even_lower k) named ∙ lower-named f k one.1,
+    )
+
+not_idle : (s h : Bool) → (s && not h) ≡ false → s ≡ true → h ≡ true
+not_idle true true e h = refl
+not_idle true false e h = sym e
+not_idle false h e is = absurd (cc)
+
+-- the tracks after a write at which no track begins, and none opens
+pub after-idle : (m : Entries) (xs : List Kept) (g : Grid) (v : Levels) (p k : ℕ) (a : Touch)
+    (task : Task) → is_write a.kind ≡ true → IsTaskOf (entry_at m k) v task
+    → IsNamed (names_in (entry_at m)) g xs
+    → (task.begins || (task.searches && not (have_opened (places (entry_at m) k)))) ≡ false
+    → map (touched p a) xs ≡ tracks_after (watch_of m xs g v p) k a
+after-idle m xs g v p k a task writes t named idle =
+    let parts = or_parts task.begins (task.searches && not (have_opened (places (entry_at m) k)))
+    idle in
+    let names : IsNamed (names_in (entry_at m)) g (map (touched p a) xs) =
+    named-map (names_in (entry_at m)) g (touched p a) xs (touched-kind p a) (touched-range p a)
+    named in
+    let opens : task_opens g k task.searches (map (touched p a) xs ++ []) ≡ nothing_opens =
+    elim (cases_Bool task.searches) [
+      | inl s ↦
+          let all = not_idle task.searches (have_opened (places (entry_at m) k)) parts.1 s in
+          ap (λ b. task_opens g k b (map (touched p a) xs ++ [])) s
+          ∙ ap (openings g k) (append-nil (map (touched p a) xs))
+          ∙ opened-none (entry_at m) g (map (touched p a) xs) k names all
+      | inr s ↦ ap (λ b. task_opens g k b (map (touched p a) xs ++ [])) s
+    ] in
+    let same : map (touched p a) xs
+    ≡ tracks_changed g k p a task.begins task.searches (map (touched p a) xs) =
+    rw (parts.0, opens) (simp append-nil) in
+    same ∙ after-task m xs g v p k a task writes t

@@ -2,13 +2,13 @@
 use Rattle.std.proofs.Common.{◌≡◌, ℕ, suc, ◌+◌, ◌*◌, ◌/◌, ◌%◌, ◌<◌, ◌≤◌, true, List, [], ◌∷◌, ◌++◌}
 use Rattle.std.proofs.Common.{Option, Some, None, map, length, length-append, refl, sym, ap, ◌∙◌}
 use Rattle.std.proofs.Common.{subst, arith, inl, inr, take}
-use Rattle.std.proofs.lemmas.Bool.{cases_lt, and_parts, eqb-true}
+use Rattle.std.proofs.lemmas.Bool.{cases_lt}
 use Rattle.std.proofs.lemmas.List.{length-map}
 use Rattle.std.proofs.lemmas.List.Sorted.{sum_by-IsPermutation, length_permutation}
 use Rattle.std.proofs.lemmas.List.Sums.{sum_by-append, sum_by-cons, length-filter}
 use Rattle.std.proofs.lemmas.Nat.{mul-le}
 use Rattle.std.proofs.lemmas.Option.{none-some}
-use Rattle.std.specs.Prelude.{cond, is_some, filter, IsTrue, ◌==◌, ◌&&◌}
+use Rattle.std.specs.Prelude.{cond, is_some, filter, IsTrue, ◌==◌}
 use Rattle.std.specs.List.{count_by, sum_by}
 use Rattle.std.specs.Option.{option_map_or}
 use Rattle.base.specs.Levels.{Levels}
@@ -46,6 +46,7 @@ use Rattle.detector.specs.Amounts.{HasHalfDoubled, IsSmallUnpredicted, doubled_c
 use Rattle.detector.specs.Amounts.{is_of, kind_count, observed_count, shifted_count, word_count}
 use Rattle.detector.specs.Standing.{StandsFor}
 use Rattle.detector.specs.Watch.{Watch}
+use Rattle.detector.proofs.ToldLaws.{under}
 
 sum_mapped : {X Y : Type 0} (f : Y → ℕ) (g : X → Y) (xs : List X) → sum_by f (map g xs)
     ≡ sum_by (λ x. f (g x)) xs
@@ -168,7 +169,6 @@ made_predicted : (g : Grid) (v : Levels) (t : AccessList) (P : ℕ) → v.predic
     → is_native_size g.size ≡ true → g.offset ≡ 0
     → Made g v t
 made_predicted g v t P some native start =
-    let n : ℕ = g.size in
     let grid : g ≡ native_grid g.size = native_of g start in
     record {
       observed = observed_ones g v.tracking t;
@@ -203,11 +203,8 @@ made g v t may =
     elim (slice_cases v.prediction) [
       | inl none ↦ made_unpredicted g v t none
       | inr some ↦
-          let both : (is_native_size g.size && (g.offset == 0)) ≡ true =
-          ap (λ p. option_map_or (λ P. is_native_size g.size && (g.offset == 0)) p true)
-          (sym some.1) ∙ may in
-          let parts = and_parts (is_native_size g.size) (g.offset == 0) both in
-          made_predicted g v t some.0 some.1 parts.0 (eqb-true g.offset 0 parts.1)
+          let u = under g v some.0 may some.1 in
+          made_predicted g v t some.0 some.1 u.native u.offset
     ]
 
 -- A sum over the tracks, kind by kind.
@@ -215,7 +212,6 @@ total : (f : Kept → ℕ) (t : AccessList) (w : Watch) (m : Made w.grid w.level
     → sum_by f w.tracks ≡ sum_by (λ o. f (kept_in t o)) m.observed
     + (sum_by (λ o. f (kept_in t o)) m.shifted + sum_by (λ o. f (kept_in t o)) m.doubled)
 total f t w m stands =
-    let h : Opened → ℕ = λ o. f (kept_in t o) in
     sym (sum_by-IsPermutation f w.tracks (map (kept_in t) (opened w.grid w.levels t)) stands.tracks)
     ∙ sum_mapped f (kept_in t) (opened w.grid w.levels t)
     ∙ ap (λ os. sum_by (λ o. f (kept_in t o)) os) m.all
@@ -238,13 +234,8 @@ kind_total k t w m stands =
     (λ o e. ap (one_of k) (m.shifted_are o e).0) in
     let c = each_is (λ o. one_of k o.kind) (one_of k kind.Doubled) m.doubled
     (λ o e. ap (one_of k) (m.doubled_are o e).0) in
-    total (λ x. cond (is_of k x) 1 0) t w m stands
-    ∙ ap (λ z. z + (sum_by (λ o. one_of k o.kind) m.shifted + sum_by (λ o. one_of k o.kind)
-    m.doubled)) a
-    ∙ ap (λ z. one_of k kind.Observed * length m.observed
-    + (z + sum_by (λ o. one_of k o.kind) m.doubled)) b
-    ∙ ap (λ z. one_of k kind.Observed * length m.observed
-    + (one_of k kind.Shifted * length m.shifted + z)) c
+    let e = total (λ x. cond (is_of k x) 1 0) t w m stands in
+    omega (arith, e, a, b, c)
 
 observed_total : (t : AccessList) (w : Watch) (m : Made w.grid w.levels t) → StandsFor t w
     → observed_count w ≡ length m.observed
@@ -309,7 +300,6 @@ words_total : (t : AccessList) (w : Watch) (m : Made w.grid w.levels t) → Stan
     → word_count w ≡ w.grid.size / 4 * length m.observed
     + (w.grid.size / 4 * length m.shifted + 2 * w.grid.size / 4 * length m.doubled)
 words_total t w m stands =
-    let n : ℕ = w.grid.size in
     let a = each_is (λ o. length (kept_in t o).words) (w.grid.size / 4) m.observed
     (λ o e. words_of_size t o w.grid.size (m.observed_are o e).1) in
     let b = each_is (λ o. length (kept_in t o).words) (w.grid.size / 4) m.shifted
@@ -333,7 +323,6 @@ pub few_words : (t : AccessList) (w : Watch) → is_layout w.grid.size w.grid.of
     → StandsFor t w → HasFewWords w
 few_words t w allowed may stands =
     let m = made w.grid w.levels t may in
-    let q : ℕ = w.grid.size / 4 in
     let o = observed_total t w m stands in
     let e = words_total t w m stands in
     let twice : 2 * w.grid.size / 4 * length m.doubled ≡ w.grid.size / 4 * (2 * length m.doubled) =
@@ -371,15 +360,9 @@ small_unpredicted t w may stands = λ none.
           (m.shifted ++ m.doubled)
           ∙ (let j = length-append m.shifted m.doubled in omega (arith, j, nothing, o));
       entries = omega (arith, e, o, s, d);
-      words =
-          words
-          ∙ ap (λ z. w.grid.size / 4 * length m.observed
-          + (w.grid.size / 4 * z + 2 * w.grid.size / 4 * length m.doubled)) s
-          ∙ ap (λ z. w.grid.size / 4 * length m.observed
-          + (w.grid.size / 4 * 0 + 2 * w.grid.size / 4 * z)) d
-          ∙ (let back = changed (w.grid.size / 4) (length m.observed) in let z =
-          ap (λ z. z * (w.grid.size / 4)) o in
-          omega (arith, back, z));
+      words = let back = changed (w.grid.size / 4) (length m.observed) in
+          let z = ap (λ z. z * (w.grid.size / 4)) o in
+          words ∙ rw (s, d) (omega (arith, back, z));
     }
 
 holding_mapped : (a : ℕ) (t : AccessList) (os : List Opened)

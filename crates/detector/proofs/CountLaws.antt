@@ -1,5 +1,5 @@
 -- What the counts of an index are once an entry was replaced.
-use Rattle.std.proofs.Common.{◌≡◌, ◌≢◌, ℕ, ◌+◌, ◌-◌, ◌<◌, Bool, true, false, eqb, List, [], ◌∷◌}
+use Rattle.std.proofs.Common.{◌≡◌, ◌≢◌, ℕ, ◌+◌, ◌<◌, Bool, true, false, eqb, List, [], ◌∷◌}
 use Rattle.std.proofs.Common.{Option, Some, None, map, refl, sym, ap}
 use Rattle.std.proofs.Common.{◌∙◌, arith, inl, inr}
 use Rattle.std.proofs.lemmas.Bool.{cases_Bool, and_left, eqb-true}
@@ -45,15 +45,15 @@ pub counts-as : (m : Entries) (writes : Counts) → counts_of m ≡ writes
 counts-as m writes is = λ i k. (sym (count_at-counts_of m k)
     ∙ ap (λ (w : Counts). count_at w k) is) i
 
-above_zero : (n m : ℕ) → n ≡ m + 1 → eqb n 0 ≡ false
-above_zero n m h = grind (arith, nat_tests)
+above_zero : (n : ℕ) → 0 < n → eqb n 0 ≡ false
+above_zero n h = grind (arith, nat_tests)
 
-kept-written : (e : LineEntry) (n : ℕ) → e.writes ≡ n + 1 → kept e ≡ Some e
-kept-written e n h =
+kept-written : (e : LineEntry) → 0 < e.writes → kept e ≡ Some e
+kept-written e h =
     let there : is_blank e ≡ false = and_left _ (is_none e.doubled)
     (and_left _ (is_none e.shifted) (and_left (eqb e.writes 0) (is_none e.track)
-    (above_zero e.writes n h))) in
-    ap (λ b. if b then None else Some e) there
+    (above_zero e.writes h))) in
+    rw there
 
 -- an entry with some writes counts them
 pub counts-written : (m : Entries) (k n : ℕ) (e : LineEntry) → e.writes ≡ n → 0 < n
@@ -66,13 +66,10 @@ counts-written m k n e h some =
     ∙ sym (finite.get-insert nat_cmp_total (counts_of m) k n q
     ∙ ap (λ t. cond t (Some n) (finite.get (counts_of m) q)) (unsigned_tied q k)))
   where
-    up : e.writes ≡ e.writes - 1 + 1
-    up = omega arith
-
     picked : (q : ℕ) (t : Bool) → option_map (λ (x : LineEntry). x.writes)
         (if t then kept e else finite.get m q) ≡
         (if t then Some n else finite.get (counts_of m) q)
-    picked q true = ap (option_map (λ (x : LineEntry). x.writes)) (kept-written e (e.writes - 1) up)
+    picked q true = ap (option_map (λ (x : LineEntry). x.writes)) (kept-written e (omega arith))
         ∙ ap Some h
     picked q false = sym (get-counts_of m q)
 
@@ -92,9 +89,7 @@ counts-same m k e h some =
     get-counts_of (with_entry m k e) q ∙ ap (option_map (λ (x : LineEntry). x.writes))
     (get-with_entry m k e q)
     ∙ elim (cases_Bool (eqb q k)) [
-      | inl here ↦ rw here (there (finite.get m k) refl
-          ∙ ap (λ o. option_map (λ (x : LineEntry). x.writes) o)
-          (ap (finite.get m) (sym (eqb-true q k here))))
+      | inl here ↦ rw (here, eqb-true q k here) (there (finite.get m k) refl)
       | inr other ↦ rw other
     ]
     ∙ sym (get-counts_of m q))
@@ -107,9 +102,7 @@ counts-same m k e h some =
     there (Some x) is =
         let was : (entry_at m k).writes ≡ x.writes =
         ap (λ o. (unwrap_or o blank_entry).writes) is in
-        let n : ℕ = e.writes - 1 in
-        let up : e.writes ≡ e.writes - 1 + 1 = omega arith in
-        ap (option_map (λ (z : LineEntry). z.writes)) (kept-written e (e.writes - 1) up)
+        ap (option_map (λ (z : LineEntry). z.writes)) (kept-written e (omega arith))
         ∙ ap Some (h ∙ was)
         ∙ sym (ap (option_map (λ (z : LineEntry). z.writes)) is)
 
@@ -121,8 +114,7 @@ with_entry-same m k only =
     (λ q.
     get-with_entry m k (entry_at m k) q
     ∙ elim (cases_Bool (eqb q k)) [
-      | inl here ↦ rw here (held (finite.get m k) (only k)
-          ∙ ap (finite.get m) (sym (eqb-true q k here)))
+      | inl here ↦ rw (here, eqb-true q k here) (held (finite.get m k) (only k))
       | inr other ↦ rw other
     ])
   where

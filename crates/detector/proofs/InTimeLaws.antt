@@ -1,6 +1,7 @@
 -- A noted track is in time, of the same kind and range, and blank where it has no start.
 use Rattle.std.proofs.Common.{◌≡◌, ℕ, zero, suc, ◌+◌, ◌/◌, [], ◌∷◌, map, ◌≤◌, ◌&&◌, Option, Some}
-use Rattle.std.proofs.Common.{None, get_or, refl, sym, ap, ◌∙◌, subst, arith, inl, inr}
+use Rattle.std.proofs.Common.{None, get_or, refl, sym, ap, ◌∙◌, subst, arith, inl, inr, Bool, true}
+use Rattle.std.proofs.Common.{false}
 use Rattle.std.proofs.lemmas.Bool.{cases_Bool}
 use Rattle.std.proofs.lemmas.Option.{none-some, slice_get_within, get_or_from_slice_get}
 use Rattle.std.proofs.lemmas.List.{map-append}
@@ -32,7 +33,6 @@ words_more v a =
     elim (slice_cases (slice_get v.words (place_of v.range a.addr))) [
       | inl none ↦ rw none (omega arith)
       | inr some ↦
-          let i : ℕ = place_of v.range a.addr in
           let set : sum_by accesses (slice_set v.words (place_of v.range a.addr)
           (note_word some.0 a)) + accesses
           (get_or v.words (place_of v.range a.addr) some.0)
@@ -69,7 +69,7 @@ in_time_from None x p a is h quiet =
           let since : IsSince (started x p a) (p + 1) p =
           record { later = omega arith; accessed = omega arith; counted = omega arith } in
           subst (λ b. IsInTime (if b then started x p a else x) (p + 1)) (sym w) since
-      | inr w ↦ subst (λ b. IsInTime (if b then started x p a else x) (p + 1)) (sym w) (rw is tt)
+      | inr w ↦ rw (w, is) tt
     ]
 in_time_from (Some s) x p a is h quiet =
     let more = words_more (words_of x) a in
@@ -104,14 +104,16 @@ later_from (Some s) x p h =
 pub later-in_time : (x : Kept) (p : ℕ) → IsInTime x p → IsInTime x (p + 1)
 later-in_time x p h = later_from x.start x p h
 
+-- one of two tracks
+either : (P : Kept → Type 0) (b : Bool) (x y : Kept) → P x → P y → P (if b then x else y)
+either P true x y h k = h
+either P false x y h k = k
+
 pub touched-in_time : (x : Kept) (p : ℕ) (a : Touch) → IsInTime x p → (x.start ≡ None → IsBlank x)
     → IsInTime (touched p a x) (p + 1)
 touched-in_time x p a h quiet =
-    elim (cases_Bool (holds_address x.range a.addr)) [
-      | inl e ↦
-          rw e (noted-in_time x p a h quiet)
-      | inr e ↦ rw e (later-in_time x p h)
-    ]
+    either (λ z. IsInTime z (p + 1)) (holds_address x.range a.addr) (note_kept x p a) x
+    (noted-in_time x p a h quiet) (later-in_time x p h)
 
 blank_from : (o : Option ℕ) (x : Kept) (p : ℕ) (a : Touch) → x.start ≡ o
     → (x.start ≡ None → IsBlank x) → (note_from o x p a).start ≡ None
@@ -130,11 +132,8 @@ noted-blank x p a quiet none = blank_from x.start x p a refl quiet none
 pub touched-blank : (x : Kept) (p : ℕ) (a : Touch) → (x.start ≡ None → IsBlank x)
     → (touched p a x).start ≡ None → IsBlank (touched p a x)
 touched-blank x p a quiet =
-    elim (cases_Bool (holds_address x.range a.addr)) [
-      | inl e ↦
-          rw e (noted-blank x p a quiet)
-      | inr e ↦ rw e quiet
-    ]
+    either (λ z. z.start ≡ None → IsBlank z) (holds_address x.range a.addr) (note_kept x p a) x
+    (noted-blank x p a quiet) quiet
 
 pub noted-kind : (x : Kept) (p : ℕ) (a : Touch) → (note_kept x p a).kind ≡ x.kind
 noted-kind x p a = note-kind x.start x p a
@@ -143,15 +142,9 @@ pub noted-range : (x : Kept) (p : ℕ) (a : Touch) → (note_kept x p a).range �
 noted-range x p a = note-range x.start x p a
 
 pub touched-kind : (p : ℕ) (a : Touch) (x : Kept) → (touched p a x).kind ≡ x.kind
-touched-kind p a x = elim (cases_Bool (holds_address x.range a.addr)) [
-  | inl e ↦
-      rw e (noted-kind x p a)
-  | inr e ↦ rw e
-]
+touched-kind p a x = either (λ z. z.kind ≡ x.kind) (holds_address x.range a.addr)
+    (note_kept x p a) x (noted-kind x p a) refl
 
 pub touched-range : (p : ℕ) (a : Touch) (x : Kept) → (touched p a x).range ≡ x.range
-touched-range p a x = elim (cases_Bool (holds_address x.range a.addr)) [
-  | inl e ↦
-      rw e (noted-range x p a)
-  | inr e ↦ rw e
-]
+touched-range p a x = either (λ z. z.range ≡ x.range) (holds_address x.range a.addr)
+    (note_kept x p a) x (noted-range x p a) refl

@@ -13,16 +13,14 @@ use Rattle.sharing_rules.specs.Lines.{is_inside, line_from, native_line, range_o
 use Rattle.sharing_rules.specs.Opened.{even_lower}
 use Rattle.sharing_rules.specs.Pairs.{best_pair_of}
 use Rattle.sharing_rules.specs.Predicted.{doubled_line, is_native_size, shifted_around}
-use Rattle.sharing_rules.specs.Predicted.{shifted_base, word_address}
-use Rattle.sharing_rules.specs.declared.line_kind.LineKind.TheVariants.{Observed, Shifted, Doubled}
+use Rattle.sharing_rules.specs.Predicted.{shifted_base}
+use Rattle.sharing_rules.specs.declared.line_kind.LineKind.TheVariants.{Shifted, Doubled}
 use Rattle.line_tracks.specs.Neighbours.{AreNeighbours, pair_at, reach}
 use Rattle.line_tracks.specs.declared.pair.Pair.{Pair}
 use Rattle.line_tracks.specs.Kept.{Kept}
-use Rattle.detector.specs.declared.openings.Around.{Around}
 use Rattle.detector.specs.Index.{IsShaped}
-use Rattle.detector.specs.Named.{track_named}
 use Rattle.detector.specs.Openings.{best_of_two, doubled_opens, shifted_opens}
-use Rattle.detector.specs.Pairs.{AreAround, ArePair, IsPairOf, doubled_between, kept_at}
+use Rattle.detector.specs.Pairs.{AreNamedPair, ArePair, IsPairOf, doubled_between, kept_at}
 use Rattle.detector.specs.Pairs.{shifted_between}
 use Rattle.detector.proofs.PairLaws.{best-is_pair, doubled-begins, native-abs, native-begins}
 use Rattle.detector.proofs.PairLaws.{native-is, native-neighbours, pair-words, shifted-begins}
@@ -30,19 +28,18 @@ use Rattle.sharing_rules.specs.Laws.Lists.{slice_cases}
 
 -- what is read at a place that is named
 pub read_at : (xs ys : List Kept) (o : Option ℕ) (i : ℕ) (x : Kept) → o ≡ Some i → ys ≡ xs
-    → i < length xs → x ≡ get_or ys i x
+    → ((j : ℕ) → o ≡ Some j → j < length xs) → x ≡ get_or ys i x
     → kept_at xs o ≡ Some x
 read_at xs ys o i x is same within read =
-    ap (kept_at xs) is ∙ slice_get-get_or xs i x within ∙ ap (λ zs. Some (get_or zs i x)) (sym same)
-    ∙ ap Some (sym read)
+    ap (kept_at xs) is ∙ slice_get-get_or xs i x (within i is)
+    ∙ ap (λ zs. Some (get_or zs i x)) (sym same) ∙ ap Some (sym read)
 
 pub pair-neighbours : (n k : ℕ) (xs : List Kept) (lower upper : Option ℕ) (x y : Kept)
     → ArePair n k xs lower upper
     → kept_at xs lower ≡ Some x → kept_at xs upper ≡ Some y → AreNeighbours x.range y.range
 pair-neighbours n k xs lower upper x y pair at up =
-    subst (λ r. AreNeighbours r y.range) (sym (pair.below.range x at))
-    (subst (λ r. AreNeighbours (range_of (native_line n k)) r) (sym (pair.above.range y up))
-    (native-neighbours n k pair.native (pair.below.reached x at) (pair.above.reached y up)))
+    rw (pair.below.range x at, pair.above.range y up)
+    (native-neighbours n k pair.native (pair.below.reached x at) (pair.above.reached y up))
 
 -- the search of two tracks gives their best pair
 pub pair-found : (n k : ℕ) (xs : List Kept) (lower upper within : Option ℕ) (x y : Kept)
@@ -57,21 +54,15 @@ pair-found n k xs lower upper within x y r pair at up sized sized_up is =
     let size : x.range.size ≡ n = ap (λ (q : Range). q.size) (pair.below.range x at) in
     let size_up : y.range.size ≡ n = ap (λ (q : Range). q.size) (pair.above.range y up) in
     let best : best_of_two (kept_at xs lower) (kept_at xs upper) (reach n within)
-    ≡ best_pair_of x.words y.words (reach n within) =
-    ap (λ o. best_of_two o (kept_at xs upper) (reach n within)) at
-    ∙ ap (λ o. best_of_two (Some x) o (reach n within)) up in
+    ≡ best_pair_of x.words y.words (reach n within) = rw (at, up) in
     let now : r ≡ option_map (pair_at x.range y.range)
     (best_pair_of x.words y.words (reach n within)) = is
     ∙ ap (λ z. option_map (pair_at x.range y.range) (best_pair_of x.words y.words (reach z within)))
     size in
     elim (slice_cases (best_pair_of x.words y.words (reach n within))) [
       | inl none ↦
-          subst (λ o. MatchOption o (best_of_two (kept_at xs lower) (kept_at xs upper)
-          (reach n within) ≡ None)
-          (IsPairOf n k xs lower upper (reach n within)))
-          (sym (now ∙ ap (option_map (pair_at x.range y.range)) none)) (best ∙ none)
+          rw (now, none) (best ∙ none)
       | inr some ↦
-          let p = some.0 in
           let pairs = best-is_pair x.words y.words (reach n within) some.0 some.1 in
           let lower_in = pairs.lower_in in
           let upper_in = pairs.upper_in in
@@ -95,10 +86,7 @@ pair-found n k xs lower upper within x y r pair at up sized sized_up is =
             near = subst (λ z. 4 * (z + some.0.1) + 4 ≤ reach n within + 4 * some.0.0) quarter near;
             some = low;
           } in
-          subst (λ o. MatchOption o (best_of_two (kept_at xs lower) (kept_at xs upper)
-          (reach n within) ≡ None)
-          (IsPairOf n k xs lower upper (reach n within)))
-          (sym (now ∙ ap (option_map (pair_at x.range y.range)) some.1)) found
+          rw (now, some.1) found
     ]
 
 some_value : {X : Type 0} (o : Option X) (P : Type 0) (v r : X) → SomeIff o P v → o ≡ Some r → r ≡ v
@@ -112,12 +100,9 @@ pub shifted-shaped : (n k : ℕ) (xs : List Kept) (lower upper : Option ℕ) (pa
     → SomeIff o P (range_of (line_from n (shifted_base n pair.x pair.y))) → o ≡ Some r
     → IsShaped (native_grid n) k Shifted r
 shifted-shaped n k xs lower upper pair o r P native found value e =
-    let p = found.places in
     let is : r ≡ range_of (shifted_around n k found.places) =
     some_value o P (range_of (line_from n (shifted_base n pair.x pair.y))) r value e
-    ∙ ap (λ z. range_of (line_from n (shifted_base n z pair.y))) found.lower_at
-    ∙ ap (λ z. range_of (line_from n (shifted_base n (word_address n k found.places.0) z)))
-    found.upper_at in
+    ∙ rw (found.lower_at, found.upper_at) in
     subst (IsShaped (native_grid n) k Shifted) (sym is) (
       found.some,
       refl,
@@ -176,14 +161,8 @@ pub shifted-value : (n k : ℕ) (xs : List Kept) (lower upper : LineEntry) (pair
     → o ≡ shifted_between n k xs lower upper
 shifted-value n k xs lower upper pair o native none found value =
     some_where o (pair.y + 4 ≤ pair.x + n) (range_of (line_from n (shifted_base n pair.x pair.y)))
-    value
-    (pair-near n k xs lower.track upper.track pair native found)
-    ∙ ap (λ z. Some (range_of (line_from n (shifted_base n z pair.y)))) found.lower_at
-    ∙ ap (λ z. Some (range_of (line_from n (shifted_base n (word_address n k found.places.0) z))))
-    found.upper_at
-    ∙ sym (ap (option_map (λ p. range_of (shifted_around n k p))) found.best)
-    ∙ sym (ap (λ b. if b then None else option_map (λ p. range_of (shifted_around n k p))
-    (best_of_two (kept_at xs lower.track) (kept_at xs upper.track) n)) none)
+    value (pair-near n k xs lower.track upper.track pair native found)
+    ∙ rw (none, found.best, found.lower_at, found.upper_at)
 
 -- the lower word of a pair is in the lower line
 pub pair-inside : (n k : ℕ) (xs : List Kept) (lower upper : Option ℕ) (within : ℕ) (pair : Pair)
@@ -203,11 +182,7 @@ pub doubled-value : (n k : ℕ) (xs : List Kept) (lower upper : LineEntry) (pair
     → is_some lower.doubled ≡ false
     → IsPairOf n k xs lower.track upper.track (2 * n) pair → r ≡ range_of (doubled_line n k)
     → Some r ≡ doubled_between n k xs lower upper
-doubled-value n k xs lower upper pair r none found is =
-    ap Some is
-    ∙ sym (ap (option_map (λ p. range_of (doubled_line n k))) found.best)
-    ∙ sym (ap (λ b. if b then None else option_map (λ p. range_of (doubled_line n k))
-    (best_of_two (kept_at xs lower.track) (kept_at xs upper.track) (2 * n))) none)
+doubled-value n k xs lower upper pair r none found is = rw (is, none, found.best)
 
 pub doubled-shaped : (n k : ℕ) (r : Range) → is_native_size n ≡ true → 1 ≤ k → k % 2 ≡ 1 → r
     ≡ range_of (doubled_line n k)
@@ -217,63 +192,16 @@ doubled-shaped n k r native low odd is =
     subst (IsShaped (native_grid n) k Doubled) (sym is)
     (odd, refl, doubled-begins n k (omega arith) low)
 
--- what opens around a line, by the entries
-pub shifted-is : (n k : ℕ) (xs : List Kept) (e : Around) → AreAround (native_grid n) k xs e
-    → shifted_between n k xs e.here e.above
-    ≡ shifted_opens (native_grid n) k xs
-shifted-is n k xs e h =
-    ap (λ b. if b then None else option_map (λ p. range_of (shifted_around n k p))
-    (best_of_two (kept_at xs e.here.track) (kept_at xs e.above.track) n)) (sym h.shifted_here)
-    ∙ ap (λ o. if is_some (track_named (native_grid n) Shifted k xs) then None else option_map
-    (λ p. range_of (shifted_around n k p))
-    (best_of_two o (kept_at xs e.above.track) n)) (sym h.own_here)
-    ∙ ap (λ o. if is_some (track_named (native_grid n) Shifted k xs) then None else option_map
-    (λ p. range_of (shifted_around n k p))
-    (best_of_two (track_named (native_grid n) Observed k xs) o n)) (sym h.own_above)
+-- what opens for two lines, by their entries
+pub shifted-is : (n k : ℕ) (xs : List Kept) (lower upper : LineEntry)
+    → AreNamedPair (native_grid n) k xs lower upper
+    → shifted_between n k xs lower upper ≡ shifted_opens (native_grid n) k xs
+shifted-is n k xs lower upper h = sym (rw (h.shifted, h.lower_own, h.upper_own))
 
-pub shifted-is-below : (n k : ℕ) (xs : List Kept) (e : Around) → AreAround (native_grid n) k xs e
-    → shifted_between n (k - 1) xs e.below e.here ≡ shifted_opens (native_grid n) (k - 1) xs
-shifted-is-below n k xs e h =
-    let some = h.some in
-    let back : k - 1 + 1 ≡ k = omega arith in
-    ap (λ b. if b then None else option_map (λ p. range_of (shifted_around n (k - 1) p))
-    (best_of_two (kept_at xs e.below.track) (kept_at xs e.here.track) n)) (sym h.shifted_below)
-    ∙ ap (λ o. if is_some (track_named (native_grid n) Shifted (k - 1) xs) then None
-    else option_map (λ p. range_of (shifted_around n (k - 1) p))
-    (best_of_two o (kept_at xs e.here.track) n)) (sym h.own_below)
-    ∙ ap (λ o. if is_some (track_named (native_grid n) Shifted (k - 1) xs) then None
-    else option_map (λ p. range_of (shifted_around n (k - 1) p))
-    (best_of_two (track_named (native_grid n) Observed (k - 1) xs) o n))
-    (sym h.own_here ∙ ap (λ q. track_named (native_grid n) Observed q xs) (sym back))
-
-pub doubled-is : (n k : ℕ) (xs : List Kept) (e : Around) → AreAround (native_grid n) k xs e
-    → doubled_between n k xs e.here e.above
-    ≡ doubled_opens (native_grid n) k xs
-doubled-is n k xs e h =
-    ap (λ b. if b then None else option_map (λ p. range_of (doubled_line n k))
-    (best_of_two (kept_at xs e.here.track) (kept_at xs e.above.track) (2 * n))) (sym h.doubled_here)
-    ∙ ap (λ o. if is_some (track_named (native_grid n) Doubled k xs) then None else option_map
-    (λ p. range_of (doubled_line n k))
-    (best_of_two o (kept_at xs e.above.track) (2 * n))) (sym h.own_here)
-    ∙ ap (λ o. if is_some (track_named (native_grid n) Doubled k xs) then None else option_map
-    (λ p. range_of (doubled_line n k))
-    (best_of_two (track_named (native_grid n) Observed k xs) o (2 * n))) (sym h.own_above)
-
-pub doubled-is-below : (n k : ℕ) (xs : List Kept) (e : Around) → AreAround (native_grid n) k xs e
-    → doubled_between n (k - 1) xs e.below e.here ≡ doubled_opens (native_grid n) (k - 1) xs
-doubled-is-below n k xs e h =
-    let some = h.some in
-    let back : k - 1 + 1 ≡ k = omega arith in
-    ap (λ b. if b then None else option_map (λ p. range_of (doubled_line n (k - 1)))
-    (best_of_two (kept_at xs e.below.track) (kept_at xs e.here.track) (2 * n)))
-    (sym h.doubled_below)
-    ∙ ap (λ o. if is_some (track_named (native_grid n) Doubled (k - 1) xs) then None
-    else option_map (λ p. range_of (doubled_line n (k - 1)))
-    (best_of_two o (kept_at xs e.here.track) (2 * n))) (sym h.own_below)
-    ∙ ap (λ o. if is_some (track_named (native_grid n) Doubled (k - 1) xs) then None
-    else option_map (λ p. range_of (doubled_line n (k - 1)))
-    (best_of_two (track_named (native_grid n) Observed (k - 1) xs) o (2 * n)))
-    (sym h.own_here ∙ ap (λ q. track_named (native_grid n) Observed q xs) (sym back))
+pub doubled-is : (n k : ℕ) (xs : List Kept) (lower upper : LineEntry)
+    → AreNamedPair (native_grid n) k xs lower upper
+    → doubled_between n k xs lower upper ≡ doubled_opens (native_grid n) k xs
+doubled-is n k xs lower upper h = sym (rw (h.doubled, h.lower_own, h.upper_own))
 
 pub even-odd : (k : ℕ) → k % 2 ≡ 1 → even_lower k ≡ k
 even-odd k odd = ap (λ b. if b then k else k - 1) (eq-eqb (k % 2) 1 odd)

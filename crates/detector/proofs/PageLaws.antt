@@ -1,31 +1,25 @@
 -- How a write to one place of a page or directory changes what is read at all places.
 use Rattle.std.proofs.Common.{◌≡◌, ℕ, zero, suc, ◌+◌, ◌*◌, ◌/◌, ◌%◌, ◌<◌, ◌≤◌, ◌==◌, if◌then◌else◌}
-use Rattle.std.proofs.Common.{Bool, true, false, List, [], ◌∷◌}
-use Rattle.std.proofs.Common.{length, Option, Some, slice_get, unwrap_or, refl, sym, ◌∙◌, ap, subst}
-use Rattle.std.proofs.Common.{arith}
+use Rattle.std.proofs.Common.{Bool, true, false, List, [], ◌∷◌, length, Option, Some, slice_get}
+use Rattle.std.proofs.Common.{unwrap_or, refl, sym, ◌∙◌, ap, subst, arith, ◌-◌, inl, inr}
 use Rattle.std.specs.Prelude.{nat_lt, slice_index_or, slice_set}
 use Rattle.std.proofs.Math.Nat.{div-add-mod}
-use Rattle.std.proofs.lemmas.Bool.{ltb-true}
+use Rattle.std.proofs.lemmas.Bool.{cases_Bool, eqb-false, ltb-true, cases_lt}
+use Rattle.sharing_rules.specs.Laws.Lists.{get-set_other, get-set_same}
 use Rattle.std.proofs.lemmas.Bool.Decides.{nat_tests}
 use Rattle.std.proofs.lemmas.Option.{slice_get-get_or, slice_get_past}
 use Rattle.std.specs.declared.vec.Vec.{Vec}
 use Rattle.std.specs.Option.{option_map_or}
 use Rattle.detector.specs.declared.line_entry.LineEntry.{LineEntry}
 use Rattle.detector.specs.Entries.{blank_entry}
-use Rattle.detector.specs.Pages.{items_at, page_entry}
-
-next_test : (a b : ℕ) → (a == b) ≡ (suc a == suc b)
-next_test a b = grind (arith, nat_tests)
+use Rattle.detector.specs.Pages.{items_at, page_entry, NoneWritten, directory_entry}
+use Rattle.std.specs.declared.alloc.Global.{Global}
+use Rattle.detector.specs.declared.paged_index.PagedIndex.{PagedIndex}
+use Rattle.detector.specs.PagedEntries.{paged_entry}
 
 otherwise : {X : Type 0} (t : Bool) (x y : X) → t ≡ false → y ≡ if t then x else y
 otherwise true x y e = cc
 otherwise false x y e = refl
-
-above_zero : (k : ℕ) → (suc k == 0) ≡ false
-above_zero k = grind (arith, nat_tests)
-
-below_suc : (k : ℕ) → (0 == suc k) ≡ false
-below_suc k = grind (arith, nat_tests)
 
 is_same : (a b : ℕ) → (a == b) ≡ true → a ≡ b
 is_same a b e = grind (arith, nat_tests)
@@ -34,14 +28,10 @@ is_same a b e = grind (arith, nat_tests)
 pub slice_get-set : {X : Type 0} (xs : List X) (i : ℕ) (x : X) (k : ℕ) → i < length xs
     → slice_get (slice_set xs i x) k ≡ if k == i
     then Some x else slice_get xs k
-slice_get-set [] i x k h = absurd (omega arith)
-slice_get-set (y ∷ ys) zero x zero h = refl
-slice_get-set (y ∷ ys) zero x (suc k) h = otherwise (suc k == 0) (Some x) (slice_get ys k)
-    (above_zero k)
-slice_get-set (y ∷ ys) (suc i) x zero h = otherwise (0 == suc i) (Some x) (Some y) (below_suc i)
-slice_get-set (y ∷ ys) (suc i) x (suc k) h =
-    slice_get-set ys i x k (omega arith) ∙ ap (λ t. if t then Some x else slice_get ys k)
-    (next_test k i)
+slice_get-set xs i x k h = elim (cases_Bool (k == i)) [
+  | inl here ↦ rw (here, is_same k i here) (get-set_same xs i x h)
+  | inr other ↦ rw other (get-set_other xs i k x (eqb-false k i other))
+]
 
 -- an entry of a page was replaced
 pub page_entry-set : (page : List LineEntry) (i : ℕ) (e : LineEntry) (k : ℕ) → i < length page
@@ -161,3 +151,51 @@ items_at-within [] i k h = absurd (omega arith)
 items_at-within (v ∷ vs) zero k h = omega arith
 items_at-within (v ∷ vs) (suc i) k h = let rest : i < length vs = items_at-within vs i k h in
     omega arith
+
+-- How a search for the next written line goes from block to block.
+
+-- what is known up to a place of a block, and from there on to another, holds up to that one
+pub joined : (f h : ℕ → LineEntry) (from base place to : ℕ)
+    → ((q : ℕ) → base ≤ q → q < base + to → f q ≡ h (q - base))
+    → NoneWritten f from (base + place) → NoneWritten h place to → NoneWritten f from (base + to)
+joined f h from base place to reads before within q above below =
+    elim (cases_lt q (base + place)) as (λ _. (f q).writes ≡ 0) [
+      | inl l ↦ before q above l
+      | inr l ↦ let here : base ≤ q = omega arith in ap (λ e. e.writes) (reads q here below)
+          ∙ within (q - base) (omega arith) (omega arith)
+    ]
+
+-- the lines of one directory
+pub directory_reads : (s : PagedIndex) (number q : ℕ) → number * 262144 ≤ q
+    → q < number * 262144 + 262144
+    → paged_entry s q ≡ directory_entry (items_at s.directories.items number) (q - number * 262144)
+directory_reads s number q above below =
+    let block : q / 262144 ≡ number = omega arith in
+    let place : q % 262144 ≡ q - number * 262144 = omega arith in
+    ap (λ b. directory_entry (items_at s.directories.items b) (q % 262144)) block
+    ∙ ap (directory_entry (items_at s.directories.items number)) place
+
+-- what a search of one directory found, in the lines of the whole index
+pub searched : (s : PagedIndex) (number place from to : ℕ) (d : Vec (Vec LineEntry Global) Global)
+    → number < length s.directories.items → d ≡ slice_index_or s.directories.items number d
+    → to ≤ 262144
+    → NoneWritten (paged_entry s) from (number * 262144 + place)
+    → NoneWritten (directory_entry d.items) place to
+    → NoneWritten (paged_entry s) from (number * 262144 + to)
+searched s number place from to d within is small =
+    joined (paged_entry s) (directory_entry d.items) from (number * 262144) place to
+    (λ q above below. directory_reads s number q above (omega arith)
+    ∙ ap (λ ps. directory_entry ps (q - number * 262144))
+    (items_at-held s.directories.items number d within is))
+
+-- the entry of a line of one directory
+pub found_in : (s : PagedIndex) (number n : ℕ) (d : Vec (Vec LineEntry Global) Global)
+    → number < length s.directories.items → d ≡ slice_index_or s.directories.items number d
+    → n < 262144
+    → paged_entry s (number * 262144 + n) ≡ directory_entry d.items n
+found_in s number n d within is small =
+    let place : number * 262144 + n - number * 262144 ≡ n = omega arith in
+    directory_reads s number (number * 262144 + n) (omega arith) (omega arith)
+    ∙ ap (λ ps. directory_entry ps (number * 262144 + n - number * 262144))
+    (items_at-held s.directories.items number d within is)
+    ∙ ap (directory_entry d.items) place

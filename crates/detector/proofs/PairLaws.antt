@@ -29,10 +29,8 @@ first_best-cons : (f : ℕ × ℕ → ℕ) (t : ℕ × ℕ → Bool) (x : ℕ ×
 first_best-cons f t x None p first rest e = ap t (sym (same_Some x p e)) ∙ first
 first_best-cons f t x (Some q) p first rest e =
     elim (cases_Bool (ltb (f x) (f q))) [
-      | inl less ↦ ap t (sym (same_Some q p (sym (ap (λ b. if b then Some q else Some x) less)
-          ∙ e))) ∙ rest q refl
-      | inr more ↦ ap t (sym (same_Some x p (sym (ap (λ b. if b then Some q else Some x) more)
-          ∙ e))) ∙ first
+      | inl less ↦ let at = rw less at e in ap t (sym (same_Some q p at)) ∙ rest q refl
+      | inr more ↦ let at = rw more at e in ap t (sym (same_Some x p at)) ∙ first
     ]
 
 -- the best of those that pass a test passes it
@@ -42,10 +40,8 @@ first_best-passes f t [] p e = absurd (none-some p e)
 first_best-passes f t (x ∷ ps) p e =
     elim (cases_Bool (t x)) [
       | inl hit ↦ first_best-cons f t x (first_best f (filter t ps)) p hit
-          (λ q. first_best-passes f t ps q)
-          (sym (ap (λ b. first_best f (if b then x ∷ filter t ps else filter t ps)) hit) ∙ e)
-      | inr miss ↦ first_best-passes f t ps p (sym
-          (ap (λ b. first_best f (if b then x ∷ filter t ps else filter t ps)) miss) ∙ e)
+          (λ q. first_best-passes f t ps q) (rw hit at e)
+      | inr miss ↦ first_best-passes f t ps p (rw miss at e)
     ]
 
 -- a pair of words of the two lines, near enough
@@ -152,7 +148,6 @@ address_in n m i less = let swap : n * m + 4 * i ≡ m * n + 4 * i =
 
 word_in : (n m i : ℕ) → n % 4 ≡ 0 → (n * m + 4 * i) % 4 ≡ 0
 word_in n m i words =
-    let q : ℕ = n / 4 in
     let is : n ≡ n / 4 * 4 = omega arith in
     let all : n * m ≡ n / 4 * m * 4 = ap (λ z. z * m) is ∙ four (n / 4) m in
     omega arith
@@ -186,8 +181,6 @@ pub shifted-begins : (n k : ℕ) (p : ℕ × ℕ) → IsNative n → 1 ≤ k →
     → (d : ℕ) × (d < n) × ((range_of (shifted_around n k p)).base ≡ (pos (k * n + 0 + d) -ℤ pos n))
 shifted-begins n k p native some lower upper near =
     let words = pair-words n k p native some lower upper in
-    let x : ℕ = word_address n k p.0 in
-    let y : ℕ = word_address n (k + 1) p.1 in
     let begins = words.begins in
     let upper_is = words.upper_is in
     let size = native.some in

@@ -23,7 +23,7 @@ use Rattle.line_tracks.specs.Laws.WordLines.{held-inside, layout-sized}
 use Rattle.detector.specs.Quiet.{AreQuietWhereFalse, IsQuietWhereFalse}
 use Rattle.detector.specs.Standing.{StandsFor}
 use Rattle.detector.specs.Watch.{Watch}
-use Rattle.detector.proofs.StandsLaws.{good_lines}
+use Rattle.detector.proofs.ToldLaws.{good_lines}
 
 abbrev is_false : Verdict → Bool
 is_false FalseSharing = true
@@ -62,9 +62,9 @@ pub quiet_tracks : (t : AccessList) (w : Watch) → is_layout w.grid.size w.grid
     → StandsFor t w
     → AreQuietWhereFalse t w
 quiet_tracks t w allowed may stands =
-    let os = opened w.grid w.levels t in
     let each = all_of_members (λ o. IsQuietWhereFalse t (kept_in t o)) (opened w.grid w.levels t)
-    (λ o m. quiet_kept t o (good_lines w.grid w.levels t allowed may o m).0) in
+    (λ o m. quiet_kept t o
+    (good_lines w.grid w.levels t o (record { allowed = allowed; may = may }) m).0) in
     All-permutation (IsQuietWhereFalse t) (map (kept_in t) (opened w.grid w.levels t)) w.tracks
     (IsPermutation-sym w.tracks (map (kept_in t) (opened w.grid w.levels t)) stands.tracks)
     (All-map (IsQuietWhereFalse t) (kept_in t) (opened w.grid w.levels t) each)

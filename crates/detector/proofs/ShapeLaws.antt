@@ -16,9 +16,6 @@ use Rattle.detector.specs.Named.{line_of_base}
 use Rattle.detector.specs.Index.{IsShaped}
 use Rattle.sharing_rules.specs.Laws.Bases.{base_is}
 
-base_is_0 : (m n o : ℕ) → nat_abs (pos (m + o) -ℤ pos n +ℤ pos n -ℤ pos o) ≡ m + 0
-base_is_0 m n o = omega (arith, ints)
-
 line_from_base : (g : Grid) (k d : ℕ) (r : Range) → d < g.size → r.base
     ≡ (pos (k * g.size + g.offset + d) -ℤ pos g.size)
     → line_of_base g r ≡ k
@@ -27,12 +24,13 @@ line_from_base g k d r less e =
     ∙ ap (λ m. m / g.size) (base_is (k * g.size) g.size g.offset d)
     ∙ div-mul-add k g.size d less
 
-line_from_base_0 : (g : Grid) (k : ℕ) (r : Range) → 0 < g.size → r.base
+plus_zero : (n : ℕ) → n ≡ n + 0
+plus_zero n = omega arith
+
+pub line_from_base_0 : (g : Grid) (k : ℕ) (r : Range) → 0 < g.size → r.base
     ≡ (pos (k * g.size + g.offset) -ℤ pos g.size) → line_of_base g r ≡ k
-line_from_base_0 g k r some e =
-    ap (λ b. nat_abs (b +ℤ pos g.size -ℤ pos g.offset) / g.size) e
-    ∙ ap (λ m. m / g.size) (base_is_0 (k * g.size) g.size g.offset)
-    ∙ div-mul-add k g.size 0 some
+line_from_base_0 g k r some e = line_from_base g k 0 r some
+    (e ∙ ap (λ z. pos z -ℤ pos g.size) (plus_zero (k * g.size + g.offset)))
 
 -- it begins in its line
 pub shaped-line : (g : Grid) (k : ℕ) (kind : LineKind) (r : Range) → 0 < g.size
@@ -70,14 +68,7 @@ held_between : (g : Grid) (j d size a : ℕ) (r : Range) → 0 < g.size → r.ba
     → holds_address r a ≡ true → (line_number g.size g.offset a ≡ j)
     ⊎ (line_number g.size g.offset a ≡ j + 1)
 held_between g j d size a r some base sized within h =
-    let h' : holds_address (record {
-      base = pos (j * g.size + g.offset + d) -ℤ pos g.size;
-      size =
-          size;
-    }) a ≡ true =
-    ap (λ b. holds_address (record { base = b; size = size }) a) (sym base)
-    ∙ ap (λ z. holds_address (record { base = r.base; size = z }) a)
-    (sym sized) ∙ h in
+    let h' = rw (base, sized) at h in
     let k = held_from (j * g.size + g.offset + d) g.size size a h' in
     let low = k.0 in
     let high = k.1 in
@@ -103,6 +94,3 @@ shaped-reaches g j Doubled r a small h held =
     held_between g j 0 (2 * g.size) a r (omega arith)
     (h.2 ∙ ap (λ z. pos z -ℤ pos g.size) (plus_zero (j * g.size + g.offset))) h.1
     (omega arith) held
-  where
-    plus_zero : (n : ℕ) → n ≡ n + 0
-    plus_zero n = omega arith

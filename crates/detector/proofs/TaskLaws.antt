@@ -28,10 +28,10 @@ use Rattle.detector.specs.Pairs.{AreShaped}
 use Rattle.detector.specs.Tasks.{opened_places, settled, tracks_begun, with_name}
 use Rattle.detector.specs.Watch.{begun}
 use Rattle.detector.proofs.NamedLaws.{named-more-as, same_name, with_name-here, with_name-other}
-use Rattle.detector.proofs.AroundLaws.{is_some-kept}
+use Rattle.detector.proofs.NamedLaws.{is_some-kept}
 use Rattle.detector.proofs.ShapeLaws.{shaped-line}
 use Rattle.detector.proofs.InTimeLaws.{noted-blank, noted-in_time, noted-kind, noted-range}
-use Rattle.sharing_rules.specs.Laws.Lists.{slice_cases}
+use Rattle.sharing_rules.specs.Laws.Lists.{slice_get-push}
 
 -- a name that was there already, and none
 pub with_name-same : (N : Names) (kind : LineKind) (k : ℕ) → with_name N kind k (N kind k) ≡ N
@@ -77,9 +77,7 @@ begun-named N g xs k p a true own named some reached none is =
     (noted-kind (waiting Observed (range_of (grid_line g k))) p a)
     (shaped-line g k Observed (begun g k p a).range some shaped) (none refl) shaped)
 begun-named N g xs k p a false own named some reached none is =
-    subst (λ o. IsNamed (with_name N Observed k o) g (xs ++ [])) (sym is)
-    (subst (λ (M : Names). IsNamed M g (xs ++ [])) (sym (with_name-same N Observed k))
-    (subst (λ zs. IsNamed N g zs) (sym (append-nil xs)) named))
+    rw (is, with_name-same N Observed k, append-nil xs) named
 
 -- a range that opens, if there is one
 pub waiting-named : (N : Names) (g : Grid) (xs : List Kept) (kind : LineKind) (k : ℕ)
@@ -88,8 +86,7 @@ pub waiting-named : (N : Names) (g : Grid) (xs : List Kept) (kind : LineKind) (k
     → IsNamed (with_name N kind k (option_map (λ r. length xs) o)) g
     (xs ++ waiting_for kind o)
 waiting-named N g xs kind k None named some opens =
-    subst (λ (M : Names). IsNamed M g (xs ++ [])) (sym (with_name-none N kind k))
-    (subst (λ zs. IsNamed N g zs) (sym (append-nil xs)) named)
+    rw (with_name-none N kind k, append-nil xs) named
 waiting-named N g xs kind k (Some r) named some opens =
     let w = opens r refl in
     named-more-as N g xs (waiting kind r) kind k named refl
@@ -112,34 +109,26 @@ some_of : (o : Option ℕ) → is_some o ≡ true → (i : ℕ) × (o ≡ Some i
 some_of None e = absurd (false≢true e)
 some_of (Some i) e = (i, refl)
 
+opens_from : (was : Bool) (o : Option (ℕ × ℕ)) (f : ℕ × ℕ → Range) (r : Range)
+    → (if was then None else option_map f o) ≡ Some r
+    → (was ≡ false) × ((p : ℕ × ℕ) × (o ≡ Some p))
+opens_from true o f r e = absurd (none-some r e)
+opens_from false None f r e = absurd (none-some r e)
+opens_from false (Some p) f r e = (refl, (p, refl))
+
 opens_by : (N : Names) (g : Grid) (xs : List Kept) (kind : LineKind) (k within : ℕ)
     (f : ℕ × ℕ → Range) (r : Range) → IsNamed N g xs
     → (if is_some (track_named g kind k xs) then None
     else option_map f (best_of_two (track_named g Observed k xs)
     (track_named g Observed (k + 1) xs) within)) ≡ Some r → Opens N kind k
 opens_by N g xs kind k within f r named e =
-    elim (cases_Bool (is_some (track_named g kind k xs))) [
-      | inl there ↦
-          absurd (none-some r
-          (sym (ap (λ b. if b then None
-          else option_map f (best_of_two (track_named g Observed k xs)
-          (track_named g Observed (k + 1) xs) within)) there) ∙ e))
-      | inr none ↦
-          let e' : option_map f (best_of_two (track_named g Observed k xs)
-          (track_named g Observed (k + 1) xs) within) ≡ Some r =
-          sym (ap (λ b. if b then None
-          else option_map f (best_of_two (track_named g Observed k xs)
-          (track_named g Observed (k + 1) xs) within)) none) ∙ e in (
-            none_from (N kind k) (sym (is_some-kept N g xs kind k named) ∙ none),
-            elim (slice_cases (best_of_two (track_named g Observed k xs)
-                (track_named g Observed (k + 1) xs) within)) [
-                  | inl not_one ↦ absurd (none-some r (sym (ap (option_map f) not_one) ∙ e'))
-                  | inr p ↦ some_of (N Observed k) (sym (is_some-kept N g xs Observed k named)
-                      ∙ own_some (track_named g Observed k xs)
-                      (track_named g Observed (k + 1) xs) within p.0 p.1)
-                ],
-          )
-    ]
+    let w = opens_from (is_some (track_named g kind k xs)) (best_of_two
+    (track_named g Observed k xs) (track_named g Observed (k + 1) xs) within) f r e in (
+      none_from (N kind k) (sym (is_some-kept N g xs kind k named) ∙ w.0),
+      some_of (N Observed k) (sym (is_some-kept N g xs Observed k named)
+          ∙ own_some (track_named g Observed k xs) (track_named g Observed (k + 1) xs) within
+          w.1.0 w.1.1),
+    )
 
 pub shifted-opens : (N : Names) (g : Grid) (xs : List Kept) (k : ℕ) (r : Range) → IsNamed N g xs
     → shifted_opens g k xs ≡ Some r
@@ -155,91 +144,58 @@ doubled-opens N g xs k r named e = opens_by N g xs Doubled k (2 * g.size) _ r na
 pub opened-named : (N : Names) (g : Grid) (xs : List Kept) (k : ℕ) (own : Option ℕ) (o : Openings)
     → IsNamed (with_name N Observed k own) g xs → 0 < g.size → 1 ≤ k → g.offset ≡ 0
     → o ≡ openings g k xs → AreShaped g.size k o
-    → IsNamed (settled N k own (opened_places (length xs) o)) g (xs ++ opened_tracks o)
+    → IsNamed (settled N k own (opened_places xs o)) g (xs ++ opened_tracks o)
 opened-named N g xs k own o named some low none is shaped =
-    let N₁ : Names = with_name N Observed k own in
-    let N₂ : Names = with_name (with_name N Observed k own) Shifted (k - 1)
-    (option_map (λ r. length xs) o.below) in
+    let b = waiting_for Shifted o.below in
+    let h = waiting_for Shifted o.here in
+    let d = waiting_for Doubled o.doubled in
+    let N₁ = with_name N Observed k own in
+    let N₂ = with_name N₁ Shifted (k - 1) (option_map (λ r. length xs) o.below) in
+    let N₃ = with_name N₂ Shifted k (option_map (λ r. length (xs ++ b)) o.here) in
     let apart : k ≢ k - 1 = λ e. absurd (omega arith) in
     let at_grid : native_grid g.size ≡ g = λ i. record { size = g.size; offset = sym none i } in
-    let ys : List Kept = xs ++ waiting_for Shifted o.below in
-    let first : IsNamed N₂ g (xs ++ waiting_for Shifted o.below) =
-    waiting-named (with_name N Observed k own) g xs Shifted (k - 1) o.below named some (λ r e. (
-      (shifted-opens (with_name N Observed k own) g xs (k - 1) r named
-          (ap (λ (z : Openings). z.below) (sym is) ∙ e)).0,
-      subst (λ h. IsShaped h (k - 1) Shifted r) at_grid (shaped.below r e),
+    let first : IsNamed N₂ g (xs ++ b) =
+    waiting-named N₁ g xs Shifted (k - 1) o.below named some (λ r e. (
+      (shifted-opens N₁ g xs (k - 1) r named (ap (λ (z : Openings). z.below) (sym is) ∙ e)).0,
+      subst (λ q. IsShaped q (k - 1) Shifted r) at_grid (shaped.below r e),
     )) in
-    let second : IsNamed (with_name N₂ Shifted k
-    (option_map (λ r. length (xs ++ waiting_for Shifted o.below)) o.here)) g
-    ((xs ++ waiting_for Shifted o.below) ++ waiting_for Shifted o.here) =
-    waiting-named N₂ g (xs ++ waiting_for Shifted o.below) Shifted k o.here first some (λ r e. (
-      with_name-other (with_name N Observed k own) Shifted Shifted (k - 1) k
-          (option_map (λ r. length xs) o.below) (λ h. apart h.1)
-          ∙ (shifted-opens (with_name N Observed k own) g xs k r named
-          (ap (λ (z : Openings). z.here) (sym is) ∙ e)).0,
-      subst (λ h. IsShaped h k Shifted r) at_grid (shaped.here r e),
+    let second : IsNamed N₃ g ((xs ++ b) ++ h) =
+    waiting-named N₂ g (xs ++ b) Shifted k o.here first some (λ r e. (
+      with_name-other N₁ Shifted Shifted (k - 1) k (option_map (λ r. length xs) o.below)
+          (λ q. apart q.1)
+          ∙ (shifted-opens N₁ g xs k r named (ap (λ (z : Openings). z.here) (sym is) ∙ e)).0,
+      subst (λ q. IsShaped q k Shifted r) at_grid (shaped.here r e),
     )) in
-    let third : IsNamed (with_name (with_name N₂ Shifted k
-    (option_map (λ r. length (xs ++ waiting_for Shifted o.below)) o.here)) Doubled
-    (even_lower k)
-    (option_map (λ r. length ((xs ++ waiting_for Shifted o.below) ++ waiting_for Shifted o.here))
-    o.doubled)) g
-    (((xs ++ waiting_for Shifted o.below) ++ waiting_for Shifted o.here)
-    ++ waiting_for Doubled o.doubled) =
-    waiting-named (with_name N₂ Shifted k (option_map
-    (λ r. length (xs ++ waiting_for Shifted o.below)) o.here)) g
-    ((xs ++ waiting_for Shifted o.below) ++ waiting_for Shifted o.here) Doubled
-    (even_lower k) o.doubled second some (λ r e. (
-      (doubled-opens (with_name N Observed k own) g xs (even_lower k) r named
+    let third : IsNamed (with_name N₃ Doubled (even_lower k)
+    (option_map (λ r. length ((xs ++ b) ++ h)) o.doubled)) g (((xs ++ b) ++ h) ++ d) =
+    waiting-named N₃ g ((xs ++ b) ++ h) Doubled (even_lower k) o.doubled second some (λ r e. (
+      (doubled-opens N₁ g xs (even_lower k) r named
           (ap (λ (z : Openings). z.doubled) (sym is) ∙ e)).0,
-      subst (λ h. IsShaped h (even_lower k) Doubled r) at_grid (shaped.doubled r e),
+      subst (λ q. IsShaped q (even_lower k) Doubled r) at_grid (shaped.doubled r e),
     )) in
-    let len₁ : length (xs ++ waiting_for Shifted o.below)
-    ≡ length xs + length (waiting_for Shifted o.below) =
-    length-append xs (waiting_for Shifted o.below) in
-    let len₂ : length ((xs ++ waiting_for Shifted o.below) ++ waiting_for Shifted o.here)
-    ≡ length xs + length (waiting_for Shifted o.below)
-    + length (waiting_for Shifted o.here) =
-    length-append (xs ++ waiting_for Shifted o.below) (waiting_for Shifted o.here)
-    ∙ ap (λ n. n + length (waiting_for Shifted o.here)) len₁
-    in
-    let joined : ((xs ++ waiting_for Shifted o.below) ++ waiting_for Shifted o.here)
-    ++ waiting_for Doubled o.doubled ≡ xs
-    ++ opened_tracks o =
-    ap (λ zs. zs ++ waiting_for Doubled o.doubled)
-    (append_assoc xs (waiting_for Shifted o.below) (waiting_for Shifted o.here))
-    ∙ append_assoc xs (waiting_for Shifted o.below ++ waiting_for Shifted o.here)
-    (waiting_for Doubled o.doubled) in
-    subst (λ zs. IsNamed (settled N k own (opened_places (length xs) o)) g zs) joined
-    (subst (λ n. IsNamed (with_name (with_name N₂ Shifted k
-    (option_map (λ r. length xs + length (waiting_for Shifted o.below)) o.here))
-    Doubled (even_lower k) (option_map (λ r. n) o.doubled)) g
-    (((xs ++ waiting_for Shifted o.below) ++ waiting_for Shifted o.here)
-    ++ waiting_for Doubled o.doubled)) len₂
-    (subst (λ n. IsNamed (with_name (with_name N₂ Shifted k (option_map (λ r. n) o.here)) Doubled
-    (even_lower k)
-    (option_map (λ r. length ((xs ++ waiting_for Shifted o.below) ++ waiting_for Shifted o.here))
-    o.doubled)) g
-    (((xs ++ waiting_for Shifted o.below) ++ waiting_for Shifted o.here)
-    ++ waiting_for Doubled o.doubled)) len₁ third))
+    let joined : ((xs ++ b) ++ h) ++ d ≡ xs ++ ((b ++ h) ++ d) = simp append_assoc in
+    subst (λ zs. IsNamed (settled N k own (opened_places xs o)) g zs) joined third
 
 -- where nothing opens
 pub unopened-named : (N : Names) (g : Grid) (xs : List Kept) (k : ℕ) (own : Option ℕ)
     → IsNamed (with_name N Observed k own) g xs
-    → IsNamed (settled N k own (opened_places (length xs) nothing_opens)) g
+    → IsNamed (settled N k own (opened_places xs nothing_opens)) g
     (xs ++ opened_tracks nothing_opens)
 unopened-named N g xs k own named =
-    let same : settled N k own (opened_places (length xs) nothing_opens)
+    let same : settled N k own (opened_places xs nothing_opens)
     ≡ with_name N Observed k own =
     with_name-none (with_name (with_name (with_name N Observed k own) Shifted (k - 1) None) Shifted
     k None) Doubled (even_lower k)
     ∙ with_name-none (with_name (with_name N Observed k own) Shifted (k - 1) None) Shifted k
     ∙ with_name-none (with_name N Observed k own) Shifted (k - 1) in
-    subst (λ (M : Names). IsNamed M g (xs ++ [])) (sym same)
-    (subst (λ zs. IsNamed (with_name N Observed k own) g zs) (sym (append-nil xs))
-    named)
+    rw (same, append-nil xs) named
 
--- one element more at the end, changed there
+-- one element more at the end
+pub added-at : (xs ys : List Kept) (x : Kept) (i : ℕ) → ys ≡ xs ++ x ∷ [] → i ≡ length xs
+    → slice_get ys i ≡ Some x
+added-at xs ys x i added at = rw (added, at) (slice_get-push xs x)
+
+-- it is changed there
 pub set_end : {X : Type 0} (xs : List X) (x y : X) (n : ℕ) → n ≡ length xs
     → slice_set (xs ++ x ∷ []) n y ≡ xs ++ y ∷ []
 set_end xs x y n e = set_at xs x [] y n (sym e)
@@ -355,14 +311,9 @@ changed-indexed f h g xs ys T p k a begins own o places indexed is names named o
         elim (cases_Bool (eqb q k)) [
           | inl here ↦
               let same : q ≡ k = eqb-true q k here in
-              let at : option_or own (f k).track ≡ Some i =
-              ap (λ z. option_or own (f z).track) (sym same)
-              ∙ sym (ap (λ b. if b then option_or own (f q).track else (f q).track) here) ∙ e in
+              let at = rw (here, same) at e in
               rw (writes q, here) (by_begins begins i refl own_is at)
-          | inr other ↦
-              let at : (f q).track ≡ Some i = sym (ap
-              (λ b. if b then option_or own (f q).track else (f q).track) other) ∙ e in
-              rw (writes q, other) (indexed.late q i at)
+          | inr other ↦ let at = rw other at e in rw (writes q, other) (indexed.late q i at)
         ]
 
 -- the tracks that were there are kept
@@ -382,12 +333,6 @@ pub opened-where : (xs ys zs : List Kept) (o : Openings) (b h d : Option ℕ) �
     → zs ≡ ys ++ waiting_for Shifted o.here → b ≡ option_map (λ r. length xs) o.below → h
     ≡ option_map (λ r. length ys) o.here
     → d ≡ option_map (λ r. length zs) o.doubled
-    → ◌≡◌ {A = Opened} (record { below = b; here = h; doubled = d }) (opened_places (length xs) o)
+    → ◌≡◌ {A = Opened} (record { below = b; here = h; doubled = d }) (opened_places xs o)
 opened-where xs ys zs o b h d below here at at_here at_doubled =
-    let len₁ : length ys ≡ length xs + length (waiting_for Shifted o.below) = ap length below
-    ∙ length-append xs (waiting_for Shifted o.below) in
-    let len₂ : length zs ≡ length xs + length (waiting_for Shifted o.below) + length
-    (waiting_for Shifted o.here) =
-    ap length here ∙ length-append ys (waiting_for Shifted o.here)
-    ∙ ap (λ n. n + length (waiting_for Shifted o.here)) len₁ in
-    rw (at, at_here, at_doubled, len₁, len₂) refl
+    rw (at, at_here, at_doubled, here, below)

@@ -1,12 +1,11 @@
 -- The tracks that a list keeps come to what the list's lines come to.
-use Rattle.std.proofs.Common.{◌≡◌, ℕ, suc, ◌+◌, Bool, leb, List, [], ◌∷◌, ◌++◌, Option, None, Some}
+use Rattle.std.proofs.Common.{◌≡◌, ℕ, suc, ◌+◌, leb, List, [], ◌∷◌, ◌++◌, Option, None, Some}
 use Rattle.std.proofs.Common.{length, map, filter}
 use Rattle.std.proofs.Common.{refl, sym, ap, ◌∙◌, inl, inr, arith}
-use Rattle.std.proofs.lemmas.Bool.{cases_Bool}
 use Rattle.std.proofs.lemmas.List.Sorted.{length_permutation, sum_by-IsPermutation}
-use Rattle.std.proofs.lemmas.List.Sums.{sum_by-append, sum_by-cons}
+use Rattle.std.proofs.lemmas.List.Sums.{length-filter, sum_by-append, sum_by-cons}
 use Rattle.std.proofs.lemmas.Option.{none-some, same_Some}
-use Rattle.std.specs.Prelude.{filter_map, if◌then◌else◌, sum_by}
+use Rattle.std.specs.Prelude.{filter_map, sum_by}
 use Rattle.std.specs.List.Sorted.{IsPermutation}
 use Rattle.std.specs.Option.{option_and_then, option_map, option_map_or}
 use Rattle.base.specs.Levels.{Levels}
@@ -80,22 +79,11 @@ count_all [] = refl
 count_all (x ∷ xs) = sum_by-cons (λ y. 1) x xs ∙ ap (λ n. 1 + n) (count_all xs)
     ∙ one_and (length xs)
 
-count_some : {X : Type 0} (p : X → Bool) (xs : List X)
-    → sum_by (λ x. if p x then 1 else 0) xs ≡ length (filter p xs)
-count_some p [] = refl
-count_some p (x ∷ xs) =
-    sum_by-cons (λ y. if p y then 1 else 0) x xs
-    ∙ elim (cases_Bool (p x)) [
-      | inl yes_so ↦ rw yes_so (ap (λ n. 1 + n) (count_some p xs) ∙ one_and (length (filter p xs)))
-      | inr not_so ↦ rw not_so (nothing_first (sum_by (λ y. if p y then 1 else 0) xs)
-          ∙ count_some p xs)
-    ]
-
 count_listed : (g : Grid) (v : Levels) (t : AccessList)
     → sum_by (by_finding (one_if_listed v.report)) (tracked g v t) ≡ length (listed g v t)
 count_listed g v t =
     let reached : List Finding = filter (λ f. leb v.report f.count) (tracked g v t) in
-    count_some (λ f. leb v.report f.count) (tracked g v t)
+    sym (length-filter (λ f. leb v.report f.count) (tracked g v t))
     ∙ sym (length_permutation reached (in_order comes_before reached)
     (in_order-permutes comes_before reached))
 

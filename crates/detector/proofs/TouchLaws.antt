@@ -1,29 +1,35 @@
 -- What one access makes of the tracks, by the places that the entries name.
 use Rattle.std.proofs.Common.{◌≡◌, ◌≢◌, ℕ, zero, suc, ◌+◌, ◌-◌, ◌%◌, ◌<◌, ◌≤◌, ◌^◌, true, false}
 use Rattle.std.proofs.Common.{eqb, List, [], ◌∷◌, Option, Some, None, map, length, refl, sym, ap}
-use Rattle.std.proofs.Common.{◌∙◌, subst, arith, inl, inr}
-use Rattle.std.proofs.lemmas.Bool.{cases_Bool, ne_eqb, eq-eqb}
+use Rattle.std.proofs.Common.{◌∙◌, subst, arith, inl, inr, ◌*◌, ◌/◌}
+use Rattle.std.proofs.lemmas.Bool.{cases_Bool, ne_eqb, eq-eqb, and_from}
 use Rattle.std.proofs.lemmas.Option.{same_Some, none-some, slice_get_within}
 use Rattle.std.proofs.lemmas.List.{length-map}
-use Rattle.std.specs.Prelude.{if◌then◌else◌, slice_get}
-use Rattle.base.specs.Lines.{Grid}
+use Rattle.std.specs.Prelude.{if◌then◌else◌, slice_get, pos, ◌+ℤ◌, ◌-ℤ◌, int_le, int_lt}
+use Rattle.base.specs.Lines.{Grid, line_number}
 use Rattle.base.specs.Ranges.{holds_address}
 use Rattle.base.specs.Touch.{Touch}
 use Rattle.detector.specs.declared.line_entry.LineEntry.{LineEntry}
 use Rattle.sharing_rules.specs.Listed.{rank}
 use Rattle.sharing_rules.specs.declared.line_kind.LineKind.{LineKind}
 use Rattle.sharing_rules.specs.declared.line_kind.LineKind.TheVariants.{Observed, Shifted, Doubled}
-use Rattle.line_tracks.specs.Kept.{IsBlank, IsInTime, Kept}
+use Rattle.line_tracks.specs.Kept.{Kept}
 use Rattle.detector.specs.Named.{line_of_base, number_of}
 use Rattle.detector.specs.Index.{IsIndexed, IsNamed, IsShaped, Names, names_in}
 use Rattle.detector.specs.Noting.{AreInTime, CanTouch, CanTouchAll, places, touched_at}
-use Rattle.detector.specs.Noting.{touched_places}
+use Rattle.detector.specs.Noting.{touched_places, AreHeld, HoldsAt}
 use Rattle.detector.specs.Watch.{touched}
 use Rattle.detector.proofs.FourPlaces.{AreApart, change_at-other, change_four}
-use Rattle.detector.proofs.NamedLaws.{mapped-came, named-map}
+use Rattle.detector.proofs.NamedLaws.{mapped-came, named-map, named-shaped}
 use Rattle.detector.proofs.ShapeLaws.{Reaches, shaped-reaches}
 use Rattle.detector.proofs.InTimeLaws.{touched-blank, touched-in_time, touched-kind, touched-range}
 use Rattle.sharing_rules.specs.Laws.Lists.{slice_cases}
+use Rattle.std.proofs.lemmas.Int.{ints}
+use Rattle.std.proofs.lemmas.Nat.{div-add-mod'}
+use Rattle.std.proofs.Math.Nat.{mod-lt}
+use Rattle.base.specs.declared.layout.Range.{Range}
+use Rattle.sharing_rules.specs.Lines.{grid_line}
+use Rattle.line_tracks.specs.Laws.WordLines.{inside-held}
 
 -- one place has one name
 same_names : (N : Names) (g : Grid) (xs : List Kept) (j q : LineKind) (k l i : ℕ) → IsNamed N g xs
@@ -55,12 +61,8 @@ doubled_place : (f : ℕ → LineEntry) (k i : ℕ) → (places f k).doubled ≡
     × ((f q).doubled ≡ Some i)
 doubled_place f k i e =
     elim (cases_Bool (eqb (k % 2) 1)) [
-      | inl odd ↦ (k, sym (ap (λ b. if b then (f k).doubled else (f (k - 1)).doubled) odd) ∙ e)
-      | inr even ↦ (
-        k - 1,
-        sym (ap (λ b. if b then (f k).doubled else (f (k - 1)).doubled) even)
-            ∙ e,
-      )
+      | inl odd ↦ let at = rw odd at e in (k, at)
+      | inr even ↦ let at = rw even at e in (k - 1, at)
     ]
 
 -- no two of the four places are the same
@@ -193,7 +195,6 @@ pub places-touched : (f : ℕ → LineEntry) (g : Grid) (xs : List Kept) (p : �
     → g.offset < g.size → IsNamed (names_in f) g xs
     → touched_places p a (places f (number_of g a)) xs ≡ map (touched p a) xs
 places-touched f g xs p a small named =
-    let k = number_of g a in
     change_four (touched p a) (places f (number_of g a)).own (places f (number_of g a)).shifted
     (places f (number_of g a)).below
     (places f (number_of g a)).doubled xs
@@ -212,32 +213,86 @@ places-touched f g xs p a small named =
 -- the entries name the tracks that were noted, after more writes
 pub indexed-touched : (f h : ℕ → LineEntry) (g : Grid) (xs : List Kept) (T p : ℕ) (a : Touch)
     → IsIndexed f g xs T p
-    → ((q : ℕ) → (h q).track ≡ (f q).track) → ((q : ℕ) → (h q).shifted ≡ (f q).shifted)
-    → ((q : ℕ) → (h q).doubled ≡ (f q).doubled)
-    → ((q : ℕ) → (f q).writes ≤ (h q).writes) → ((q : ℕ) → (h q).writes ≤ p + 1)
+    → names_in h ≡ names_in f → ((q : ℕ) → (f q).writes ≤ (h q).writes)
+    → ((q : ℕ) → (h q).writes ≤ p + 1)
     → IsIndexed h g (map (touched p a) xs) T (p + 1)
-indexed-touched f h g xs T p a indexed tracks shifted doubled more few = record {
-  names = subst (λ N. IsNamed N g (map (touched p a) xs)) same
+indexed-touched f h g xs T p a indexed same more few = record {
+  names = subst (λ N. IsNamed N g (map (touched p a) xs)) (sym same)
       (named-map (names_in f) g (touched p a) xs (touched-kind p a)
       (touched-range p a) indexed.names);
-  late = λ k i e. let before = indexed.late k i (sym (tracks k) ∙ e) in let up = more k in
+  late = λ k i e.
+      let before = indexed.late k i (sym (ap (λ (N : Names). N Observed k) same) ∙ e) in
+      let up = more k in
       omega arith;
   written = few;
   in_time = λ i y at.
       let w = mapped-came (touched p a) xs i y at in
-      subst (λ (x : Kept). IsInTime x (p + 1)) (sym w.2)
-      (touched-in_time w.0 p a (indexed.in_time i w.0 w.1) (indexed.blank i w.0 w.1));
+      rw w.2 (touched-in_time w.0 p a (indexed.in_time i w.0 w.1) (indexed.blank i w.0 w.1));
   blank = λ i y at.
       let w = mapped-came (touched p a) xs i y at in
-      subst (λ (x : Kept). x.start ≡ None → IsBlank x) (sym w.2)
-      (touched-blank w.0 p a (indexed.blank i w.0 w.1));
+      rw w.2 (touched-blank w.0 p a (indexed.blank i w.0 w.1));
   few = let up = indexed.few in subst (λ n. n ≤ 2 ^ 31) (sym (length-map xs (touched p a))) up;
 }
-  where
-    each : (kind : LineKind) (q : ℕ) → names_in f kind q ≡ names_in h kind q
-    each Observed q = sym (tracks q)
-    each Shifted q = sym (shifted q)
-    each Doubled q = sym (doubled q)
 
-    same : names_in f ≡ names_in h
-    same = λ i kind q. each kind q i
+-- A line's own track and the doubled one of its even pair hold each address of the line.
+
+-- it does so after another place was touched
+held-after : (p : ℕ) (a : Touch) (o q : Option ℕ) (xs : List Kept)
+    → ((i : ℕ) → o ≡ Some i → q ≢ Some i) → HoldsAt xs a.addr q
+    → HoldsAt (touched_at p a o xs) a.addr q
+held-after p a o q xs apart held = λ i x e at. held i x e
+    (sym (change_at-other (touched p a) o xs i (λ h. apart i h e)) ∙ at)
+
+-- two lines from one on hold an address of either
+two_hold : (m n a : ℕ) → m ≤ a + n → a + n < m + 2 * n
+    → holds_address (record { base = pos m -ℤ pos n; size = 2 * n }) a ≡ true
+two_hold m n a low high = and_from (int_le (pos m -ℤ pos n) (pos a))
+    (int_lt (pos a) (pos m -ℤ pos n +ℤ pos (2 * n))) (grind (arith, ints)) (grind (arith, ints))
+
+doubled-held : (g : Grid) (j a : ℕ) (r : Range) → g.offset < g.size → IsShaped g j Doubled r
+    → j ≤ line_number g.size g.offset a → line_number g.size g.offset a ≤ j + 1
+    → holds_address r a ≡ true
+doubled-held g j a r small shaped low high =
+    let some : 0 < g.size = omega arith in
+    let split = div-add-mod' (a + g.size - g.offset) g.size in
+    let rest = mod-lt (a + g.size - g.offset) some in
+    let from : j * g.size ≤ (a + g.size - g.offset) / g.size * g.size = grind (arith, low) in
+    let to : (a + g.size - g.offset) / g.size * g.size ≤ (j + 1) * g.size = grind (arith, high) in
+    let next : (j + 1) * g.size ≡ j * g.size + g.size = omega arith in
+    rw (shaped.2, shaped.1)
+    (two_hold (j * g.size + g.offset) g.size a (omega arith) (omega arith))
+
+pub places-held : (f : ℕ → LineEntry) (g : Grid) (xs : List Kept) (p : ℕ) (a : Touch) (k : ℕ)
+    → g.offset < g.size → k ≡ number_of g a → IsNamed (names_in f) g xs
+    → AreHeld xs p a (places f k)
+places-held f g xs p a k small line named =
+    let apart = places-apart f g xs k named in
+    let o₁ = (places f k).own in
+    let o₂ = (places f k).shifted in
+    let o₃ = (places f k).below in
+    let o₄ = (places f k).doubled in
+    let four : HoldsAt xs a.addr (places f k).doubled =
+    λ i x e at.
+    elim (cases_Bool (eqb (k % 2) 1)) [
+      | inl odd ↦
+          let mine = rw odd at e in
+          doubled-held g k a.addr x.range small
+          (named-shaped (names_in f) g xs Doubled k i x named mine at) (omega (arith, line))
+          (omega (arith, line))
+      | inr even ↦
+          let mine = rw even at e in
+          doubled-held g (k - 1) a.addr x.range small
+          (named-shaped (names_in f) g xs Doubled (k - 1) i x named mine at)
+          (omega (arith, line)) (omega (arith, line))
+    ] in
+    record {
+      own = λ i x e at.
+          let shaped : IsShaped g k Observed x.range =
+          named-shaped (names_in f) g xs Observed k i x named e at in
+          ap (λ r. holds_address r a.addr) shaped.0
+          ∙ inside-held (grid_line g k) a.addr small
+          (eq-eqb (line_number g.size g.offset a.addr) k (sym line));
+      doubled = held-after p a o₃ o₄ (touched_at p a o₂ (touched_at p a o₁ xs)) apart.three_four
+          (held-after p a o₂ o₄ (touched_at p a o₁ xs) apart.two_four
+          (held-after p a o₁ o₄ xs apart.one_four four));
+    }

@@ -1,5 +1,5 @@
 -- What accesses change of any value of a detector.
-use Rattle.std.proofs.Common.{◌≡◌, ℕ, ◌+◌, ◌<◌, Bool, true, eqb, List, [], ◌∷◌, ◌++◌, length, map}
+use Rattle.std.proofs.Common.{◌≡◌, ℕ, ◌+◌, ◌<◌, true, eqb, List, [], ◌∷◌, ◌++◌, length, map}
 use Rattle.std.proofs.Common.{Some, refl, sym, ap, ◌∙◌, append-nil, append_assoc, arith, inl, inr}
 use Rattle.std.proofs.Common.{◌&&◌}
 use Rattle.std.proofs.lemmas.Bool.{and_parts, cases_Bool, eqb-true, not-true}
@@ -12,7 +12,7 @@ use Rattle.line_tracks.specs.Kept.{Kept}
 use Rattle.detector.specs.Changes.{AddNoTracks, adds_no_track, touched_all, watched_all}
 use Rattle.detector.specs.Counts.{count_at}
 use Rattle.detector.specs.Named.{number_of}
-use Rattle.detector.specs.Openings.{opened_tracks, openings, nothing_opens}
+use Rattle.detector.specs.Openings.{opened_tracks}
 use Rattle.detector.specs.Watch.{Watch, begins_track, begun, opens_at, searches_at, touched}
 use Rattle.detector.specs.Watch.{tracks_noted, watched}
 use Rattle.detector.proofs.CountLaws.{count_at-with_write}
@@ -54,16 +54,11 @@ kept_alone : (w : Watch) (a : Touch) → adds_no_track w a ≡ true → (watched
     ≡ map (touched w.position a) w.tracks
 kept_alone w a none =
     let k = number_of w.grid a in
-    let old = map (touched w.position a) w.tracks in
     let parts = and_parts (not (begins_track w.levels.tracking w.writes k a))
     (not (searches_at w a)) none in
     let begins = not-true (begins_track w.levels.tracking w.writes k a) parts.0 in
     let searches = not-true (searches_at w a) parts.1 in
-    ap (λ (b : Bool). tracks_noted w k a ++ opened_tracks
-    (if b then openings w.grid k (tracks_noted w k a) else nothing_opens)) searches
-    ∙ append-nil (tracks_noted w k a)
-    ∙ ap (λ (b : Bool). old ++ (if b then begun w.grid k w.position a ∷ [] else [])) begins
-    ∙ append-nil old
+    rw (searches, begins) (simp append-nil)
 
 map-twice : (f g : Kept → Kept) (xs : List Kept) → map g (map f xs) ≡ map (λ x. g (f x)) xs
 map-twice f g [] = refl

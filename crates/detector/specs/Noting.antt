@@ -1,13 +1,13 @@
 -- The places of the tracks that may hold an address of a line, and what noting them makes of the
 -- tracks.
 use Rattle.std.specs.Prelude.{◌≡◌, ℕ, ◌-◌, ◌%◌, ◌<◌, ◌==◌, if◌then◌else◌, List, length, Option}
-use Rattle.std.specs.Prelude.{Some, None, option_and_then, slice_get, slice_set, IsTrue, Bool}
+use Rattle.std.specs.Prelude.{Some, None, slice_get, slice_set, IsTrue, Bool}
 use Rattle.std.specs.Prelude.{◌&&◌, is_some}
 use Rattle.std.specs.Option.{option_map_or}
 use Rattle.base.specs.Ranges.{holds_address}
 use Rattle.base.specs.Touch.{Touch}
 use Rattle.detector.specs.declared.line_entry.LineEntry.{LineEntry}
-use Rattle.line_tracks.specs.Kept.{CanRestore, IsInTime, Kept, mark_of}
+use Rattle.line_tracks.specs.Kept.{CanRestore, IsInTime, Kept, mark_of, note_kept}
 use Rattle.detector.specs.declared.track_places.Places.{Places}
 use Rattle.detector.specs.declared.undo.Undo.{Undo}
 use Rattle.detector.specs.declared.undo.Undos.{Undos}
@@ -76,18 +76,6 @@ pub record AreHeld (xs : List Kept) (position : ℕ) (a : Touch) (p : Places) : 
       (touched_at position a p.below
       (touched_at position a p.shifted (touched_at position a p.own xs))) a.addr p.doubled
 
--- what undoes the note of the track at a place: nothing where it isn't noted
-abbrev pub undo_at : ℕ → Option ℕ → List Kept → Option Undo
-undo_at addr place xs =
-    option_and_then
-    (λ i. option_and_then (λ x. if holds_address x.range addr
-    then Some (record { place = i; mark = mark_of x addr }) else None) (slice_get xs i)) place
-
--- a track that can be given back what is remembered of it
-abbrev pub CanTakeBack : List Kept → Option Undo → Type 0
-CanTakeBack xs o = (u : Undo) → o ≡ Some u → (u.place < length xs)
-    × ((x : Kept) → slice_get xs u.place ≡ Some x → CanRestore x u.mark)
-
 -- the tracks that an access of line k can be noted in, by the entries
 pub record IsNotable (entry_of : ℕ → LineEntry) (g : Grid) (xs : List Kept) (k position : ℕ)
     (a : Touch) : Type 0 where
@@ -96,20 +84,28 @@ pub record IsNotable (entry_of : ℕ → LineEntry) (g : Grid) (xs : List Kept) 
   pub layout : g.offset < g.size
   pub line : k ≡ line_number g.size g.offset a.addr
 
--- what undoes notes at the places of a line, each made before the note
-pub record AreUndos (xs : List Kept) (position : ℕ) (a : Touch) (p : Places) (u : Undos) : Type 0
-  where
-    pub own : u.own ≡ undo_at a.addr p.own xs
-    pub shifted : u.shifted ≡ undo_at a.addr p.shifted (touched_at position a p.own xs)
-    pub below : u.below ≡ undo_at a.addr p.below
-        (touched_at position a p.shifted (touched_at position a p.own xs))
-    pub doubled : u.doubled ≡ undo_at a.addr p.doubled
-        (touched_at position a p.below
-        (touched_at position a p.shifted (touched_at position a p.own xs)))
-    pub can_own : CanTakeBack (touched_at position a p.own xs) u.own
-    pub can_shifted : CanTakeBack (touched_at position a p.shifted (touched_at position a p.own xs))
-        u.shifted
-    pub can_below : CanTakeBack
-        (touched_at position a p.below
-        (touched_at position a p.shifted (touched_at position a p.own xs))) u.below
-    pub can_doubled : CanTakeBack (touched_places position a p xs) u.doubled
+-- What is remembered of a note takes the tracks ys back to xs: the track at a place was noted once,
+-- and its mark is that of the track before.
+pub record UndoesNote (u : Undo) (ys xs : List Kept) : Type 0 where
+  pub track : Kept
+  pub position : ℕ
+  pub access : Touch
+  pub noted : slice_get ys u.place ≡ Some (note_kept track position access)
+  pub marked : u.mark ≡ mark_of track access.addr
+  pub ready : CanRestore (note_kept track position access) u.mark
+  pub back : slice_set ys u.place track ≡ xs
+
+-- nothing is remembered where nothing was noted
+abbrev pub Undoes : Option Undo → List Kept → List Kept → Type 0
+Undoes None ys xs = ys ≡ xs
+Undoes (Some u) ys xs = UndoesNote u ys xs
+
+-- the same of four notes, the last of which is taken back first
+pub record UndoesAll (u : Undos) (ys xs : List Kept) : Type 0 where
+  pub one : List Kept
+  pub two : List Kept
+  pub three : List Kept
+  pub own : Undoes u.own one xs
+  pub shifted : Undoes u.shifted two one
+  pub below : Undoes u.below three two
+  pub doubled : Undoes u.doubled ys three

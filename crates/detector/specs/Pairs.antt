@@ -53,18 +53,20 @@ doubled_between n k tracks lower upper =
     else option_map (λ p. range_of (doubled_line n k))
     (best_of_two (kept_at tracks lower.track) (kept_at tracks upper.track) (2 * n))
 
--- the entries of line k and of its neighbours name the tracks
+-- the entries of lines k and k+1 name the tracks
+pub record AreNamedPair (g : Grid) (k : ℕ) (tracks : List Kept) (lower upper : LineEntry)
+    : Type 0 where
+  pub own : ArePair g.size k tracks lower.track upper.track
+  pub lower_own : track_named g Observed k tracks ≡ kept_at tracks lower.track
+  pub upper_own : track_named g Observed (k + 1) tracks ≡ kept_at tracks upper.track
+  pub shifted : is_some (track_named g Shifted k tracks) ≡ is_some lower.shifted
+  pub doubled : is_some (track_named g Doubled k tracks) ≡ is_some lower.doubled
+
+-- the entries of line k and of its neighbours do
 pub record AreAround (g : Grid) (k : ℕ) (tracks : List Kept) (e : Around) : Type 0 where
   pub some : 1 ≤ k
-  pub lower : ArePair g.size (k - 1) tracks e.below.track e.here.track
-  pub upper : ArePair g.size k tracks e.here.track e.above.track
-  pub own_below : track_named g Observed (k - 1) tracks ≡ kept_at tracks e.below.track
-  pub own_here : track_named g Observed k tracks ≡ kept_at tracks e.here.track
-  pub own_above : track_named g Observed (k + 1) tracks ≡ kept_at tracks e.above.track
-  pub shifted_below : is_some (track_named g Shifted (k - 1) tracks) ≡ is_some e.below.shifted
-  pub shifted_here : is_some (track_named g Shifted k tracks) ≡ is_some e.here.shifted
-  pub doubled_below : is_some (track_named g Doubled (k - 1) tracks) ≡ is_some e.below.doubled
-  pub doubled_here : is_some (track_named g Doubled k tracks) ≡ is_some e.here.doubled
+  pub lower : AreNamedPair g (k - 1) tracks e.below e.here
+  pub upper : AreNamedPair g k tracks e.here e.above
 
 -- the best hot pair of two such lines, by the addresses of its words
 pub record IsPairOf (n k : ℕ) (tracks : List Kept) (lower upper : Option ℕ) (within : ℕ)

@@ -25,45 +25,21 @@ with_name N kind k o j q = if (rank j == rank kind) && (q == k) then option_or o
 
 -- an entry with a place for a kind, if one is given
 abbrev pub with_place : LineEntry → LineKind → Option ℕ → LineEntry
-with_place e Observed o = record {
-  writes = e.writes;
-  track = option_or o e.track;
-  shifted =
-      e.shifted;
-  doubled = e.doubled;
-}
-with_place e Shifted o = record {
-  writes = e.writes;
-  track = e.track;
-  shifted =
-      option_or o e.shifted;
-  doubled = e.doubled;
-}
-with_place e Doubled o = record {
-  writes = e.writes;
-  track = e.track;
-  shifted = e.shifted;
-  doubled =
-      option_or o e.doubled;
-}
+with_place e Observed o = record e { track = option_or o e.track }
+with_place e Shifted o = record e { shifted = option_or o e.shifted }
+with_place e Doubled o = record e { doubled = option_or o e.doubled }
 
 -- an entry after one write more
 abbrev pub counted : LineEntry → LineEntry
-counted e = record {
-  writes = e.writes + 1;
-  track = e.track;
-  shifted = e.shifted;
-  doubled =
-      e.doubled;
-}
+counted e = record e { writes = e.writes + 1 }
 
--- where the tracks stand of what opens, behind n others
-abbrev pub opened_places : ℕ → Openings → Opened
-opened_places n o = record {
-  below = option_map (λ r. n) o.below;
-  here = option_map (λ r. n + length (waiting_for Shifted o.below)) o.here;
-  doubled = option_map (λ r. n + length (waiting_for Shifted o.below) + length
-      (waiting_for Shifted o.here)) o.doubled;
+-- where the tracks stand of what opens, behind others
+abbrev pub opened_places : List Kept → Openings → Opened
+opened_places xs o = record {
+  below = option_map (λ r. length xs) o.below;
+  here = option_map (λ r. length (xs ++ waiting_for Shifted o.below)) o.here;
+  doubled = option_map
+      (λ r. length (xs ++ waiting_for Shifted o.below ++ waiting_for Shifted o.here)) o.doubled;
 }
 
 -- the names with those of line k's own track and of what opened for it

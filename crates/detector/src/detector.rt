@@ -15,7 +15,7 @@ ghost use Rattle.detector.specs.Counts.{count_at};
 ghost use Rattle.detector.specs.Index.{IsShaped};
 ghost use Rattle.detector.specs.Named.{line_of_base, track_named};
 ghost use Rattle.detector.specs.Quiet.{AreQuietWhereFalse};
-ghost use Rattle.detector.specs.Standing.{StandsFor};
+ghost use Rattle.detector.specs.Standing.{HasEach, StandsFor};
 ghost use Rattle.detector.specs.Watch.{nothing_seen, searches_at, takes_memory, watched};
 
 use crate::LineIndex;
@@ -260,6 +260,9 @@ impl<I: LineIndex> Detector<I> {
     /// 3 m n / 4 words, without prediction at most 2 m entries and m n / 4 words. At most four hold
     /// one address.
     ///
+    /// Of a list that it stands for, each kind and line has the track of what the list makes one
+    /// keep there.
+    ///
     /// Where the words of one have the verdict false, the accesses from its start on would take no
     /// word of it from a hart if each word had a line of its own.
     pub fn tracks(&self) -> &[Track]
@@ -269,6 +272,7 @@ impl<I: LineIndex> Detector<I> {
         ensures shaped { (i : ℕ) (x : Kept) → slice_get self.now.tracks i ≡ Some x
             → IsShaped self.now.grid (line_of_base self.now.grid x.range) x.kind x.range }
         // for each list that it stands for
+        ensures told { (t : AccessList) → StandsFor t self.now → HasEach t self.now }
         ensures shifted { (t : AccessList) → StandsFor t self.now → HasFewerShifted self.now }
         ensures doubled { (t : AccessList) → StandsFor t self.now → HasHalfDoubled self.now }
         ensures entries { (t : AccessList) → StandsFor t self.now → HasFewEntries self.now }

@@ -5,11 +5,12 @@ ghost use Rattle.std.specs.Prelude.{OnErr, is_some};
 ghost use Rattle.std.specs.Prelude.{IfOk, None, Some, length, map, take, option_map, if◌then◌else◌};
 ghost use Rattle.detector.specs.Entries.{blank_entry, entry_at};
 ghost use Rattle.base.specs.declared.layout.Range.{Range as Span};
-ghost use Rattle.base.specs.Lines.{is_layout, line_number};
+ghost use Rattle.base.specs.Lines.{Grid, is_layout, line_number};
 ghost use Rattle.sharing_rules.specs.declared.line_kind.LineKind.TheVariants.{Observed};
 ghost use Rattle.line_tracks.specs.Kept.{waiting};
 ghost use Rattle.detector.specs.Counts.{counts_of, with_write};
 ghost use Rattle.detector.specs.Index.{IsIndexed, IsNamed, IsReached, names_in};
+ghost use Rattle.detector.specs.Noting.{IsNotable, UndoesAll};
 ghost use Rattle.detector.specs.Openings.{nothing_opens, opened_tracks, waiting_for};
 ghost use Rattle.detector.specs.Pairs.{AreShaped, IsNativeGrid};
 ghost use Rattle.sharing_rules.specs.Opened.{even_lower};
@@ -20,7 +21,7 @@ ghost use Rattle.detector.specs.Watch.{begun, touched};
 
 use crate::openings::{Around, NOTHING, Openings, search};
 use crate::track_places::places_of;
-use crate::undo::{note_all_undoably, take_all_back};
+use crate::undo::{Undos, note_all_undoably, take_all_back};
 use crate::write_count::count;
 use crate::{LineEntry, LineIndex, Place};
 use base::{Access, Layout, NoMemory, Range, Steps};
@@ -116,7 +117,7 @@ fn open(tracks: &mut Tracks, openings: Openings) -> Result<Opened, NoMemory>
     requires few { length tracks.old ≤ 2 ^ 31 }
     requires sized { (n k : ℕ) × (n % 4 ≡ 0) × AreShaped n k openings }
     ensures added { OnOk result (tracks.new ≡ tracks.old ++ opened_tracks openings) }
-    ensures places { IfOk result (λ o. o ≡ opened_places (length tracks.old) openings) }
+    ensures places { IfOk result (λ o. o ≡ opened_places tracks.old openings) }
     ensures few { OnOk result (length tracks.new ≤ 2 ^ 31) }
     ensures kept { OnErr result (take (length tracks.old) tracks.new ≡ tracks.old) }
     ensures known { openings ≡ nothing_opens → IsOk result }
@@ -355,6 +356,28 @@ fn count_of(tracks: &Tracks) -> u32
     tracks.all().len() as u32
 }
 
+// Notes the tracks that hold the address of an access of a line, and gives what undoes that.
+fn note_undoably<I: LineIndex, L: Ledger>(
+    index: &I,
+    tracks: &mut Tracks,
+    line: u64,
+    position: u64,
+    access: Access,
+    steps: &mut Steps<L>,
+) -> Undos
+    requires small { line ≤ 2 ^ 30 }
+    requires early { position < 2 ^ 40 }
+    requires notable { (g : Grid)
+        × IsNotable (entry_at (I.entries index.now)) g tracks.old line position access }
+    ensures tracks { tracks.new ≡ map (touched position access) tracks.old }
+    ensures undos { UndoesAll result tracks.new tracks.old }
+    ensures steps { steps.new ≤ steps.old
+        + (if is_some (entry_at (I.entries index.now) line).track then 4 else 3) }
+{
+    let places = places_of(index, line);
+    note_all_undoably(tracks, places, position, access, steps)
+}
+
 /// A write of a line at which its own track may begin, or its pairs are searched: it is noted and
 /// counted, and what is due begins and opens.
 ///
@@ -398,8 +421,7 @@ pub fn do_task<I: LineIndex, L: Ledger>(
         Ok(()) => {}
         Err(refused) => return Err(refused),
     }
-    let places = places_of(index, line);
-    let undos = note_all_undoably(tracks, places, position, access, steps);
+    let undos = note_undoably(index, tracks, line, position, access, steps);
     let len = count_of(tracks);
     match change(index, tracks, layout, line, task, position, access, steps) {
         Ok(()) => Ok(()),

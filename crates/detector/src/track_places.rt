@@ -1,5 +1,8 @@
 // Where the tracks stand that may hold an address of a line.
-ghost use Rattle.std.specs.Prelude.{◌≡◌, ◌+◌, ◌≤◌, ◌<◌, ◌^◌, is_some, if◌then◌else◌};
+ghost use Rattle.std.specs.Prelude.{◌≡◌, ◌+◌, ◌≤◌, ◌<◌, ◌^◌, is_some, if◌then◌else◌, length};
+ghost use Rattle.std.specs.Prelude.{Some, slice_get};
+ghost use Rattle.base.specs.Ranges.{holds_address};
+ghost use Rattle.line_tracks.specs.Kept.{Kept};
 ghost use Rattle.detector.specs.Entries.{entry_at};
 ghost use Rattle.detector.specs.Noting.{AreHeld, CanTouch, CanTouchAll, HoldsAt, places};
 ghost use Rattle.detector.specs.Noting.{touched_at, touched_places};
@@ -56,6 +59,16 @@ pub fn places_between(line: u64, here: LineEntry, below: LineEntry) -> Places
     }
 }
 
+/// Whether the range of a track holds the address of an access.
+#[inline(always)]
+pub fn holds(tracks: &Tracks, place: u32, access: Access) -> bool
+    requires { place < length tracks.now }
+    ensures { (x : Kept) → slice_get tracks.now place ≡ Some x
+        → result ≡ holds_address x.range access.addr }
+{
+    tracks.all()[place as usize].contains(access.addr())
+}
+
 // Notes the track at a place, if its range holds the address.
 #[inline(always)]
 fn note_at<L: Ledger>(
@@ -71,7 +84,7 @@ fn note_at<L: Ledger>(
     ensures steps { steps.new ≤ steps.old + (if is_some place then 1 else 0) }
 {
     if let Some(place) = place.number() {
-        if tracks.all()[place as usize].contains(access.addr()) {
+        if holds(tracks, place, access) {
             tracks.note(place, position, access, steps);
         }
     }

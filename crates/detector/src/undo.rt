@@ -1,14 +1,11 @@
 // Notes that can be undone.
-ghost use Rattle.std.specs.Prelude.{◌≡◌, ℕ, ◌+◌, ◌≤◌, ◌<◌, ◌^◌, List, Option, is_some};
-ghost use Rattle.std.specs.Prelude.{if◌then◌else◌};
-ghost use Rattle.base.specs.Touch.{Touch};
+ghost use Rattle.std.specs.Prelude.{◌≡◌, ◌+◌, ◌≤◌, ◌<◌, ◌^◌, List, is_some, if◌then◌else◌};
 ghost use Rattle.line_tracks.specs.Kept.{Kept};
-ghost use Rattle.detector.specs.Noting.{AreUndos, CanTakeBack, CanTouch, CanTouchAll, touched_at};
-ghost use Rattle.detector.specs.Noting.{touched_places, undo_at};
-ghost use Rattle.detector.specs.declared.track_places.Places.{Places as Spots};
+ghost use Rattle.detector.specs.Noting.{CanTouch, CanTouchAll, Undoes, UndoesAll, touched_at};
+ghost use Rattle.detector.specs.Noting.{touched_places};
 
 use crate::Place;
-use crate::track_places::Places;
+use crate::track_places::{Places, holds};
 use base::{Access, Steps};
 use line_tracks::{Mark, Tracks};
 use std::sync::ledger::Ledger;
@@ -32,11 +29,10 @@ pub fn note_undoably<L: Ledger>(
     requires early { position < 2 ^ 40 }
     ensures tracks { tracks.new ≡ touched_at position access place tracks.old }
     ensures steps { steps.new ≤ steps.old + (if is_some place then 1 else 0) }
-    ensures undo { result ≡ undo_at access.addr place tracks.old }
-    ensures ready { CanTakeBack tracks.new result }
+    ensures undo { Undoes result tracks.new tracks.old }
 {
     let place = place.number()?;
-    if !tracks.all()[place as usize].contains(access.addr()) {
+    if !holds(tracks, place, access) {
         return None;
     }
     let mark = tracks.mark(place, access.addr());
@@ -46,10 +42,8 @@ pub fn note_undoably<L: Ledger>(
 
 /// Undoes the last note, if there was one.
 pub fn take_back(tracks: &mut Tracks, undo: Option<Undo>)
-    requires { CanTakeBack tracks.old undo }
-    ensures { (xs : List Kept) (place : Option ℕ) (position : ℕ) (a : Touch)
-        → tracks.old ≡ touched_at position a place xs
-        → undo ≡ undo_at a.addr place xs → tracks.new ≡ xs }
+    requires { (xs : List Kept) × Undoes undo tracks.old xs }
+    ensures { (xs : List Kept) → Undoes undo tracks.old xs → tracks.new ≡ xs }
 {
     if let Some(undo) = undo {
         let Undo { place, mark } = undo;
@@ -77,7 +71,7 @@ pub fn note_all_undoably<L: Ledger>(
     requires can { CanTouchAll tracks.old position access places }
     requires early { position < 2 ^ 40 }
     ensures tracks { tracks.new ≡ touched_places position access places tracks.old }
-    ensures undos { AreUndos tracks.old position access places result }
+    ensures undos { UndoesAll result tracks.new tracks.old }
     ensures steps { steps.new ≤ steps.old + (if is_some places.own then 4 else 3) }
 {
     let own = note_undoably(tracks, places.own, position, access, steps);
@@ -94,11 +88,8 @@ pub fn note_all_undoably<L: Ledger>(
 
 /// Undoes them, the last one first.
 pub fn take_all_back(tracks: &mut Tracks, undos: Undos)
-    requires { (xs : List Kept) × (position : ℕ) × (a : Touch) × (p : Spots)
-        × (tracks.old ≡ touched_places position a p xs) × AreUndos xs position a p undos }
-    ensures { (xs : List Kept) (position : ℕ) (a : Touch) (p : Spots)
-        → tracks.old ≡ touched_places position a p xs → AreUndos xs position a p undos
-        → tracks.new ≡ xs }
+    requires { (xs : List Kept) × UndoesAll undos tracks.old xs }
+    ensures { (xs : List Kept) → UndoesAll undos tracks.old xs → tracks.new ≡ xs }
 {
     let Undos {
         own,

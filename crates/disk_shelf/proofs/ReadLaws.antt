@@ -1,11 +1,11 @@
 -- The files are told exactly as long as what was read is of them.
-use Rattle.std.proofs.Common.{◌≡◌, ◌≤◌, ◌&&◌, ℕ, List, ◌∷◌, Bool, true, false, Some, None, length}
+use Rattle.std.proofs.Common.{◌≡◌, ◌≤◌, ◌&&◌, ℕ, List, [], ◌∷◌, Bool, true, false, Some, None, length}
 use Rattle.std.proofs.Common.{take, refl}
 use Rattle.std.specs.Prelude.{if◌then◌else◌}
 use Rattle.std.specs.List.{list_all}
 use Rattle.std.proofs.lemmas.Bool.{and_parts}
-use Rattle.shelf.specs.Shelf.{Files, Told, Reads, content}
-use Rattle.disk_shelf.specs.Disk.{reads_so, agrees, held_by}
+use Rattle.shelf.specs.Shelf.{Files, Narrows, OnlyReads, Reads, Told, content, read_of}
+use Rattle.disk_shelf.specs.Disk.{Seen, agrees, disk_outside, held_by, reads_so}
 use Rattle.disk_shelf.specs.Done.{Done, WasRead}
 use Rattle.disk_shelf.specs.Laws.Reads.{reads_so-Decides}
 
@@ -28,6 +28,26 @@ still_if : {A : Type 0} (a b : Bool) (x : A) (P : A → Type 0) → (P x → a �
     → Told (if b then Some x else None) (λ y. P y → (if a && b then Some x else None) ≡ Some y)
 still_if a true x P h = λ p. rw (h p) refl
 still_if a false x P h = tt
+
+narrow_if : {A : Type 0} (a b : Bool) (x : A)
+    → Narrows (if b then Some x else None) (if a && b then Some x else None)
+narrow_if true true x = refl
+narrow_if true false x = tt
+narrow_if false b x = tt
+
+-- a reading changes nothing else
+pub only_read : (files : Files) (seen : Seen) (name : List ℕ) (at room : ℕ) (bytes : List ℕ)
+    → OnlyReads (disk_outside files seen)
+    (disk_outside files (record seen { done = WasRead name at room bytes ∷ seen.done }))
+only_read files seen name at room bytes = record {
+  held = narrow_if (reads_so (content files name) at room bytes)
+      (list_all (agrees files) seen.done) files;
+  written = refl;
+  printed = refl;
+  write_faults = refl;
+  print_faults = refl;
+  given = (read_of name at room bytes ∷ [], refl);
+}
 
 -- what was told is told after a reading, where what was read is of it
 pub still_told : (files : Files) (name : List ℕ) (at n : ℕ) (buffer : List ℕ) (before : List Done)

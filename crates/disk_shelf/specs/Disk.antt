@@ -5,7 +5,7 @@ use Rattle.std.specs.Prelude.{nat_le, ◌==◌, List, [], ◌∷◌, ◌++◌, l
 use Rattle.std.specs.Prelude.{Option, if◌then◌else◌, option_map}
 use Rattle.std.specs.List.{list_all, list_any}
 use Rattle.std.specs.Str.{bytes_eq}
-use Rattle.shelf.specs.Shelf.{Files, Outside, content}
+use Rattle.shelf.specs.Shelf.{Files, Given, Outside, content, read_of}
 use Rattle.shelf.specs.declared.shelf.ShelfError.{ShelfError}
 use Rattle.shelf.specs.declared.shelf.ShelfError.TheVariants.{Failed, NoMemory}
 use Rattle.disk_shelf.specs.Done.{Done, WasRead, WasBegun, WasAppended, WasPrinted}
@@ -56,7 +56,15 @@ printed_by (WasBegun n ∷ before) = printed_by before
 printed_by (WasAppended n piece ∷ before) = printed_by before
 printed_by (WasPrinted piece ∷ before) = printed_by before ++ piece
 
--- it tells these files as long as what was read is of them, and all that was written and printed
+-- what was read, the latest first
+abbrev pub given_by : List Done → List Given
+given_by [] = []
+given_by (WasRead name at room bytes ∷ before) = read_of name at room bytes ∷ given_by before
+given_by (WasBegun n ∷ before) = given_by before
+given_by (WasAppended n piece ∷ before) = given_by before
+given_by (WasPrinted piece ∷ before) = given_by before
+
+-- it tells these files as long as what was read is of them, and all that was written, printed and read
 abbrev pub disk_outside : Files → Seen → Outside
 disk_outside files seen = record {
   held = held_by files seen.done;
@@ -65,9 +73,10 @@ disk_outside files seen = record {
   read_faults = λ _. seen.reads;
   write_faults = λ _. seen.writes;
   print_faults = seen.prints;
+  given = given_by seen.done;
 }
 
--- these files, with nothing begun or printed, and no fault yet
+-- these files, with nothing begun, printed or read, and no fault yet
 abbrev pub fresh_outside : Files → Outside
 fresh_outside files = record {
   held = Some files;
@@ -76,6 +85,7 @@ fresh_outside files = record {
   read_faults = λ _. 0;
   write_faults = λ _. 0;
   print_faults = 0;
+  given = [];
 }
 
 -- a number of faults after one more, which ends at 2^64 - 1

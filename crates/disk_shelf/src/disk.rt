@@ -5,7 +5,7 @@
 ghost use Rattle.std.specs.Prelude.{◌≡◌, ◌≢◌, ◌≤◌, ◌↔◌, IfOk, OnOk, Some, false, length};
 ghost use Rattle.std.specs.Io.{ReadsAtMost};
 ghost use Rattle.std.specs.IoError.{error_kind};
-ghost use Rattle.shelf.specs.Shelf.{content, Told, HasCauseAt, OnlyReads, Reads};
+ghost use Rattle.shelf.specs.Shelf.{content, Told, HasCauseAt, OnlyReads, Reads, given_after};
 ghost use Rattle.disk_shelf.specs.Disk.{after_fault, has_other_name};
 
 use crate::known_files::{FileId, KnownFiles};
@@ -410,6 +410,8 @@ impl<R: Files + Print + Eprint + Clock + AllocGlobal, K: Contents> Shelf for Dis
         ensures bound { ReadsAtMost result into.new }
         ensures bytes { IfOk result (λ n. Told (disk_outside K.files self.new).held
             (λ files. Reads (content files name.now) at n into.new)) }
+        ensures given { (disk_outside K.files self.new).given ≡ given_after result name.now at
+            into.new (disk_outside K.files self.old).given }
         ensures cause { HasCauseAt name.now (disk_outside K.files self.old).read_faults
             (disk_outside K.files self.new).read_faults result }
         ensures only { OnlyReads (disk_outside K.files self.old) (disk_outside K.files self.new) }

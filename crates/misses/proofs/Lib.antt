@@ -1,5 +1,6 @@
+pub mod ComerSteps
 pub mod FoundLaws
-pub mod PlacedLaws
 pub mod RowOrder
+pub mod SeatLaws
 pub mod SeenLaws
 pub mod WorkedMisses

@@ -1,5 +1,6 @@
 -- What has to be kept of a list, so that each miss and each needed load can be told.
-use Rattle.std.specs.Prelude.{ℕ, ◌+◌, Bool, ◌&&◌, ◌==◌, nat_lt, if◌then◌else◌, [], ◌∷◌}
+use Rattle.std.specs.Prelude.{ℕ, ◌+◌, Bool, ◌&&◌, ◌==◌, nat_lt, if◌then◌else◌, [], ◌∷◌, Option, None}
+use Rattle.std.specs.Prelude.{Some}
 use Rattle.std.specs.List.{list_any}
 use Rattle.base.specs.Touch.{Touch, is_write, word_of}
 use Rattle.sharing_rules.specs.AccessLists.{AccessList}
@@ -9,7 +10,12 @@ abbrev pub behind : (Touch → Bool) → AccessList → ℕ
 behind p [] = 0
 behind p (a ∷ t) = if nat_lt 0 (behind p t) then behind p t + 1 else if p a then 1 else 0
 
--- the hart of that access, 0 where there is none
+-- the same of a position that is known
+abbrev pub right_after : Option ℕ → ℕ
+right_after None = 0
+right_after (Some position) = position + 1
+
+-- the hart of the last access that passes, 0 where none does
 abbrev pub last_hart : (Touch → Bool) → AccessList → ℕ
 last_hart p [] = 0
 last_hart p (a ∷ t) = if list_any p t then last_hart p t else if p a then a.hart else 0

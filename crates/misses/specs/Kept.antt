@@ -16,7 +16,7 @@ use Rattle.misses.specs.declared.line_misses.Cost.{Cost}
 use Rattle.misses.specs.declared.line_misses.Counts.{Counts}
 use Rattle.misses.specs.declared.line_misses.LastWrite.{LastWrite}
 use Rattle.misses.specs.declared.line_misses.Visits.{Visits}
-use Rattle.misses.specs.Entries.{behind, last_hart, writes_in}
+use Rattle.misses.specs.Entries.{behind, last_hart, right_after, writes_in}
 use Rattle.misses.specs.Misses.{copies, is_by_in, is_cold, is_in, is_miss, is_needed}
 
 -- Of a line the position right after its latest write, of each of its words the same with that
@@ -114,7 +114,7 @@ last_write_of g r t i =
 abbrev pub visits_in : Grid → ℕ → AccessList → ℕ → Visits
 visits_in g r t h = record {
   accessed = behind (is_by_in (lines_of g) h r) t;
-  loaded = copies (lines_of g) t h r;
+  loaded = right_after (copies (lines_of g) t h r);
 }
 
 abbrev pub counted : Grid → ℕ → AccessList → Counts

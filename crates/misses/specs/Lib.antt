@@ -3,9 +3,11 @@ pub mod Fits
 pub mod Kept
 pub mod Laws
 pub mod Misses
-pub mod Placed
 pub mod Rows
+pub mod SeatFields
+pub mod Seats
 pub mod Seen
 pub mod Texts
 pub mod WordLines
 pub mod WordsApart
+pub mod WriteFields

@@ -3,8 +3,8 @@
 -- elimination of useless misses in multiprocessors" (ISCA 1993). There a miss is useful or not by
 -- what its hart does until it loses the line; here a needed load is an access of its own, and may
 -- come later than the miss that brought the line. line_of gives the line of an address.
-use Rattle.std.specs.Prelude.{ℕ, ◌+◌, ◌-◌, Bool, not, ◌&&◌, ◌||◌, ◌==◌, if◌then◌else◌, []}
-use Rattle.std.specs.Prelude.{◌∷◌, ◌++◌, length, drop}
+use Rattle.std.specs.Prelude.{ℕ, ◌+◌, ◌-◌, Bool, true, not, ◌&&◌, ◌==◌, if◌then◌else◌, []}
+use Rattle.std.specs.Prelude.{◌∷◌, ◌++◌, Option, None, Some, length, drop}
 use Rattle.std.specs.List.{list_any}
 use Rattle.base.specs.Touch.{Touch, is_write, word_of}
 use Rattle.sharing_rules.specs.AccessLists.{AccessList}
@@ -31,27 +31,28 @@ is_cold line_of r before a =
 abbrev pub changes : ℕ → ℕ → Touch → Bool
 changes h x b = is_write b.kind && not (h == b.hart) && (word_of b.addr == word_of x)
 
--- Copies that nobody takes away. Of a copy the position right after its last load is kept, 0 where
--- there is no copy. The copy lacks a word where there is none, or where another hart wrote the word
--- since its load.
-abbrev pub lacks : ℕ → AccessList → ℕ → ℕ → Bool
-lacks loaded before h x = (loaded == 0) || list_any (changes h x) (drop loaded before)
+-- Copies that nobody takes away. A copy is the position of the access that last loaded it. With no
+-- copy each word is lacking; a copy lacks a word that another hart wrote after that load.
+abbrev pub lacks : Option ℕ → AccessList → ℕ → ℕ → Bool
+lacks None before h x = true
+lacks (Some load) before h x = list_any (changes h x) (drop (load + 1) before)
 
 -- An access to a word that its hart's copy lacks loads the copy, all of the line. Nothing else
 -- does.
-abbrev pub after_load : (ℕ → ℕ) → AccessList → (ℕ → ℕ → ℕ) → Touch → ℕ → ℕ → ℕ
+abbrev pub after_load : (ℕ → ℕ) → AccessList → (ℕ → ℕ → Option ℕ) → Touch → ℕ → ℕ → Option ℕ
 after_load line_of before loaded a h r =
-    if is_by_in line_of h r a && lacks (loaded h r) before h a.addr then length before + 1
+    if is_by_in line_of h r a && lacks (loaded h r) before h a.addr then Some (length before)
     else loaded h r
 
-abbrev pub copies_from : (ℕ → ℕ) → AccessList → (ℕ → ℕ → ℕ) → AccessList → ℕ → ℕ → ℕ
+abbrev pub copies_from : (ℕ → ℕ) → AccessList → (ℕ → ℕ → Option ℕ) → AccessList → ℕ → ℕ
+    → Option ℕ
 copies_from line_of before loaded [] = loaded
 copies_from line_of before loaded (a ∷ t) =
     copies_from line_of (before ++ a ∷ []) (after_load line_of before loaded a) t
 
 -- the copy of each hart and line after a list; there are none at the beginning
-unfoldable pub copies : (ℕ → ℕ) → AccessList → ℕ → ℕ → ℕ
-copies line_of t = copies_from line_of [] (λ h r. 0) t
+unfoldable pub copies : (ℕ → ℕ) → AccessList → ℕ → ℕ → Option ℕ
+copies line_of t = copies_from line_of [] (λ h r. None) t
 
 -- after a list, hart h's copy lacks the word that holds address x
 abbrev pub wants : (ℕ → ℕ) → AccessList → ℕ → ℕ → Bool

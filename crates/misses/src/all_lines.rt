@@ -118,6 +118,12 @@ fn note_new(
     }
 }
 
+// The number by which a line is remembered.
+#[inline(always)]
+fn near(number: u64) -> u32 {
+    (number % 4_294_967_296) as u32
+}
+
 // Whether the line of a number is at an index.
 #[inline(always)]
 fn is_at(lines: &IndexMap<u64, LineMisses>, index: usize, number: u64) -> bool
@@ -137,6 +143,27 @@ fn is_at(lines: &IndexMap<u64, LineMisses>, index: usize, number: u64) -> bool
     }
 }
 
+// Where a line is, if it was accessed, by the table.
+#[inline(never)]
+fn look_up(lines: &IndexMap<u64, LineMisses>, recent: &mut Recent, number: u64) -> Option<usize>
+    ensures index { IfSome result (λ i. (l : LineEntry)
+        → insert_entry nat_eq lines.now.entries number l ≡ set_value_at lines.now.entries i l) }
+    ensures value { IfSome result (λ i. slice_get (values lines.now) i
+        ≡ lookup (eqb number) lines.now.entries) }
+    ensures found { is_some result ≡ is_some (lookup (eqb number) lines.now.entries) }
+{
+    match lines.get_index_of(&number) {
+        Some(index) => {
+            recent.keep(near(number), index);
+            Some(index)
+        }
+        None => {
+            recent.add(near(number), lines.len());
+            None
+        }
+    }
+}
+
 // Where a line is, if it was accessed: first the place is looked at where it may be.
 #[inline(always)]
 fn find(lines: &IndexMap<u64, LineMisses>, recent: &mut Recent, number: u64) -> Option<usize>
@@ -146,15 +173,25 @@ fn find(lines: &IndexMap<u64, LineMisses>, recent: &mut Recent, number: u64) -> 
         ≡ lookup (eqb number) lines.now.entries) }
     ensures found { is_some result ≡ is_some (lookup (eqb number) lines.now.entries) }
 {
-    let guess = recent.guess(number);
+    let guess = recent.guess(near(number));
     if is_at(lines, guess, number) {
         return Some(guess);
     }
-    let index = lines.get_index_of(&number);
-    if let Some(index) = index {
-        recent.keep(number, index);
+    look_up(lines, recent, number)
+}
+
+// Which word of its line an address is in. Most lines have 64 bytes, and a mask takes less time than
+// a division.
+#[inline(always)]
+fn place_in(line: CacheLine, addr: u32) -> usize
+    ensures { result ≡ word_place line addr }
+{
+    let layout = line.layout();
+    if layout.size() != 64 {
+        return line.word_place(addr);
     }
-    index
+    let from_a_begin = u64::from(addr) + 64 - u64::from(layout.offset());
+    (from_a_begin % 64 / 4) as usize
 }
 
 // Notes an access of a line.
@@ -176,7 +213,7 @@ fn note_in(
         → IsOk result }
 {
     let number = line.number();
-    let place = line.word_place(access.addr());
+    let place = place_in(line, access.addr());
     match find(lines, recent, number) {
         Some(index) => note_known(lines, index, position, place, access),
         None => note_new(lines, number, line.word_count(), position, place, access),
@@ -256,8 +293,8 @@ impl Misses {
     }
 
     /// Notes the next access, before position 2^40. It takes memory for a line, and for a hart in a
-    /// line, that is new; where there is none, nothing changes. At most 8 KiB more say where lines
-    /// came lately, and without them it only takes longer.
+    /// line, that is new; where there is none, nothing changes. Up to 16 bytes more for each line
+    /// remember where lines are, and without them it only takes longer.
     pub fn on_access(&mut self, access: &Access) -> Result<(), NoMemory>
         requires { self.old.position < 2 ^ 40 }
         ensures noted { OnOk result (self.new ≡ note_access self.old access.now) }

@@ -1,72 +1,73 @@
-// What is kept of each hart that came to a line. Its place is found by its number, and there its
-// entry says whether it came.
-ghost use Rattle.std.specs.Prelude.{◌≡◌, ℕ, ◌<◌, ◌++◌, ◌∷◌, [], eqb, false, is_some, nat_eq, vec_len};
+// What is kept of each hart that came to a line: a seat, which is found by the lowest bits of its
+// number, and says whose it is.
+ghost use Rattle.std.specs.Prelude.{◌≡◌, ℕ, ◌<◌, ◌^◌, None, Some, [], eqb, is_some, length, nat_eq};
 ghost use Rattle.std.specs.Prelude.{OnOk, OnErr, IsOk, IsTrue, if◌then◌else◌, slice_set};
 ghost use Rattle.std.specs.Map.{lookup};
 ghost use Rattle.indexmap.specs.IndexMap.{insert_entry};
 ghost use Rattle.misses.specs.Kept.{visits_of};
-ghost use Rattle.misses.specs.Placed.{ArePlaced, is_at, place_at, visits_at};
+ghost use Rattle.misses.specs.Seats.{IsRound, is_its, is_open, place_among, seat_of, seen};
 
+use crate::comers::Comers;
 use crate::line_misses::Visits;
+use crate::seat::{NO_HART, Seat};
 use base::NoMemory;
 use std::alloc::Global;
 use std::marker::Model;
 
+// How many seats there are at first.
+const FEW: usize = 8;
+
 /// The visits of each hart that came to a line, in the order in which they came.
 #[derive(Drop)]
 pub struct HartTable {
-    places: Vec<u8>,
-    entries: Vec<(u16, Visits)>,
+    seats: Vec<Seat>,
+    came: Comers,
 }
 
 impl Model for HartTable {
     ghost use Rattle.std.specs.Prelude.{ℕ, List};
-    ghost use Rattle.misses.specs.Placed.{ArePlaced};
+    ghost use Rattle.misses.specs.Seats.{AreSeated};
     ghost use Rattle.misses.specs.declared.line_misses.Visits.{Visits};
 
     ghost Value = { List (ℕ × Visits) };
 
-    ghost view = { λ t. t.entries.items };
+    ghost view = { λ t. t.came.items };
 
-    ghost invariant = { λ t. ArePlaced t.places.items 0 t.entries.items };
+    ghost invariant = { λ t. AreSeated t.seats.items t.came.items };
 }
 
-// The place that stands at a hart's number.
+// The place of a hart.
 #[inline(always)]
-fn place_of(places: &Vec<u8>, hart: u16) -> usize
-    ensures { result ≡ place_at places.now.items hart }
+fn place_of(seats: &Vec<Seat>, hart: u16) -> usize
+    ensures { result ≡ place_among (length seats.now.items) hart }
 {
-    match places.get(usize::from(hart)) {
-        Some(place) => usize::from(*place),
-        None => 0,
+    usize::from(hart) & seats.len().saturating_sub(1)
+}
+
+// The seat at a hart's place.
+#[inline(always)]
+fn seat_at(seats: &Vec<Seat>, hart: u16) -> Seat
+    ensures { result ≡ seat_of seats.now.items hart }
+{
+    match seats.get(place_of(seats, hart)) {
+        Some(seat) => *seat,
+        None => Seat::free(),
     }
 }
 
-// The visits of the entry at a place, if it is the hart's.
+// Puts a seat to a hart's place, if the one there is the hart's, and says whether it is.
 #[inline(always)]
-fn seen_at(entries: &Vec<(u16, Visits)>, place: usize, hart: u16) -> Visits
-    ensures { result ≡ visits_at entries.now.items place hart }
+fn put_at(seats: &mut Vec<Seat>, hart: u16, seat: Seat) -> bool
+    requires { hart < 256 }
+    ensures found { result ≡ is_its seats.old.items hart }
+    ensures put { seats.new.items ≡ if result then slice_set seats.old.items
+        (place_among (length seats.old.items) hart) seat else seats.old.items }
 {
-    match entries.get(place) {
-        Some((number, visits)) if *number == hart => *visits,
-        _ => Visits {
-            accessed: 0,
-            loaded: 0,
-        },
-    }
-}
-
-// Puts visits into the entry at a place, if it is the hart's, and says whether it is.
-#[inline(always)]
-fn put_at(entries: &mut Vec<(u16, Visits)>, place: usize, hart: u16, visits: Visits) -> bool
-    ensures found { result ≡ is_at entries.old.items place hart }
-    ensures put { entries.new.items ≡ if result
-        then slice_set entries.old.items place (hart, visits) else entries.old.items }
-{
-    match entries.get_mut(place) {
-        Some(entry) => {
-            if entry.0 == hart {
-                *entry = (hart, visits);
+    let place = place_of(seats, hart);
+    match seats.get_mut(place) {
+        Some(old) => {
+            if old.number() == hart {
+                *old = seat;
                 return true;
             }
             false
@@ -75,14 +76,47 @@ fn put_at(entries: &mut Vec<(u16, Visits)>, place: usize, hart: u16, visits: Vis
     }
 }
 
-// Goes on with zeros until a place stands at a hart's number.
-fn reach(places: &mut Vec<u8>, hart: u16) -> Result<(), NoMemory>
-    ensures same { (h : ℕ) → place_at places.new.items h ≡ place_at places.old.items h }
-    ensures reached { OnOk result (hart < vec_len places.new) }
+// Whether a hart may take the seat at its place: it is free, or its hart has another place now.
+fn is_open(seats: &Vec<Seat>, hart: u16) -> bool
+    ensures { result ≡ is_open seats.now.items hart }
 {
-    while places.len() <= usize::from(hart) {
-        if places.push(0).is_err() {
-            return Err(NoMemory);
+    let number = seat_at(seats, hart).number();
+    !seats.is_empty() && (number >= NO_HART || place_of(seats, number) != place_of(seats, hart))
+}
+
+// Makes twice as many seats, each the same as the one that its harts had.
+fn spread(seats: &mut Vec<Seat>) -> Result<(), NoMemory>
+    requires round { IsRound (length seats.old.items) }
+    ensures round { IsRound (length seats.new.items) }
+    ensures same { (h : ℕ) → h < 256 → seen seats.new.items h ≡ seen seats.old.items h }
+    ensures more { OnOk result (length seats.old.items < length seats.new.items) }
+{
+    let count = seats.len();
+    if count == 0 {
+        return match seats.resize(FEW, Seat::free()) {
+            Ok(()) => Ok(()),
+            Err(_) => Err(NoMemory),
+        };
+    }
+    match seats.extend_from_within(0..count) {
+        Ok(()) => Ok(()),
+        Err(_) => Err(NoMemory),
+    }
+}
+
+// Makes twice as many seats until a hart may take the one at its place.
+fn make_room(seats: &mut Vec<Seat>, hart: u16) -> Result<(), NoMemory>
+    requires few { hart < 256 }
+    requires round { IsRound (length seats.old.items) }
+    requires absent { seen seats.old.items hart ≡ None }
+    ensures round { IsRound (length seats.new.items) }
+    ensures same { (h : ℕ) → h < 256 → seen seats.new.items h ≡ seen seats.old.items h }
+    ensures room { OnOk result (IsTrue (is_open seats.new.items hart)) }
+{
+    while !is_open(seats, hart) {
+        match spread(seats) {
+            Ok(()) => {}
+            Err(fault) => return Err(fault),
         }
     }
     Ok(())
@@ -90,28 +124,24 @@ fn reach(places: &mut Vec<u8>, hart: u16) -> Result<(), NoMemory>
 
 // Notes the first visit of a hart.
 #[inline(never)]
-fn add(
-    places: &mut Vec<u8>,
-    entries: &mut Vec<(u16, Visits)>,
-    hart: u16,
-    visits: Visits,
-) -> Result<(), NoMemory>
+fn add(seats: &mut Vec<Seat>, hart: u16, visits: Visits) -> Result<(), NoMemory>
     requires few { hart < 256 }
-    requires placed { ArePlaced places.old.items 0 entries.old.items }
-    requires absent { is_some (lookup (eqb hart) entries.old.items) ≡ false }
-    ensures added { OnOk result (entries.new.items ≡ entries.old.items ++ (hart, visits) ∷ []) }
-    ensures refused { OnErr result (entries.new.items ≡ entries.old.items) }
-    ensures placed { ArePlaced places.new.items 0 entries.new.items }
+    requires accessed { visits.accessed < 2 ^ 43 }
+    requires loaded { visits.loaded < 2 ^ 43 }
+    requires round { IsRound (length seats.old.items) }
+    requires absent { seen seats.old.items hart ≡ None }
+    ensures round { IsRound (length seats.new.items) }
+    ensures refused { OnErr result
+        ((h : ℕ) → h < 256 → seen seats.new.items h ≡ seen seats.old.items h) }
+    ensures added { OnOk result ((h : ℕ) → h < 256 → seen seats.new.items h
+        ≡ if eqb h hart then Some visits else seen seats.old.items h) }
 {
-    let place = entries.len();
-    match reach(places, hart) {
+    match make_room(seats, hart) {
         Ok(()) => {}
         Err(fault) => return Err(fault),
     }
-    if entries.push((hart, visits)).is_err() {
-        return Err(NoMemory);
-    }
-    places[usize::from(hart)] = place as u8;
+    let place = place_of(seats, hart);
+    seats[place] = Seat::of(hart, visits);
     Ok(())
 }
 
@@ -121,32 +151,52 @@ impl HartTable {
         ensures { result ≡ [] }
     {
         HartTable {
-            places: Vec::new(alloc),
-            entries: Vec::new(alloc),
+            seats: Vec::new(alloc),
+            came: Comers::new(),
         }
     }
 
     /// What is kept of a hart.
     #[inline(always)]
     pub(crate) fn visits(&self, hart: u16) -> Visits
-        ensures { result ≡ visits_of self.now hart }
+        requires { hart < 256 }
+        ensures value { result ≡ visits_of self.now hart }
+        ensures small { result.loaded < 2 ^ 43 }
     {
-        seen_at(&self.entries, place_of(&self.places, hart), hart)
+        let seat = seat_at(&self.seats, hart);
+        if seat.number() == hart {
+            seat.visits()
+        } else {
+            Visits {
+                accessed: 0,
+                loaded: 0,
+            }
+        }
     }
 
     /// Keeps these visits of a hart. It takes memory where the hart comes for the first time; where
     /// there is none, nothing changes.
     #[inline(always)]
     pub(crate) fn put(&mut self, hart: u16, visits: Visits) -> Result<(), NoMemory>
-        requires { hart < 256 }
+        requires few { hart < 256 }
+        requires accessed { visits.accessed < 2 ^ 43 }
+        requires loaded { visits.loaded < 2 ^ 43 }
         ensures noted { OnOk result (self.new ≡ insert_entry nat_eq self.old hart visits) }
         ensures refused { OnErr result (self.new ≡ self.old) }
         ensures known { IsTrue (is_some (lookup (eqb hart) self.old)) → IsOk result }
     {
-        let place = place_of(&self.places, hart);
-        if put_at(&mut self.entries, place, hart, visits) {
+        let came = self.came.and(&Seat::of(hart, visits));
+        // Each has a seat of its own, so that none has to lie in memory.
+        if put_at(&mut self.seats, hart, Seat::of(hart, visits)) {
+            self.came = came;
             return Ok(());
         }
-        add(&mut self.places, &mut self.entries, hart, visits)
+        match add(&mut self.seats, hart, visits) {
+            Ok(()) => {
+                self.came = came;
+                Ok(())
+            }
+            Err(fault) => Err(fault),
+        }
     }
 }

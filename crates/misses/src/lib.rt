@@ -14,14 +14,18 @@
 #![tactic(auto)]
 
 mod all_lines;
+mod comers;
 mod hart_table;
+mod kept_write;
 mod laws;
 mod line_misses;
 mod observer;
 mod recent;
+mod seat;
 mod text;
 
 pub use all_lines::{Misses, Row};
 pub use laws::{costs_add_up, padding_saves_what_is_useless, word_lines_waste_nothing};
 pub use line_misses::Costs;
 pub use observer::MissSightings;
+pub use recent::Recent;

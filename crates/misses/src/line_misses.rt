@@ -7,6 +7,7 @@ ghost use Rattle.misses.specs.Fits.{IsFew};
 ghost use Rattle.misses.specs.Kept.{visits_after, visits_of};
 
 use crate::hart_table::HartTable;
+use crate::kept_write::KeptWrite;
 use base::{Access, Kind, NoMemory};
 use std::alloc::Global;
 use std::marker::Model;
@@ -54,7 +55,7 @@ pub struct Costs {
 #[derive(Drop)]
 pub struct LineMisses {
     written: u64,
-    words: Vec<LastWrite>,
+    words: Vec<KeptWrite>,
     harts: HartTable,
     counts: Counts,
 }
@@ -129,12 +130,12 @@ impl Counts {
 }
 
 // So many words of which none was written.
-fn blank_words(alloc: Global, count: usize) -> Result<Vec<LastWrite>, NoMemory>
+fn blank_words(alloc: Global, count: usize) -> Result<Vec<KeptWrite>, NoMemory>
     ensures { IfOk result (λ v. v.items ≡ Rattle.misses.specs.Kept.blank_words count) }
 {
-    let mut words = Vec::new(alloc);
+    let mut words = Vec::with_capacity(alloc, count)?;
     for _ in 0..count {
-        words.push(LastWrite { behind: 0, hart: 0 })?;
+        words.push(KeptWrite::none())?;
     }
     Ok(words)
 }
@@ -172,7 +173,7 @@ impl LineMisses {
         Cost {
             cold: visits.accessed == 0,
             missed: visits.misses(self.written),
-            needed: visits.needs(hart, self.words[place]),
+            needed: visits.needs(hart, self.words[place].write()),
         }
     }
 
@@ -180,16 +181,14 @@ impl LineMisses {
     fn write(&mut self, position: u64, place: usize, hart: u16)
         requires early { position < 2 ^ 40 }
         requires within { place < length self.old.words }
+        requires few { hart < 256 }
         ensures { self.new ≡ record self.old {
           written = position + 1;
           words = slice_set self.old.words place (record { behind = position + 1; hart = hart });
         } }
     {
         self.written = position + 1;
-        self.words[place] = LastWrite {
-            behind: position + 1,
-            hart,
-        };
+        self.words[place] = KeptWrite::of(position + 1, hart);
     }
 
     /// Notes the access at a position, to the word at a place of the line, and says what it costs.

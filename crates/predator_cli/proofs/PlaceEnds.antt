@@ -1,5 +1,6 @@
 -- What a reading of a trace gives `place`.
 use Rattle.std.proofs.Common.{◌≡◌, ◌∙◌, ℕ, List, [], Option, ap, inl, inr, subst, sym}
+use Rattle.std.specs.Prelude.{IfOk, Result, Ok, Err}
 use Rattle.std.specs.Option.{option_map_or}
 use Rattle.command_line.specs.Place.{PlaceDemand}
 use Rattle.command_line.specs.Words.{Demand}
@@ -122,3 +123,10 @@ answered_behind d a m b text read answered = record {
   work = answered.work;
   again = answered.again;
 }
+
+-- the same where a call may have given a text
+pub answered_ok : {T E : Type 0} (items : T → List ℕ) (d : Demand) (a m b : Outside) (r : Result T E)
+    → HasRead a m → IfOk r (λ x. IsAnswered d m b (items x))
+    → IfOk r (λ x. IsAnswered d a b (items x))
+answered_ok items d a m b (Ok x) read answered = answered_behind d a m b (items x) read answered
+answered_ok items d a m b (Err e) read answered = tt

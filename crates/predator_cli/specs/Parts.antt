@@ -96,3 +96,34 @@ SplitRepeats demand files =
     → AllFind how None demand.trace files (first ∷ later)
     → last_replayed how None demand.trace files (first ∷ later)
     ≡ replayed (part_replay how None demand.trace how.save) files
+
+-- ---- two halves alone
+
+-- The two halves that `split` makes of a trace, each replayed: the first replay finds the first half
+-- and saves its state, and the second one finds the second half and that state, of at most 2^40
+-- bytes. The settings are the same each time.
+pub record TwoHalves (how : Counting) (demand : SplitDemand) (files : Files) : Type 0 where
+  -- the name of the state, and what each replay finds
+  pub state : List ℕ
+  pub at_first : Files
+  pub at_second : Files
+  pub apart : demand.first ≢ demand.second
+  pub first : at_first demand.first ≡ bytes_for (halved demand files).outputs demand.first
+  pub second : at_second demand.second ≡ bytes_for (halved demand files).outputs demand.second
+  pub saved : at_second state
+      ≡ bytes_for (replayed (part_replay how None demand.first (Some state)) at_first).outputs state
+  pub short : length (content at_second state) ≤ 2 ^ 40
+  pub first_settings : settings_in how.settings at_first ≡ settings_in how.settings files
+  pub second_settings : settings_in how.settings at_second ≡ settings_in how.settings files
+
+-- Where the files hold a trace from position 0 on, and the settings are accepted, the replay of the
+-- second half answers what the replay of the whole answers. It is `SplitRepeats` for one cut.
+abbrev pub TwoHalvesRepeat : SplitDemand → Files → Type 0
+TwoHalvesRepeat demand files =
+    (how : Counting) (t : Trace) (halves : TwoHalves how demand files)
+    → All (λ b. b < 256) (content files demand.trace)
+    → trace_of (content files demand.trace) ≡ Some t → t.header.first ≡ 0
+    → first_refusal (settings_readings how.settings) files ≡ None
+    → IfSome how.layout (λ g. IsTrue (is_layout g.size g.offset))
+    → replayed (part_replay how (Some halves.state) demand.second how.save) halves.at_second
+    ≡ replayed (part_replay how None demand.trace how.save) files

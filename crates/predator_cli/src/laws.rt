@@ -22,7 +22,7 @@ ghost use Rattle.trace_passes.specs.Passes.{Trace, all_records, trace_of};
 ghost use Rattle.predator_cli.specs.Answer.{answer_of};
 ghost use Rattle.predator_cli.specs.GoesOn.{HoldsBoth, IsCutIn, MayStand, NotesAlone, begun_of};
 ghost use Rattle.predator_cli.specs.GoesOn.{work_of_both};
-ghost use Rattle.predator_cli.specs.Parts.{SplitRepeats};
+ghost use Rattle.predator_cli.specs.Parts.{SplitRepeats, TwoHalvesRepeat};
 ghost use Rattle.predator_cli.specs.Replay.{begun_in, grid_in, levels_in, replay_work};
 ghost use Rattle.predator_cli.specs.Replay.{work_after};
 ghost use Rattle.predator_cli.specs.States.{judged_state, state_of_records};
@@ -106,4 +106,12 @@ pub fn a_trace_counts_in_parts()
     the_halves_are_traces();
     what_is_noted_is_seen();
     what_stands_was_noted();
+}
+
+/// The two halves that `split` makes of a trace, the second replayed from the saved state of the
+/// first, give what the replay of the whole gives. Nothing is done.
+pub fn two_halves_count_as_the_whole()
+    ensures { (demand : SplitDemand) (files : Files) → TwoHalvesRepeat demand files }
+{
+    a_trace_counts_in_parts();
 }

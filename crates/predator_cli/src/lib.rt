@@ -42,6 +42,8 @@ mod trace_faults;
 
 pub use command::predator;
 pub use command_files::{StateFault, Status, advice_on};
-pub use laws::{a_replay_goes_on_from_a_list, a_trace_counts_in_parts};
+pub use laws::{
+    a_replay_goes_on_from_a_list, a_trace_counts_in_parts, two_halves_count_as_the_whole,
+};
 pub use on_disk::{predator_on_disk, system_shelf};
 pub use steady::predator_steady;

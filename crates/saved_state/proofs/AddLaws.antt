@@ -3,7 +3,7 @@ use Rattle.std.proofs.Common.{◌≡◌, ℕ, zero, suc, ◌+◌, ◌-◌, ◌*�
 use Rattle.std.proofs.Common.{false, eqb, List, [], ◌∷◌, ◌++◌, map, pos, refl, sym, ap, ◌∙◌, subst}
 use Rattle.std.proofs.Common.{arith, inl, inr, length, drop, ◌&&◌}
 use Rattle.std.proofs.lemmas.Bool.{and_parts, cases_Bool, cases_lt, eqb-true, false≢true, ltb-true}
-use Rattle.std.proofs.lemmas.Bool.{leb-true}
+use Rattle.std.proofs.lemmas.Bool.{le-leb, leb-true}
 use Rattle.std.proofs.lemmas.Bool.Decides.{nat_tests}
 use Rattle.std.proofs.lemmas.List.Elements.{filter-append}
 use Rattle.std.proofs.lemmas.List.Folds.{list_all-append}
@@ -11,12 +11,11 @@ use Rattle.std.proofs.lemmas.List.{length-map, map-append}
 use Rattle.std.proofs.lemmas.Option.{none-some, same_Some, slice_get-map}
 use Rattle.std.proofs.Math.Nat.{div-mul-le_self}
 use Rattle.std.specs.Prelude.{if◌then◌else◌, int_le, is_some, nat_le, nat_lt, not, None, Option}
-use Rattle.std.specs.Prelude.{Some, Err, option_and_then, option_map, slice_get}
+use Rattle.std.specs.Prelude.{Some, option_and_then, option_map, slice_get}
 use Rattle.std.specs.List.{list_all, list_any}
 use Rattle.std.specs.Option.{option_map_or}
 use Rattle.base.specs.Levels.{is_from_to}
 use Rattle.base.specs.Lines.{Grid, is_layout, is_line_size, line_number}
-use Rattle.base.specs.declared.faults.ResumeFault.TheVariants.{BadState}
 use Rattle.sharing_rules.specs.Listed.{rank}
 use Rattle.sharing_rules.specs.Members.{IsRising, Member}
 use Rattle.sharing_rules.specs.Laws.Orders.{lt_transitive}
@@ -33,7 +32,7 @@ use Rattle.saved_state.specs.Laws.Counted.{rising-push}
 use Rattle.saved_state.specs.Laws.Lengths.{length-line, length-track}
 use Rattle.saved_state.specs.Laws.Reading.{each_passes, line_is}
 use Rattle.saved_state.specs.Laws.Parts.{track_in-alone}
-use Rattle.saved_state.specs.Reading.{Units, read_units}
+use Rattle.saved_state.specs.Reading.{read_units}
 use Rattle.saved_state.specs.Spelling.{Header, spell_line, spell_track}
 use Rattle.saved_state.specs.Units.{IsSized, both_due, due, is_base, is_good_line, is_kind_placed}
 use Rattle.saved_state.specs.Units.{is_line, is_multiple, is_placed, is_predicted, is_shifted_at}
@@ -49,6 +48,7 @@ use Rattle.saved_state.proofs.LineLaws.{any_due, counted-insert, counts-insert, 
 use Rattle.saved_state.proofs.LineLaws.{some_due}
 use Rattle.saved_state.proofs.PlaceLaws.{fresh_doubled, fresh_own, fresh_shifted, own_line}
 use Rattle.saved_state.proofs.PlaceLaws.{shaped_doubled, shaped_own, shaped_shifted}
+use Rattle.saved_state.proofs.LoopLaws.{next_unit}
 use Rattle.saved_state.proofs.SaveLaws.{counted_lines-counted}
 use Rattle.saved_state.specs.Laws.Again.{times_up, in_range}
 use Rattle.sharing_rules.specs.Lines.{number_of_base}
@@ -176,15 +176,6 @@ added_behind h w l bytes is =
     let line = good_line h (counted_lines w.writes) l (good_of h w l bytes is) in
     counted-insert w.writes l line.below line.some
 
-read_some : {X : Type 0} (unit : List X → List ℕ → Option X) (spell : X → List ℕ) (n : ℕ)
-    (u : Units X) (x : X) → unit u.read u.left ≡ Some x
-    → read_units unit spell (suc n) u ≡ read_units unit spell n (record {
-      read = u.read ++ x ∷ [];
-      place = u.place + length (spell x);
-      left = drop (length (spell x)) u.left;
-    })
-read_some unit spell n u x is = rw is refl
-
 -- a line more was read
 pub next_line : (h : Header) (w : Watch) (l : CountedLine) (place : ℕ) (bytes : List ℕ) (more : ℕ)
     → line_in h (counted_lines w.writes) bytes ≡ Some l
@@ -194,20 +185,13 @@ pub next_line : (h : Header) (w : Watch) (l : CountedLine) (place : ℕ) (bytes 
 next_line h w l place bytes more is =
     let unit = line_is h (counted_lines w.writes) bytes l is in
     let line = good_line h (counted_lines w.writes) l unit.is_good in
-    let size = length-line h.grid l in
-    let behind = sym (counted-insert w.writes l line.below line.some) in
-    read_some (line_in h) (spell_line h.grid) more (lines_at w place bytes) l is
-    ∙ ap (read_units (line_in h) (spell_line h.grid) more) (λ i. record {
-      read = behind i;
-      place = place + size i;
-      left = drop (size i) bytes;
-    })
-
-pub no_line : (h : Header) (w : Watch) (place : ℕ) (bytes : List ℕ) (more : ℕ)
-    → line_in h (counted_lines w.writes) bytes ≡ None
-    → read_units (line_in h) (spell_line h.grid) (suc more) (lines_at w place bytes)
-    ≡ Err (BadState place)
-no_line h w place bytes more none = rw none refl
+    next_unit (line_in h) (spell_line h.grid) (lines_at w place bytes) l 16 more is
+    (length-line h.grid l)
+    ∙ ap (λ (ls : List CountedLine). read_units (line_in h) (spell_line h.grid) more (record {
+      read = ls;
+      place = place + 16;
+      left = drop 16 bytes;
+    })) (sym (counted-insert w.writes l line.below line.some))
 
 member_at : {X : Type 0} (xs : List X) (i : ℕ) (x : X) → slice_get xs i ≡ Some x → Member x xs
 member_at [] i x at = absurd (none-some x at)
@@ -339,16 +323,13 @@ predicted_is h w x ready predicts few high =
     let lines = counted_lines w.writes in
     let k = number_of_base h.grid x.range.base in
     let all : nat_le (length (due h lines)) (length w.tracks) ≡ true =
-    within (length (due h lines)) (length w.tracks)
+    le-leb (length (due h lines)) (length w.tracks)
     (omega (arith, few, length-map (due h lines) (λ (l : CountedLine). l.number))) in
     ap (λ b. b && nat_le (length (due h lines)) (length w.tracks) && int_le (pos 0) x.range.base
     && both_due h lines k) predicts
     ∙ ap (λ b. true && b && int_le (pos 0) x.range.base && both_due h lines k) all
     ∙ ap (λ b. true && true && b && both_due h lines k) high
     ∙ pair_due h w k ready
-  where
-    within : (a b : ℕ) → a ≤ b → nat_le a b ≡ true
-    within a b h = grind (arith, nat_tests)
 
 -- the fields of a rule on predicted tracks
 record IsPredicted (h : Header) (w : Watch) (x : Kept) : Type 0 where
@@ -557,19 +538,8 @@ pub next_track : (h : Header) (w : Watch) (x : Kept) (place : ℕ) (bytes : List
     (tracks_at (with_track w x) (place + (32 + 20 * length x.words))
     (drop (32 + 20 * length x.words) bytes))
 next_track h w x place bytes more is =
-    let size = length-track x in
-    read_some (track_in h (counted_lines w.writes)) spell_track more (tracks_at w place bytes) x is
-    ∙ ap (read_units (track_in h (counted_lines w.writes)) spell_track more) (λ i. record {
-      read = w.tracks ++ x ∷ [];
-      place = place + size i;
-      left = drop (size i) bytes;
-    })
-
-pub no_track : (h : Header) (w : Watch) (place : ℕ) (bytes : List ℕ) (more : ℕ)
-    → track_in h (counted_lines w.writes) w.tracks bytes ≡ None
-    → read_units (track_in h (counted_lines w.writes)) spell_track (suc more)
-    (tracks_at w place bytes) ≡ Err (BadState place)
-no_track h w place bytes more none = rw none refl
+    next_unit (track_in h (counted_lines w.writes)) spell_track (tracks_at w place bytes) x
+    (32 + 20 * length x.words) more is (length-track x)
 
 -- a track that is good by itself is read where it may stand
 pub placed_track : (h : Header) (w : Watch) (x : Kept) (bytes : List ℕ)

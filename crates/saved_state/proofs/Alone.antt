@@ -2,7 +2,7 @@
 use Rattle.std.proofs.Common.{◌≡◌, ℕ, ◌+◌, ◌-◌, ◌*◌, ◌/◌, ◌<◌, ◌≤◌, Bool, true, false, ◌&&◌, leb}
 use Rattle.std.proofs.Common.{ltb, eqb, List, []}
 use Rattle.std.proofs.Common.{◌∷◌, length, drop, replicate, refl, sym, ap, ◌∙◌, subst, arith}
-use Rattle.std.proofs.lemmas.Bool.{and_parts}
+use Rattle.std.proofs.lemmas.Bool.{and_parts, eqb-true, leb-true, ltb-true}
 use Rattle.std.proofs.lemmas.Bool.Decides.{nat_tests}
 use Rattle.std.proofs.lemmas.List.Sums.{sum_by-cons}
 use Rattle.std.proofs.lemmas.Option.{none-some, same_Some}
@@ -118,14 +118,8 @@ untouched harts w good none =
   where
     unowned : (o : Owner) (n : ℕ) → can_own o n ≡ true → n ≡ 0 → o ≡ owner.None
     unowned owner.None n can none = refl
-    unowned (owner.One h) n can none = absurd (some 1 n can none (omega arith))
-      where
-        some : (k n : ℕ) → leb k n ≡ true → n ≡ 0 → 1 ≤ k → ⊥
-        some k n can none low = grind (arith, nat_tests)
-    unowned owner.Many n can none = absurd (some 2 n can none (omega arith))
-      where
-        some : (k n : ℕ) → leb k n ≡ true → n ≡ 0 → 1 ≤ k → ⊥
-        some k n can none low = grind (arith, nat_tests)
+    unowned (owner.One h) n can none = absurd (omega (arith, leb-true 1 n can, none))
+    unowned owner.Many n can none = absurd (omega (arith, leb-true 2 n can, none))
 
 pub all_untouched : (harts : ℕ) (ws : List Word) → list_all (is_good_word harts) ws ≡ true
     → sum_by accesses ws ≤ 0
@@ -166,10 +160,7 @@ words-are harts most n bytes passes =
     (sum_by accesses (words_at n bytes)) most) _ passes in
     let inner = and_parts (list_all (is_good_word harts) (words_at n bytes))
     (nat_le (sum_by accesses (words_at n bytes)) most) parts.0 in
-    (inner.0, at_most (sum_by accesses (words_at n bytes)) most inner.1)
-  where
-    at_most : (k m : ℕ) → leb k m ≡ true → k ≤ m
-    at_most k m h = grind (arith, nat_tests)
+    (inner.0, leb-true (sum_by accesses (words_at n bytes)) most inner.1)
 
 pub in_time-from : (h : Header) (x : Kept) (ws : List Word) (o : Option ℕ) → is_since h x o ≡ true
     → sum_by accesses ws ≤ most_of h.position o → IfSome o
@@ -179,15 +170,12 @@ in_time-from h x ws (Some s) since few =
     let parts = and_parts _ (nat_le (sum_by accesses x.words + s) h.position) since in
     let inner = and_parts (are_entries h.harts x.entries)
     (nat_lt (x.count + s) h.position) parts.0 in
-    let counted = under (x.count + s) h.position inner.1 in
+    let counted = ltb-true (x.count + s) h.position inner.1 in
     record {
       later = omega (arith, counted);
       accessed = omega (arith, counted, few);
       counted = counted;
     }
-  where
-    under : (k m : ℕ) → ltb k m ≡ true → k < m
-    under k m h = grind (arith, nat_tests)
 
 pub blank-from : (h : Header) (x : Kept) (ws : List Word) (o : Option ℕ) → is_since h x o ≡ true → o
     ≡ None
@@ -199,13 +187,10 @@ blank-from h x ws None since none good few long =
     let parts = and_parts _ (eqb (sum_by accesses x.words) 0) since in
     let inner = and_parts (eqb (length x.entries) 0) (eqb x.count 0) parts.0 in
     record {
-      count = zero_by x.count inner.1;
+      count = eqb-true x.count 0 inner.1;
       words = all_untouched h.harts ws good few ∙ ap (λ n. replicate n (tally [])) long
           ∙ map_below_same (x.range.size / 4) (tally []);
     }
-  where
-    zero_by : (n : ℕ) → eqb n 0 ≡ true → n ≡ 0
-    zero_by n h = grind (arith, nat_tests)
 
 -- what there is, and what there isn't
 pub there-is : {X : Type 0} (o : Option X) (P : Type 0) (v x : X) → o ≡ Some x → SomeIff o P v → P

@@ -1,151 +1,109 @@
--- The units of blocks are exact.
-use Rattle.std.proofs.Common.{◌≡◌, ℕ, ◌+◌, ◌-◌, ◌^◌, ◌<◌, ◌≤◌, true, false, eqb, eqb-true, leb}
-use Rattle.std.proofs.Common.{List, [], ◌∷◌, ◌++◌}
-use Rattle.std.proofs.Common.{length, get_or, take, drop, All, Option, Some, None, Result, Ok, refl}
-use Rattle.std.proofs.Common.{sym, ap, subst, ◌∙◌, inl, inr, arith}
-use Rattle.std.proofs.lemmas.Bool.{and_parts, cases_Bool}
+-- A block is read as it was spelled, and one that is read is good.
+use Rattle.std.proofs.Common.{◌≡◌, ℕ, ◌^◌, ◌<◌, ◌≤◌, true, false, eqb, leb, List, [], ◌∷◌, ◌++◌}
+use Rattle.std.proofs.Common.{length, get_or, All, Option, Some, None, refl, sym, ap, subst, ◌∙◌, arith}
+use Rattle.std.specs.Prelude.{not}
+use Rattle.std.proofs.lemmas.Bool.{and_from, and_parts, not-true}
 use Rattle.std.proofs.lemmas.Bool.Decides.{nat_tests}
-use Rattle.std.proofs.lemmas.List.{drop-drop, drop-take, get_or-take, length-append, length-take-le}
-use Rattle.std.proofs.lemmas.List.{take-append-drop, take-take}
-use Rattle.std.proofs.lemmas.List.Elements.{All-take}
-use Rattle.std.proofs.lemmas.Nat.{from_le_bytes-to_le_bytes_8}
-use Rattle.std.specs.Int.{Width, byte_len, from_le_bytes, to_le_bytes, w32, w64}
-use Rattle.std.proofs.Math.Seq.{drop-append_seam, take-append_seam}
+use Rattle.std.proofs.lemmas.List.Elements.{All-cons, All-nil}
+use Rattle.std.proofs.lemmas.Nat.{from_le_bytes-to_le_bytes_4, from_le_bytes-to_le_bytes_8}
 use Rattle.objects.specs.declared.block.Block.{Block}
-use Rattle.trace_format.specs.declared.fault.TraceFault.{TraceFault}
-use Rattle.trace_format.specs.declared.record.TraceRecord.{TraceRecord}
-use Rattle.trace_format.specs.declared.record.TraceRecord.TheVariants as records
-use Rattle.trace_format.specs.declared.record.Version.TheVariants.{One}
-use Rattle.trace_format.specs.Laws.Again.{record_again}
-use Rattle.trace_format.specs.Laws.Bytes.{bytes_of, from_part, last_part, spelled_64}
-use Rattle.trace_format.specs.Found.{IsFound}
-use Rattle.trace_format.specs.Judging.{alloc_at, record_extent, record_judged}
+use Rattle.objects.specs.Blocks.{live_together, meets_live}
+use Rattle.trace_format.specs.Laws.Bytes.{below_32, bytes_of}
+use Rattle.trace_format.specs.Spelling.{spell_alloc}
 use Rattle.base.specs.Fields.{number_at}
-use Rattle.trace_format.specs.Spelling.{nothing_before, spell_alloc}
-use Rattle.trace_format.specs.Laws.Before.{nothing_good}
-use Rattle.trace_format.specs.Laws.Spelling.{record_whole}
-use Rattle.saved_state.specs.ObjectJudging.{block_at, block_form, block_read, death_of, is_life}
+use Rattle.std.specs.Int.{from_le_bytes, to_le_bytes, w32, w64}
+use Rattle.saved_state.specs.Laws.Again.{spelled_again}
+use Rattle.saved_state.specs.Laws.Reading.{IsUnit, unit_is, unit_told}
+use Rattle.saved_state.specs.ObjectJudging.{block_at, block_in, death_of, is_good_block, is_life}
 use Rattle.saved_state.specs.ObjectRules.{IsSavedBlock}
 use Rattle.saved_state.specs.ObjectSpelling.{death_number, no_death, spell_block}
-use Rattle.saved_state.proofs.SymbolUnits.{RecordsFound, alone, if_true}
-use Rattle.saved_state.proofs.UnitLaws.{FindsGood, IsByte, ReadsAgain}
+use Rattle.saved_state.proofs.Spelled.{if_spelled-short}
+use Rattle.saved_state.proofs.UnitLaws.{IsByte, MayFollow}
 
--- ---- numbers
+-- bytes that are too few
+pub block_in-short : (position : ℕ) (before : List Block) (bytes : List ℕ) → length bytes < 41
+    → block_in position before bytes ≡ None
+unfolding block_in block_at spell_block spell_alloc
+block_in-short position before bytes few =
+    if_spelled-short spell_block (is_good_block position before (block_at bytes)) (block_at bytes)
+    bytes few
 
--- a number within the first bytes is theirs
-number_within : (w : Width) (place k : ℕ) (bytes : List ℕ) → place + byte_len w ≤ k
-    → number_at w place (take k bytes) ≡ number_at w place bytes
-number_within w place k bytes le =
-    let cut : drop place (take (place + (k - place)) bytes) ≡ take (k - place) (drop place bytes) =
-    drop-take place (k - place) bytes in
-    let whole : place + (k - place) ≡ k = omega arith in
-    let again : drop place (take k bytes) ≡ take (k - place) (drop place bytes) =
-    ap (λ (n : ℕ). drop place (take n bytes)) (sym whole) ∙ cut in
-    ap (λ (xs : List ℕ). from_le_bytes w (take (byte_len w) xs)) again
-    ∙ ap (from_le_bytes w) (take-take (byte_len w) (k - place) (drop place bytes) (omega arith))
+four_of : (xs : List ℕ) → length xs ≡ 4
+    → xs ≡ get_or xs 0 0 ∷ get_or xs 1 0 ∷ get_or xs 2 0 ∷ get_or xs 3 0 ∷ []
+four_of (p ∷ q ∷ r ∷ s ∷ []) is = refl
+four_of [] is = absurd (omega arith)
+four_of (p ∷ []) is = absurd (omega arith)
+four_of (p ∷ q ∷ []) is = absurd (omega arith)
+four_of (p ∷ q ∷ r ∷ []) is = absurd (omega arith)
+four_of (p ∷ q ∷ r ∷ s ∷ t ∷ xs) is = absurd (omega arith)
 
-death_again : (n : ℕ) → death_number (death_of n) ≡ n
-death_again n =
-    elim (cases_Bool (eqb n no_death)) [
-      | inl none ↦ rw none (sym (eqb-true n no_death none))
-      | inr some ↦ rw some refl
-    ]
+-- the bytes of a block, site by site
+pub spelled_sites : (b : Block) → length b.sites ≡ 4
+    → spell_block b ≡ 3 ∷ (to_le_bytes w32 b.addr ++ (to_le_bytes w32 b.size
+    ++ (to_le_bytes w32 (get_or b.sites 0 0) ++ (to_le_bytes w32 (get_or b.sites 1 0)
+    ++ (to_le_bytes w32 (get_or b.sites 2 0) ++ (to_le_bytes w32 (get_or b.sites 3 0)
+    ++ (to_le_bytes w64 b.born ++ to_le_bytes w64 (death_number b.died))))))))
+unfolding spell_block spell_alloc
+spelled_sites b four =
+    ap (λ (sites : List ℕ). spell_block (record b { sites = sites })) (four_of b.sites four)
 
--- ---- what is read was spelled
+-- ---- a block that is read
 
-judged_alloc : (bytes : List ℕ) → get_or bytes 0 0 ≡ 3 → record_judged alone bytes
-    ≡ Ok (alloc_at bytes)
-unfolding record_judged
-judged_alloc bytes tag = rw tag refl
+pub block_is : (position : ℕ) (before : List Block) (bytes : List ℕ) (b : Block)
+    → block_in position before bytes ≡ Some b
+    → IsUnit spell_block (is_good_block position before) bytes b × (block_at bytes ≡ b)
+unfolding block_in
+block_is position before bytes b is = (
+  unit_is spell_block (is_good_block position before) (block_at bytes) b bytes is,
+  unit_told spell_block (is_good_block position before (block_at bytes)) (block_at bytes) b bytes
+      is,
+)
 
-alloc_there : (bytes : List ℕ) → get_or bytes 0 0 ≡ 3 → record_extent One bytes ≡ 25
-unfolding record_extent
-alloc_there bytes tag = rw tag refl
+length-told : (bytes : List ℕ) → length (spell_block (block_at bytes)) ≡ 41
+unfolding block_at spell_block spell_alloc
+length-told bytes = refl
 
--- the alloc whose fields stand in these bytes
-fields_of : List ℕ → TraceRecord
-fields_of bytes =
-    records.Alloc (number_at w32 1 bytes) (number_at w32 5 bytes)
-    (number_at w32 9 bytes ∷ number_at w32 13 bytes ∷ number_at w32 17 bytes
-    ∷ number_at w32 21 bytes ∷ [])
+-- it has 41 bytes
+pub length-block : (position : ℕ) (before : List Block) (bytes : List ℕ) (b : Block)
+    → block_in position before bytes ≡ Some b → length (spell_block b) ≡ 41
+length-block position before bytes b is =
+    ap (λ (x : Block). length (spell_block x)) (sym (block_is position before bytes b is).1)
+    ∙ length-told bytes
 
-same_fields : (unit : List ℕ) → alloc_at (take 25 unit) ≡ fields_of unit
-unfolding alloc_at fields_of
-same_fields unit =
-    let n1 = number_within w32 1 25 unit (omega arith) in
-    let n5 = number_within w32 5 25 unit (omega arith) in
-    let n9 = number_within w32 9 25 unit (omega arith) in
-    let n13 = number_within w32 13 25 unit (omega arith) in
-    let n17 = number_within w32 17 25 unit (omega arith) in
-    let n21 = number_within w32 21 25 unit (omega arith) in
-    λ i. records.Alloc (n1 i) (n5 i) (n9 i ∷ n13 i ∷ n17 i ∷ n21 i ∷ [])
+-- its fields fit
+fits_block : (position : ℕ) (bytes : List ℕ) → All IsByte bytes
+    → is_life position (block_at bytes).born (block_at bytes).died ≡ true
+    → IsSavedBlock position (block_at bytes)
+unfolding block_at
+fits_block position bytes fits life =
+    let is = bytes_of bytes fits in
+    let Small : ℕ → Type 0 = λ n. n < 2 ^ 32 in
+    let site : ℕ → ℕ = λ place. number_at w32 place bytes in
+    record {
+      addr_in_range = below_32 bytes 1 is;
+      size_in_range = below_32 bytes 5 is;
+      four = refl;
+      sites_in_range =
+          All-cons Small (site 9) (site 13 ∷ site 17 ∷ site 21 ∷ []) (below_32 bytes 9 is)
+          (All-cons Small (site 13) (site 17 ∷ site 21 ∷ []) (below_32 bytes 13 is)
+          (All-cons Small (site 17) (site 21 ∷ []) (below_32 bytes 17 is)
+          (All-cons Small (site 21) [] (below_32 bytes 21 is) (All-nil Small))));
+      life = life;
+    }
 
--- the birth and the death stand behind it
-life_spelled : (unit : List ℕ) → All IsByte unit → length unit ≡ 41
-    → drop 25 unit ≡ to_le_bytes w64 (number_at w64 25 unit)
-    ++ to_le_bytes w64 (death_number (death_of (number_at w64 33 unit)))
-life_spelled unit fits size =
-    let born = spelled_64 unit 25 (bytes_of unit fits) (omega arith) in
-    let died = ap (to_le_bytes w64) (death_again (number_at w64 33 unit))
-    ∙ spelled_64 unit 33 (bytes_of unit fits) (omega arith) in
-    from_part unit 25 8 33 refl ∙ (λ i. sym born i
-    ++ (last_part unit 33 8 (omega arith) ∙ sym died) i)
+pub block_follows : (position : ℕ) (before : List Block) (bytes : List ℕ) (b : Block)
+    → All IsByte bytes → block_in position before bytes ≡ Some b
+    → MayFollow (IsSavedBlock position) live_together before b
+block_follows position before bytes b fits is =
+    let unit = block_is position before bytes b is in
+    let rule = and_parts (is_life position b.born b.died) (not (meets_live before b))
+    unit.0.is_good in (
+      subst (IsSavedBlock position) unit.1 (fits_block position bytes fits
+          (subst (λ (x : Block). is_life position x.born x.died ≡ true) (sym unit.1) rule.0)),
+      not-true (meets_live before b) rule.1,
+    )
 
-module _ (records_found : RecordsFound) (position : ℕ) where
-  block_found : (unit : List ℕ) → All IsByte unit → length unit ≡ 41 → get_or unit 0 0 ≡ 3
-      → is_life position (block_at unit).born (block_at unit).died ≡ true
-      → IsSavedBlock position (block_at unit) × (unit ≡ spell_block (block_at unit))
-  unfolding block_at spell_block fields_of
-  block_found unit fits size tag life =
-      let front = take 25 unit in
-      let first : get_or front 0 0 ≡ 3 = get_or-take 25 unit 0 0 (omega arith) ∙ tag in
-      let long : length front ≡ record_extent One front = length-take-le 25 unit (omega arith)
-      ∙ sym (alloc_there front first) in
-      let found : IsFound alone front (fields_of unit) =
-      subst (IsFound alone front) (same_fields unit)
-      (records_found alone front (alloc_at front) (omega arith) nothing_good
-      (All-take IsByte 25 unit fits) long (judged_alloc front first)) in
-      let good = found.good in (
-        record {
-          addr_in_range = good.0;
-          size_in_range = good.1;
-          four = refl;
-          sites_in_range = good.3;
-          life = life;
-        },
-        sym (take-append-drop 25 unit) ∙ (λ i. found.spelled i ++ life_spelled unit fits size i),
-      )
-
-  pub blocks_found : FindsGood (block_form position) (IsSavedBlock position)
-  unfolding block_read
-  blocks_found b bytes fits long read keeps =
-      let unit = take 41 bytes in
-      let told = if_true (eqb (get_or unit 0 0) 3) (Some (block_at unit)) b read in
-      let tag : get_or unit 0 0 ≡ 3 = eqb-true (get_or unit 0 0) 3 told.0 in
-      let known = told.1 in
-      let same : block_at unit ≡ b = cc in
-      let life = subst (λ (x : Block). is_life position x.born x.died ≡ true) (sym same) keeps in
-      subst (λ (x : Block). IsSavedBlock position x × (unit ≡ spell_block x)) same
-      (block_found unit (All-take IsByte 41 bytes fits) (length-take-le 41 bytes long) tag life)
-
--- ---- what the bytes of a block say
-
-pub unread_block : (bytes : List ℕ) → (get_or bytes 0 0 ≡ 3 → ⊥) → block_read (take 41 bytes) ≡ None
-unfolding block_read
-unread_block bytes other =
-    let first = get_or-take 41 bytes 0 0 (omega arith) in
-    let not_three : eqb (get_or bytes 0 0) 3 ≡ false = grind (arith, nat_tests) in
-    rw (first, not_three) refl
-
-pub block_read_as : (bytes unit : List ℕ) (b : Block) → unit ≡ take 41 bytes → get_or bytes 0 0 ≡ 3
-    → b ≡ block_at unit
-    → block_read (take 41 bytes) ≡ Some b
-unfolding block_read
-block_read_as bytes unit b same first is =
-    let tag = get_or-take 41 bytes 0 0 (omega arith) ∙ first in
-    rw tag (ap (λ (x : Block). Some x) (ap block_at (sym same) ∙ sym is))
-
--- ---- and what is spelled is read
+-- ---- a block that is spelled
 
 record IsTold (born : ℕ) (died : Option ℕ) : Type 0 where
   birth : born < 2 ^ 64
@@ -165,87 +123,38 @@ is_told position born (Some died) low life =
     let other : eqb died no_death ≡ false = grind (arith, nat_tests) in
     record { birth = grind (arith, nat_tests); death = omega arith; again = rw other refl }
 
-first_of_block : (b : Block) → get_or (spell_block b) 0 0 ≡ 3
-unfolding spell_block spell_alloc
-first_of_block b = refl
+-- its fields give it back
+of_fields : (position : ℕ) (b : Block) (more : List ℕ) → IsSavedBlock position b
+    → IsTold b.born b.died → block_at (spell_block b ++ more) ≡ b
+unfolding block_at
+of_fields position b more good told =
+    let site : (k : ℕ) → k < 4 → from_le_bytes w32 (to_le_bytes w32 (get_or b.sites k 0))
+    ≡ get_or b.sites k 0 = λ k within. from_le_bytes-to_le_bytes_4 (get_or b.sites k 0)
+    (good.sites_in_range k 0 (omega (arith, within, good.four))) in
+    let addr = from_le_bytes-to_le_bytes_4 b.addr good.addr_in_range in
+    let size = from_le_bytes-to_le_bytes_4 b.size good.size_in_range in
+    let born = from_le_bytes-to_le_bytes_8 b.born told.birth in
+    let died = ap death_of (from_le_bytes-to_le_bytes_8 (death_number b.died) told.death)
+    ∙ told.again in
+    ap (λ (xs : List ℕ). block_at (xs ++ more)) (spelled_sites b good.four)
+    ∙ (λ i. record {
+      addr = addr i;
+      size = size i;
+      sites = site 0 (omega arith) i ∷ site 1 (omega arith) i ∷ site 2 (omega arith) i
+          ∷ site 3 (omega arith) i ∷ [];
+      born = born i;
+      died = died i;
+    })
+    ∙ ap (λ (sites : List ℕ). record b { sites = sites }) (sym (four_of b.sites good.four))
 
-alloc_length : (addr size : ℕ) (sites : List ℕ) → addr < 2 ^ 32 → size < 2 ^ 32 → length sites ≡ 4
-    → All (λ s. s < 2 ^ 32) sites
-    → length (spell_alloc addr size sites) ≡ 25
-unfolding spell_alloc
-alloc_length addr size sites small_addr small_size four each =
-    sym (record_whole One 1 nothing_before (records.Alloc addr size sites) (small_addr, small_size, four, each))
-    ∙ alloc_there (spell_alloc addr size sites) refl
-
-same_item : (a b : TraceRecord) → (let r : Result TraceRecord TraceFault = Ok a in r ≡ Ok b) → a ≡ b
-same_item a b e = cc
-
-alloc_again : (addr size : ℕ) (sites : List ℕ) → addr < 2 ^ 32 → size < 2 ^ 32 → length sites ≡ 4
-    → All (λ s. s < 2 ^ 32) sites
-    → alloc_at (spell_alloc addr size sites) ≡ records.Alloc addr size sites
-unfolding spell_alloc
-alloc_again addr size sites small_addr small_size four each =
-    let judged = record_again alone (records.Alloc addr size sites) (omega arith) nothing_good
-    (small_addr, small_size, four, each) tt in
-    same_item (alloc_at (spell_alloc addr size sites)) (records.Alloc addr size sites)
-    (sym (judged_alloc (spell_alloc addr size sites) refl) ∙ judged)
-
-block_length : (position : ℕ) (b : Block) → IsSavedBlock position b → 41 ≡ length (spell_block b)
-unfolding spell_block
-block_length position b good =
-    let told = to_le_bytes w64 b.born ++ to_le_bytes w64 (death_number b.died) in
-    let first = alloc_length b.addr b.size b.sites good.addr_in_range good.size_in_range good.four
-    good.sites_in_range in
-    let all = length-append (spell_alloc b.addr b.size b.sites) told in
-    omega arith
-
--- the block of such fields with such a life
-with_life : TraceRecord → ℕ → Option ℕ → Option Block
-with_life (records.Alloc addr size sites) born died =
-    Some (record { addr = addr; size = size; sites = sites; born = born; died = died })
-with_life (records.Touch a pc) born died = None
-with_life (records.Free addr) born died = None
-with_life (records.Symbol kind addr size name) born died = None
-with_life (records.End ending) born died = None
-
-told_again : (position : ℕ) (b : Block) → IsSavedBlock position b → IsTold b.born b.died
-    → Some (block_at (spell_block b)) ≡ Some b
-unfolding block_at spell_block fields_of with_life
-told_again position b good told =
-    let front = spell_alloc b.addr b.size b.sites in
-    let life = to_le_bytes w64 b.born ++ to_le_bytes w64 (death_number b.died) in
-    let unit = front ++ life in
-    let size = alloc_length b.addr b.size b.sites good.addr_in_range good.size_in_range good.four
-    good.sites_in_range in
-    let first : take 25 unit ≡ front = ap (λ (n : ℕ). take n unit) (sym size)
-    ∙ take-append_seam front life in
-    let behind : drop 25 unit ≡ life = ap (λ (n : ℕ). drop n unit) (sym size)
-    ∙ drop-append_seam front life in
-    let last : drop 33 unit ≡ drop 8 life = sym (drop-drop 8 25 unit)
-    ∙ ap (λ (xs : List ℕ). drop 8 xs) behind in
-    let fields : fields_of unit ≡ records.Alloc b.addr b.size b.sites =
-    sym (same_fields unit) ∙ ap alloc_at first
-    ∙ alloc_again b.addr b.size b.sites good.addr_in_range good.size_in_range good.four
-    good.sites_in_range in
-    let born : number_at w64 25 unit ≡ b.born =
-    ap (λ (xs : List ℕ). from_le_bytes w64 (take 8 xs)) behind
-    ∙ from_le_bytes-to_le_bytes_8 b.born told.birth in
-    let died : number_at w64 33 unit ≡ death_number b.died =
-    ap (λ (xs : List ℕ). from_le_bytes w64 (take 8 xs)) last
-    ∙ from_le_bytes-to_le_bytes_8 (death_number b.died) told.death in
-    λ i. with_life (fields i) (born i) ((ap death_of died ∙ told.again) i)
-
-block_again : (position : ℕ) (b : Block) → position ≤ 2 ^ 40 → IsSavedBlock position b
-    → block_read (spell_block b) ≡ Some b
-unfolding block_read
-block_again position b low good =
-    rw (first_of_block b) (told_again position b good
-    (is_told position b.born b.died low good.life))
-
-pub blocks_again : (position : ℕ) → position ≤ 2 ^ 40
-    → ReadsAgain (block_form position) (IsSavedBlock position)
-blocks_again position low = record {
-  whole = λ b rest good. block_length position b good;
-  again = λ b good. block_again position b low good;
-  keeps = λ b good. good.life;
-}
+pub block_again : (position : ℕ) (before : List Block) (b : Block) (more : List ℕ)
+    → position ≤ 2 ^ 40 → MayFollow (IsSavedBlock position) live_together before b
+    → block_in position before (spell_block b ++ more) ≡ Some b
+unfolding block_in
+block_again position before b more low may =
+    let good = may.0 in
+    let room : not (meets_live before b) ≡ true = rw may.1 refl in
+    spelled_again spell_block (is_good_block position before) (block_at (spell_block b ++ more)) b
+    more
+    (of_fields position b more good (is_told position b.born b.died low good.life))
+    (and_from (is_life position b.born b.died) (not (meets_live before b)) good.life room)

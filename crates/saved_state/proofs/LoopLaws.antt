@@ -1,7 +1,9 @@
 -- Units that are read one by one.
-use Rattle.std.proofs.Common.{◌≡◌, ℕ, suc, ◌+◌, ◌-◌, ◌<◌, ◌≤◌, List, ap, ◌∙◌, arith}
-use Rattle.std.specs.Prelude.{Option, Ok, Err}
+use Rattle.std.proofs.Common.{◌≡◌, ℕ, suc, ◌+◌, ◌-◌, ◌<◌, ◌≤◌, List, [], ◌∷◌, ◌++◌, length, drop}
+use Rattle.std.proofs.Common.{refl, ap, ◌∙◌, arith}
+use Rattle.std.specs.Prelude.{Option, None, Some, Ok, Err}
 use Rattle.base.specs.declared.faults.ResumeFault.{ResumeFault}
+use Rattle.base.specs.declared.faults.ResumeFault.TheVariants.{BadState}
 use Rattle.saved_state.specs.Reading.{Units, read_units}
 
 -- so many units behind u are what is left of them behind v once some were read
@@ -9,6 +11,25 @@ abbrev pub GoesOn : {X : Type 0} → (List X → List ℕ → Option X) → (X �
     → Units X → Type 0
 GoesOn unit spell count u done v =
     read_units unit spell count u ≡ read_units unit spell (count - done) v
+
+module _ {X : Type 0} (unit : List X → List ℕ → Option X) (spell : X → List ℕ) (u : Units X) where
+  -- one unit more, of so many bytes
+  pub next_unit : (x : X) (size more : ℕ) → unit u.read u.left ≡ Some x → length (spell x) ≡ size
+      → read_units unit spell (suc more) u ≡ read_units unit spell more (record {
+        read = u.read ++ x ∷ [];
+        place = u.place + size;
+        left = drop size u.left;
+      })
+  next_unit x size more is long =
+      rw is (ap (λ (n : ℕ). read_units unit spell more (record {
+        read = u.read ++ x ∷ [];
+        place = u.place + n;
+        left = drop n u.left;
+      })) long)
+
+  pub no_unit : (more : ℕ) → unit u.read u.left ≡ None
+      → read_units unit spell (suc more) u ≡ Err (BadState u.place)
+  no_unit more none = rw none refl
 
 module _ {X : Type 0} (unit : List X → List ℕ → Option X) (spell : X → List ℕ) (count : ℕ)
     (u : Units X) where

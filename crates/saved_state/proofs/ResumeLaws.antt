@@ -1,7 +1,7 @@
 -- What is read of a state, part by part.
-use Rattle.std.proofs.Common.{◌≡◌, ℕ, ◌<◌, ◌≤◌, true, false, List, [], ◌∷◌, length, drop, map, refl}
+use Rattle.std.proofs.Common.{◌≡◌, ℕ, ◌<◌, ◌≤◌, Bool, true, false, List, [], ◌∷◌, length, drop, map, refl}
 use Rattle.std.proofs.Common.{sym, ap, ◌∙◌, arith, inl}
-use Rattle.std.proofs.lemmas.Bool.Decides.{nat_tests}
+use Rattle.std.proofs.lemmas.Bool.{le-leb, lt-leb}
 use Rattle.std.proofs.lemmas.List.{length-map}
 use Rattle.std.specs.Prelude.{if◌then◌else◌, IsTrue, nat_le, Option, Some, Ok, Err, unwrap_or}
 use Rattle.std.specs.List.{list_all}
@@ -72,108 +72,59 @@ module _ (report : ℕ) (h : Header) (g : Grid) (v : Levels) (position : ℕ) (p
   abbrev start : Watch
   start = nothing_kept g v position
 
-  begun : resumption_in report part ≡ resumption_of report
-      (lines_then h (lines_read h h.lines start 64 (drop 64 part)))
+  begun : read_state part ≡ lines_then h (lines_read h h.lines start 64 (drop 64 part))
   begun =
-      ap (λ (o : Option Header). resumption_of report
-      (option_map_or (λ k. lines_then k (read_units (line_in k) (spell_line k.grid) k.lines
-      (record { read = []; place = 64; left = drop 64 part }))) o (Err (BadState 0)))) header
-      ∙ ap (λ (ls : List CountedLine). resumption_of report
-      (lines_then h (read_units (line_in h) (spell_line h.grid) h.lines
-      (record { read = ls; place = 64; left = drop 64 part })))) (sym no_lines)
+      ap (λ (o : Option Header). option_map_or (λ k. lines_then k (read_units (line_in k)
+      (spell_line k.grid) k.lines (record { read = []; place = 64; left = drop 64 part }))) o
+      (Err (BadState 0))) header
+      ∙ ap (λ (ls : List CountedLine). lines_then h (read_units (line_in h) (spell_line h.grid)
+      h.lines (record { read = ls; place = 64; left = drop 64 part }))) (sym no_lines)
 
   pub bad_lines : (fault : ResumeFault) → lines_read h h.lines start 64 (drop 64 part) ≡ Err fault
       → resumption_in report part ≡ Err fault
-  bad_lines fault is = begun ∙ ap (λ r. resumption_of report (lines_then h r)) is
+  bad_lines fault is = ap (resumption_of report) (begun ∙ ap (lines_then h) is)
 
   module _ (w : Watch) (place : ℕ) (left : List ℕ)
       (lines : lines_read h h.lines start 64 (drop 64 part) ≡ Ok (lines_at w place left))
       (trackless : w.tracks ≡ []) where
-    behind_lines : resumption_in report part
-        ≡ resumption_of report (tracks_then h (counted_lines w.writes)
-        (tracks_read h h.tracks w place left))
+    behind_lines : read_state part
+        ≡ tracks_then h (counted_lines w.writes) (tracks_read h h.tracks w place left)
     behind_lines =
-        begun ∙ ap (λ r. resumption_of report (lines_then h r)) lines
-        ∙ ap (λ (xs : List Kept). resumption_of report (tracks_then h (counted_lines w.writes)
+        begun ∙ ap (lines_then h) lines
+        ∙ ap (λ (xs : List Kept). tracks_then h (counted_lines w.writes)
         (read_units (track_in h (counted_lines w.writes)) spell_track h.tracks
-        (record { read = xs; place = place; left = left }))))
-        (sym trackless)
+        (record { read = xs; place = place; left = left }))) (sym trackless)
 
     pub bad_tracks : (fault : ResumeFault) → tracks_read h h.tracks w place left ≡ Err fault
         → resumption_in report part ≡ Err fault
-    bad_tracks fault is = behind_lines ∙ ap (λ r. resumption_of report
-        (tracks_then h (counted_lines w.writes) r)) is
+    bad_tracks fault is =
+        ap (resumption_of report) (behind_lines ∙ ap (tracks_then h (counted_lines w.writes)) is)
 
     module _ (x : Watch) (end : ℕ) (rest : List ℕ)
         (tracks : tracks_read h h.tracks w place left ≡ Ok (tracks_at x end rest)) where
-      whole : resumption_in report part ≡ resumption_of report
-          (if nat_le (length (due h (counted_lines w.writes))) (length x.tracks)
-          then Ok (state_with h (counted_lines w.writes) x.tracks, end) else Err (BadState end))
-      whole = behind_lines ∙ ap (λ r. resumption_of report
-          (tracks_then h (counted_lines w.writes) r)) tracks
+      -- whether each due line has its track
+      whole : (b : Bool) → nat_le (length (due h (counted_lines w.writes))) (length x.tracks) ≡ b
+          → read_state part ≡ (if b then Ok (state_with h (counted_lines w.writes) x.tracks, end)
+          else Err (BadState end))
+      whole b is =
+          behind_lines ∙ ap (tracks_then h (counted_lines w.writes)) tracks
+          ∙ ap (λ c. if c then Ok (state_with h (counted_lines w.writes) x.tracks, end)
+          else Err (BadState end)) is
+
+      due_count : length (due_numbers h w) ≡ length (due h (counted_lines w.writes))
+      due_count = length-map (due h (counted_lines w.writes)) (λ (l : CountedLine). l.number)
 
       pub missing : length x.tracks < length (due_numbers h w) → resumption_in report part
           ≡ Err (BadState end)
       missing few =
-          let not_all : nat_le (length (due h (counted_lines w.writes))) (length x.tracks) ≡ false =
-          above (length (due h (counted_lines w.writes))) (length x.tracks)
-          (omega (
-            arith,
-            few,
-            length-map (due h (counted_lines w.writes))
-                (λ (l : CountedLine). l.number),
-          )) in
-          whole ∙ ap (λ b. resumption_of report (if b then Ok
-          (state_with h (counted_lines w.writes) x.tracks, end) else Err
-          (BadState end)))
-          not_all
-        where
-          above : (a b : ℕ) → b < a → nat_le a b ≡ false
-          above a b less = grind (arith, nat_tests)
-
-      pub all_read : length (due_numbers h w) ≤ length x.tracks → IsReady h x → x.writes ≡ w.writes
-          → x.levels ≡ record { tracking = h.tracking; prediction = h.prediction; report = report }
-          → resumption_in report part ≡ Ok (resumption x h.harts end)
-      all_read enough ready writes levels =
-          let all : nat_le (length (due h (counted_lines w.writes))) (length x.tracks) ≡ true =
-          within (length (due h (counted_lines w.writes))) (length x.tracks)
-          (omega (
-            arith,
-            enough,
-            length-map (due h (counted_lines w.writes))
-                (λ (l : CountedLine). l.number),
-          )) in
-          let counts : counts_in (counted_lines w.writes) ≡ x.writes =
-          ap (λ m. counts_in (counted_lines m)) (sym writes) ∙ sym ready.counts in
-          let same : watch_in report (state_with h (counted_lines w.writes) x.tracks) ≡ x =
-          λ i. record {
-            position = sym ready.position i;
-            grid = sym ready.grid i;
-            levels = sym levels i;
-            writes = counts i;
-            tracks = x.tracks;
-          } in
-          whole
-          ∙ ap (λ b. resumption_of report (if b then Ok
-          (state_with h (counted_lines w.writes) x.tracks, end) else Err (BadState end))) all
-          ∙ ap (λ (y : Watch). Ok (resumption y h.harts end)) same
-        where
-          within : (a b : ℕ) → a ≤ b → nat_le a b ≡ true
-          within a b less = grind (arith, nat_tests)
+          ap (resumption_of report) (whole false (lt-leb (length (due h (counted_lines w.writes)))
+          (length x.tracks) (omega (arith, few, due_count))))
 
       -- the state itself
       pub state_read : length (due_numbers h w) ≤ length x.tracks → IsReady h x → x.writes
           ≡ w.writes
           → read_state part ≡ Ok (state_of h.harts x, end)
       state_read enough ready writes =
-          let all : nat_le (length (due h (counted_lines w.writes))) (length x.tracks) ≡ true =
-          within (length (due h (counted_lines w.writes))) (length x.tracks)
-          (omega (
-            arith,
-            enough,
-            length-map (due h (counted_lines w.writes))
-                (λ (l : CountedLine). l.number),
-          )) in
           let same : state_with h (counted_lines w.writes) x.tracks ≡ state_of h.harts x =
           λ i. record {
             grid = sym ready.grid i;
@@ -184,21 +135,20 @@ module _ (report : ℕ) (h : Header) (g : Grid) (v : Levels) (position : ℕ) (p
             lines = counted_lines (sym writes i);
             tracks = x.tracks;
           } in
-          ap (λ (o : Option Header). option_map_or (λ k. lines_then k
-          (read_units (line_in k) (spell_line k.grid) k.lines
-          (record { read = []; place = 64; left = drop 64 part }))) o (Err (BadState 0))) header
-          ∙ ap (λ (ls : List CountedLine). lines_then h
-          (read_units (line_in h) (spell_line h.grid) h.lines
-          (record { read = ls; place = 64; left = drop 64 part }))) (sym no_lines)
-          ∙ ap (lines_then h) lines
-          ∙ ap (λ (xs : List Kept). tracks_then h (counted_lines w.writes)
-          (read_units (track_in h (counted_lines w.writes)) spell_track h.tracks
-          (record { read = xs; place = place; left = left })))
-          (sym trackless)
-          ∙ ap (tracks_then h (counted_lines w.writes)) tracks
-          ∙ ap (λ b. if b then Ok (state_with h (counted_lines w.writes) x.tracks, end) else Err
-          (BadState end)) all
+          whole true (le-leb (length (due h (counted_lines w.writes))) (length x.tracks)
+          (omega (arith, enough, due_count)))
           ∙ ap (λ (s : State). Ok (s, end)) same
-        where
-          within : (a b : ℕ) → a ≤ b → nat_le a b ≡ true
-          within a b less = grind (arith, nat_tests)
+
+      pub all_read : length (due_numbers h w) ≤ length x.tracks → IsReady h x → x.writes ≡ w.writes
+          → x.levels ≡ record { tracking = h.tracking; prediction = h.prediction; report = report }
+          → resumption_in report part ≡ Ok (resumption x h.harts end)
+      all_read enough ready writes levels =
+          let same : watch_in report (state_of h.harts x) ≡ x = λ i. record {
+            position = x.position;
+            grid = x.grid;
+            levels = record x.levels { report = sym (ap (λ (v : Levels). v.report) levels) i };
+            writes = sym ready.counts i;
+            tracks = x.tracks;
+          } in
+          ap (resumption_of report) (state_read enough ready writes)
+          ∙ ap (λ (y : Watch). Ok (resumption y h.harts end)) same

@@ -1,7 +1,7 @@
 -- The lines that are saved are those that were written.
 use Rattle.std.proofs.Common.{◌≡◌, ℕ, ◌<◌, Bool, true, false, eqb, T, ◌&&◌, List, [], ◌∷◌, map}
 use Rattle.std.proofs.Common.{filter, refl, sym, ap, ◌∙◌, subst, arith, inl, inr, nat_lt}
-use Rattle.std.proofs.lemmas.Bool.{cases_Bool, eqb-true, lt-ltb}
+use Rattle.std.proofs.lemmas.Bool.{cases_Bool, eqb-true, lt-ltb, ltb-true}
 use Rattle.std.proofs.lemmas.Bool.Decides.{nat_tests}
 use Rattle.std.proofs.lemmas.Option.{same_Some, none-some}
 use Rattle.std.specs.Prelude.{cond, IsTrue, Some, unwrap_or}
@@ -68,9 +68,6 @@ rising_lines (e ∷ es) h =
       | inr none ↦ rw none (rising_lines es parts.1)
     ]
 
-is_some_write : (n : ℕ) → nat_lt 0 n ≡ true → 0 < n
-is_some_write n h = grind (arith, nat_tests)
-
 tied_itself : (n : ℕ) → eq_by_cmp nat_cmp n n ≡ true
 tied_itself n = unsigned_tied n n ∙ same n
   where
@@ -104,7 +101,7 @@ is_found (e ∷ es) h l m =
           let k : Member l (line e ∷ lines_in es) = rw some at m in
           elim k [
             | inl is ↦ (
-              subst (λ (z : CountedLine). 0 < z.writes) (sym is) (is_some_write e.1 some),
+              subst (λ (z : CountedLine). 0 < z.writes) (sym is) (ltb-true 0 e.1 some),
               subst (λ (z : CountedLine). find nat_cmp z.number (e ∷ es) ≡ Some z.writes) (sym is)
                   (ap (λ t. cond t (Some e.1) (find nat_cmp e.0 es)) (tied_itself e.0)),
             )

@@ -2,25 +2,21 @@
 use Rattle.std.proofs.Common.{◌≡◌, ℕ, zero, suc, ◌+◌, ◌-◌, ◌*◌, ◌<◌, Bool, true, false, ◌&&◌, leb}
 use Rattle.std.proofs.Common.{List, [], ◌∷◌, ◌++◌, length, drop, replicate, refl, sym, ap, ◌∙◌}
 use Rattle.std.proofs.Common.{arith, append_assoc, append-nil}
-use Rattle.std.proofs.lemmas.Bool.{and_parts, and_from}
 use Rattle.std.proofs.lemmas.Bool.Decides.{nat_tests}
 use Rattle.std.proofs.lemmas.Grind.{flat_map-append}
-use Rattle.std.proofs.lemmas.List.{length-map, map-append}
+use Rattle.std.proofs.lemmas.List.{drop-drop}
 use Rattle.std.proofs.lemmas.List.Folds.{list_all-append, sum_by-replicate}
 use Rattle.std.proofs.lemmas.List.Sums.{sum_by-append, sum_by-cons}
 use Rattle.std.proofs.Math.Seq.{set-append_seam}
 use Rattle.std.specs.Prelude.{flat_map, nat_eq, nat_le, None, Some, is_some, if◌then◌else◌, sum_by}
 use Rattle.std.specs.Prelude.{slice_set}
 use Rattle.std.specs.List.{list_all, starts_with}
-use Rattle.sharing_rules.specs.Laws.Lists.{length-below}
-use Rattle.sharing_rules.specs.Places.{below}
 use Rattle.sharing_rules.specs.Words.{accesses, tally}
 use Rattle.sharing_rules.specs.declared.word.Word.{Word}
 use Rattle.saved_state.specs.Laws.Lengths.{length-words}
 use Rattle.saved_state.specs.Parts.{are_words, is_word_within, word_in}
 use Rattle.saved_state.specs.Spelling.{spell_word}
-use Rattle.saved_state.specs.Units.{is_good_word, word_at, words_at}
-use Rattle.sharing_rules.specs.Laws.Held.{same_bool}
+use Rattle.saved_state.specs.Units.{is_good_word, word_at, words_at, words_from}
 
 -- bytes begin with two texts where they begin with the first, and behind it with the second
 pub starts_append : (bs p q : List ℕ) → starts_with nat_eq bs (p ++ q)
@@ -38,48 +34,40 @@ starts_append (b ∷ bs) (x ∷ p) q =
     and_assoc false b c = refl
 
 -- the next word
+words_from-more : (n : ℕ) (bytes : List ℕ) → words_from (suc n) bytes ≡ words_from n bytes
+    ++ word_at (drop (20 * n) bytes) ∷ []
+words_from-more zero bytes = refl
+words_from-more (suc n) bytes =
+    let past : 20 + 20 * n ≡ 20 * suc n = omega arith in
+    ap (λ ws. word_at bytes ∷ ws) (words_from-more n (drop 20 bytes)
+    ∙ ap (λ t. words_from n (drop 20 bytes) ++ word_at t ∷ [])
+    (drop-drop (20 * n) 20 bytes ∙ ap (λ k. drop k bytes) past))
+
 words-more : (n : ℕ) (bytes : List ℕ) → words_at (n + 1) bytes ≡ words_at n bytes
     ++ word_at (drop (32 + 20 * n) bytes) ∷ []
 words-more n bytes =
     let one : n + 1 ≡ suc n = omega arith in
-    ap (λ m. words_at m bytes) one ∙ map-append (λ i. word_at (drop (32 + 20 * i) bytes)) (below n)
-    (n ∷ [])
+    ap (λ m. words_at m bytes) one ∙ words_from-more n (drop 32 bytes)
+    ∙ ap (λ t. words_at n bytes ++ word_at t ∷ []) (drop-drop (20 * n) 32 bytes)
+
+length-words_from : (n : ℕ) (bytes : List ℕ) → length (words_from n bytes) ≡ n
+length-words_from zero bytes = refl
+length-words_from (suc n) bytes = ap suc (length-words_from n (drop 20 bytes))
 
 pub length-words_at : (n : ℕ) (bytes : List ℕ) → length (words_at n bytes) ≡ n
-length-words_at n bytes = length-map (below n) (λ i. word_at (drop (32 + 20 * i) bytes))
-    ∙ length-below n
-
-drop_none : (n : ℕ) → drop {A = ℕ} n [] ≡ []
-drop_none zero = refl
-drop_none (suc n) = refl
-
-drop-drop : (bs : List ℕ) (m n : ℕ) → drop n (drop m bs) ≡ drop (m + n) bs
-drop-drop bs zero n = ap (λ k. drop k bs) (let e : n ≡ 0 + n = omega arith in e)
-drop-drop [] (suc m) n = drop_none n ∙ sym (drop_none (suc m + n))
-drop-drop (b ∷ bs) (suc m) n =
-    drop-drop bs m n ∙ ap (λ k. drop k (b ∷ bs))
-    (let e : suc (m + n) ≡ suc m + n = omega arith in e)
+length-words_at n bytes = length-words_from n (drop 32 bytes)
 
 -- three tests of two parts each
 by_parts : (a g l k b c : Bool) → (((a && g) && (l && k)) && (b && c))
     ≡ (((a && l) && b) && ((g && k) && c))
-by_parts a g l k b c = same_bool _ _
-    (λ h.
-    let p = and_parts ((a && g) && (l && k)) (b && c) h in
-    let q = and_parts (a && g) (l && k) p.0 in
-    let ag = and_parts a g q.0 in
-    let lk = and_parts l k q.1 in
-    let bc = and_parts b c p.1 in
-    and_from _ _ (and_from _ _ (and_from _ _ ag.0 lk.0) bc.0)
-    (and_from _ _ (and_from _ _ ag.1 lk.1) bc.1))
-    (λ h.
-    let p = and_parts ((a && l) && b) ((g && k) && c) h in
-    let q = and_parts (a && l) b p.0 in
-    let al = and_parts a l q.0 in
-    let r = and_parts (g && k) c p.1 in
-    let gk = and_parts g k r.0 in
-    and_from _ _ (and_from _ _ (and_from _ _ al.0 gk.0) (and_from _ _ al.1 gk.1))
-    (and_from _ _ q.1 r.1))
+by_parts true true true true b c = refl
+by_parts true true true false true c = refl
+by_parts true true true false false c = refl
+by_parts true true false k b c = refl
+by_parts true false true k true c = refl
+by_parts true false true k false c = refl
+by_parts true false false k b c = refl
+by_parts false g l k b c = refl
 
 few_both : (s a most : ℕ) → leb (s + a) most ≡ (leb s most && leb a (most - s))
 few_both s a most = grind (arith, nat_tests)
@@ -115,7 +103,7 @@ are_words-more harts most n bytes =
     ∙ starts_append (drop 32 bytes) (flat_map spell_word ws) (spell_word w)
     ∙ ap (λ t. starts_with nat_eq (drop 32 bytes) (flat_map spell_word ws) && starts_with nat_eq t
     (spell_word w))
-    (drop-drop bytes 32 (length (flat_map spell_word ws)) ∙ ap (λ k. drop k bytes)
+    (drop-drop (length (flat_map spell_word ws)) 32 bytes ∙ ap (λ k. drop k bytes)
     (let e : 32 + length (flat_map spell_word ws) ≡ 32 + 20 * n =
     omega (arith, length-words ws, length-words_at n bytes) in e)) in
     ap (λ (xs : List Word). list_all good xs && nat_le

@@ -4,7 +4,6 @@ pub mod Laws
 pub mod ObjectJudging
 pub mod ObjectRules
 pub mod ObjectSpelling
-pub mod ObjectUnits
 pub mod OfLists
 pub mod Parts
 pub mod Reading

@@ -1,9 +1,9 @@
 -- What any bytes say: of each unit of a state its fields, its rule, and how it stands beside the
 -- units before it. A unit is good where what its fields say keeps the rule and is spelled so, byte
 -- by byte.
-use Rattle.std.specs.Prelude.{◌≡◌, ℕ, ◌+◌, ◌-◌, ◌*◌, ◌/◌, ◌%◌, ◌^◌, ◌==◌, ◌&&◌, not, Bool, false}
+use Rattle.std.specs.Prelude.{◌≡◌, ℕ, zero, suc, ◌+◌, ◌-◌, ◌*◌, ◌/◌, ◌%◌, ◌^◌, ◌==◌, ◌&&◌, not, Bool, false}
 use Rattle.std.specs.Prelude.{true, FitsSigned, ℤ, pos, nat_abs, int_le, nat_eq, nat_lt, nat_le}
-use Rattle.std.specs.Prelude.{List, [], ◌∷◌, length, map, filter, take, drop, slice_get}
+use Rattle.std.specs.Prelude.{List, [], ◌∷◌, length, filter, take, drop, slice_get}
 use Rattle.std.specs.Prelude.{slice_index, sum_by, if◌then◌else◌, Option, None, Some, is_some}
 use Rattle.std.specs.Int.{w16, w32, w64, cast_signed}
 use Rattle.std.specs.List.{list_all, list_any, starts_with}
@@ -14,7 +14,6 @@ use Rattle.base.specs.Lines.{Grid, is_layout, line_number}
 use Rattle.base.specs.Ranges.{line_range}
 use Rattle.sharing_rules.specs.Arrivals.{each_once}
 use Rattle.sharing_rules.specs.Listed.{rank}
-use Rattle.sharing_rules.specs.Places.{below}
 use Rattle.sharing_rules.specs.Predicted.{is_native_size}
 use Rattle.sharing_rules.specs.Words.{accesses}
 use Rattle.sharing_rules.specs.declared.line_kind.LineKind.{LineKind}
@@ -123,9 +122,14 @@ word_at bytes = record {
   owner = owner_of (number_at w16 16 bytes);
 }
 
--- so many words, behind the head of a track
+-- so many words, one behind the other
+abbrev pub words_from : ℕ → List ℕ → List Word
+words_from zero bytes = []
+words_from (suc n) bytes = word_at bytes ∷ words_from n (drop 20 bytes)
+
+-- and those behind the head of a track
 abbrev pub words_at : ℕ → List ℕ → List Word
-words_at count bytes = map (λ i. word_at (drop (32 + 20 * i) bytes)) (below count)
+words_at count bytes = words_from count (drop 32 bytes)
 
 abbrev pub track_as : Grid → LineKind → List ℕ → Kept
 track_as g kind bytes = record {

@@ -33,7 +33,6 @@ mod fields;
 mod header_places;
 mod header_read;
 mod line_read;
-mod object_fault;
 mod object_laws;
 mod objects_resume;
 mod objects_save;

@@ -6,8 +6,6 @@ ghost use Rattle.saved_state.specs.ObjectJudging.{objects_judged};
 ghost use Rattle.saved_state.specs.ObjectRules.{IsPartOf, IsSavable};
 ghost use Rattle.saved_state.specs.ObjectSpelling.{spell_objects};
 
-use trace_format::what_is_read_was_spelled;
-
 /// What is taken up again is what was saved. Nothing is done.
 pub fn what_is_resumed_was_saved()
     // bytes without a fault are the one spelling of the objects that they say, which are good
@@ -16,6 +14,4 @@ pub fn what_is_resumed_was_saved()
     // and the spelling of good objects says them
     ensures again { (place position : ℕ) (o : Objects) → position ≤ 2 ^ 40 → IsSavable position o
         → objects_judged place position (spell_objects o) ≡ Ok o }
-{
-    what_is_read_was_spelled();
-}
+{}

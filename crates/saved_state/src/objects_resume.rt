@@ -6,8 +6,8 @@ ghost use Rattle.saved_state.specs.ObjectJudging.{all_taken, objects_judged, uni
 ghost use Rattle.saved_state.specs.ObjectRules.{IsPartOf};
 
 use crate::block_units::read_blocks;
-use crate::object_fault::fault_at;
 use crate::object_laws::what_is_resumed_was_saved;
+use crate::part_rest::{Rest, behind, fault_at};
 use crate::symbol_units::read_symbols;
 use base::{ResumeFault, u64_at};
 use objects::ObjectTable;
@@ -16,29 +16,35 @@ use std::alloc::Global;
 // How many bytes the numbers of symbols and blocks have.
 const COUNTS_LENGTH: usize = 16;
 
-// Reads what the units of a part say into a table that has nothing, and gives the bytes behind
-// them.
+// Reads what the units of a part that begins at a place say into a table that has nothing, and gives
+// what is left behind them.
 fn read_units<'a>(
     table: &mut ObjectTable,
     part: &'a [u8],
+    place: u64,
     position: u64,
-    end: u64,
-) -> Result<&'a [u8], ResumeFault>
+) -> Result<Rest<'a>, ResumeFault>
     requires empty { table.old ≡ no_objects }
     requires long { 16 ≤ length part.now }
-    requires ends { length part.now ≤ end }
+    requires few { place + length part.now < 2 ^ 64 }
     ensures read { IfOk result (λ rest.
-        units_judged position end part.now ≡ all_taken end table.new rest.now) }
-    ensures shorter { IfOk result (λ rest. length rest.now ≤ length part.now) }
+        units_judged place position part.now ≡ all_taken rest.place table.new rest.bytes.now) }
     ensures refused { IfErr result (λ fault. fault ≢ faults.NoMemory
-        → units_judged position end part.now ≡ Err fault) }
+        → units_judged place position part.now ≡ Err fault) }
 {
     let (symbols, blocks) = (u64_at(part, 0), u64_at(part, 8));
-    let rest = match read_symbols(table, symbols, part.split_at(COUNTS_LENGTH).1, end) {
+    let units = behind(
+        Rest {
+            place: place as usize,
+            bytes: part,
+        },
+        COUNTS_LENGTH,
+    );
+    let rest = match read_symbols(table, symbols, units) {
         Ok(rest) => rest,
         Err(fault) => return Err(fault),
     };
-    match read_blocks(table, blocks, rest, position, end) {
+    match read_blocks(table, blocks, position, rest) {
         Ok(rest) => Ok(rest),
         Err(fault) => Err(fault),
     }
@@ -57,16 +63,15 @@ fn read_objects(
     if part.len() < COUNTS_LENGTH {
         return Err(ResumeFault::BadState(place));
     }
-    let end = place + part.len() as u64;
     let mut table = ObjectTable::new(alloc);
-    let rest = match read_units(&mut table, part, position, end) {
+    let rest = match read_units(&mut table, part, place, position) {
         Ok(rest) => rest,
         Err(fault) => return Err(fault),
     };
-    if rest.is_empty() {
+    if rest.bytes.is_empty() {
         Ok(table)
     } else {
-        Err(fault_at(end, rest))
+        Err(fault_at(rest))
     }
 }
 

@@ -4,14 +4,12 @@ ghost use Rattle.std.specs.List.{flat_map};
 ghost use Rattle.saved_state.specs.ObjectJudging.{objects_judged};
 ghost use Rattle.saved_state.specs.ObjectRules.{AreSavable};
 ghost use Rattle.saved_state.specs.ObjectSpelling.{spell_counts, spell_objects, spell_saved_symbol};
-ghost use Rattle.saved_state.specs.ObjectSpelling.{death_number, spell_block};
+ghost use Rattle.saved_state.specs.ObjectSpelling.{spell_block};
 
+use crate::block_units::block_bytes;
 use base::NoMemory;
 use objects::{Block, ObjectTable};
-use trace_format::{alloc_bytes, symbol_bytes};
-
-// The death of a block that lives.
-const NO_DEATH: u64 = u64::MAX;
+use trace_format::symbol_bytes;
 
 // Two numbers of 8 bytes.
 #[tactic(auto, unfolding(crate::specs::ObjectSpelling::spell_counts))]
@@ -23,12 +21,6 @@ fn pair_bytes(first: u64, second: u64) -> [u8; 16]
     [
         a0, a1, a2, a3, a4, a5, a6, a7, b0, b1, b2, b3, b4, b5, b6, b7,
     ]
-}
-
-fn death_number(died: Option<u64>) -> u64
-    ensures { result ≡ death_number died }
-{
-    died.unwrap_or(NO_DEATH)
 }
 
 fn put_symbols(table: &ObjectTable, into: &mut Vec<u8>) -> Result<(), NoMemory>
@@ -44,19 +36,11 @@ fn put_symbols(table: &ObjectTable, into: &mut Vec<u8>) -> Result<(), NoMemory>
     Ok(())
 }
 
-fn put_block(block: &Block, into: &mut Vec<u8>) -> Result<(), NoMemory>
-    ensures { OnOk result (into.new.items ≡ into.old.items ++ spell_block block.now) }
-{
-    alloc_bytes(block.addr, block.size, &block.sites, into)?;
-    into.extend_from_slice(&pair_bytes(block.born, death_number(block.died)))?;
-    Ok(())
-}
-
 fn put_blocks(blocks: &[Block], into: &mut Vec<u8>) -> Result<(), NoMemory>
     ensures { OnOk result (into.new.items ≡ into.old.items ++ flat_map spell_block blocks.now) }
 {
     for block in blocks {
-        put_block(block, into)?;
+        into.extend_from_slice(&block_bytes(block))?;
     }
     Ok(())
 }

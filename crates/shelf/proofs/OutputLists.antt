@@ -375,6 +375,7 @@ pub record FinishedTo (first now : List Waiting) (place : ℕ) (old new : Outsid
   pub outputs : (outputs : List Output) (before : Outside) → IsOutputs first outputs before old
       → IsOutputs now outputs before new
   pub tells : new.held ≡ old.held
+  pub gives : new.given ≡ old.given
   pub done : FirstDone place now
 
 -- ---- one file more
@@ -572,6 +573,7 @@ finished_more first files i f after old mid new finished apart below is moves be
           (subst AreApart (sym finished.names) apart) outputs before
           (finished.outputs outputs before on));
       tells = moves.only.held ∙ finished.tells;
+      gives = moves.only.given ∙ finished.gives;
       done = done_more files i after none finished.done;
     }
 

@@ -1,3 +1,4 @@
+pub mod Agreeing
 pub mod Failing
 pub mod Fetch
 pub mod Files
@@ -7,4 +8,5 @@ pub mod MemoryShelf
 pub mod NeverFails
 pub mod OnTheirWay
 pub mod OneFile
+pub mod ReadLog
 pub mod Shelf

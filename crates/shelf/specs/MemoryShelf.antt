@@ -19,9 +19,10 @@ memory_outside shelf = record {
   read_faults = λ _. shelf.read_faults;
   write_faults = λ _. shelf.write_faults;
   print_faults = shelf.print_faults;
+  given = shelf.log.items;
 }
 
--- these files, with nothing begun or printed, and no fault yet
+-- these files, with nothing begun, printed or read, and no fault yet
 abbrev pub fresh_outside : List HeldFile → Outside
 fresh_outside files = record {
   held = Some (file_of files);
@@ -30,6 +31,7 @@ fresh_outside files = record {
   read_faults = λ _. 0;
   write_faults = λ _. 0;
   print_faults = 0;
+  given = [];
 }
 
 -- the calls that are to fail, as they were given

@@ -1,7 +1,7 @@
 -- What a shelf of named files and a printed text means, and what a call does to it.
-use Rattle.std.specs.Prelude.{◌≡◌, ◌≢◌, ◌⊎◌, ℕ, ◌+◌, ◌-◌, ◌^◌, ◌<◌, ◌≤◌, min, List, [], ◌++◌}
+use Rattle.std.specs.Prelude.{◌≡◌, ◌≢◌, ◌⊎◌, ℕ, ◌+◌, ◌-◌, ◌^◌, ◌<◌, ◌≤◌, min, List, [], ◌∷◌, ◌++◌}
 use Rattle.std.specs.Prelude.{length, take, drop, unwrap_or, MatchResult, IsErrOf, Option, Result}
-use Rattle.std.specs.Prelude.{Some, None}
+use Rattle.std.specs.Prelude.{Some, None, Ok, Err}
 use Rattle.std.specs.Io.KnownBytes.{Appends}
 use Rattle.shelf.specs.declared.shelf.ShelfError.{ShelfError}
 use Rattle.shelf.specs.declared.shelf.ShelfError.TheVariants.{Failed}
@@ -13,6 +13,13 @@ Files = List ℕ → Option (List ℕ)
 -- the bytes under a name, none where it has no file
 abbrev pub content : Files → List ℕ → List ℕ
 content files name = unwrap_or (files name) []
+
+-- what a read gave: of the file of this name, from a place on and into so much room, these bytes
+pub record Given : Type 0 where
+  pub name : List ℕ
+  pub at : ℕ
+  pub room : ℕ
+  pub bytes : List ℕ
 
 -- all that a shelf means; the first three may be untold
 pub record Outside : Type 0 where
@@ -28,6 +35,8 @@ pub record Outside : Type 0 where
   pub write_faults : List ℕ → ℕ
   -- how often printing has failed
   pub print_faults : ℕ
+  -- what the reads have given that were answered Ok, the latest first
+  pub given : List Given
 
 -- where a meaning is told, P holds of it
 abbrev pub Told : {A : Type 0} → Option A → (A → Type 0) → Type 0
@@ -68,13 +77,27 @@ pub record HasCauseAt {T : Type 0} (name : List ℕ) (before now : List ℕ → 
   pub failed : IsErrOf result Failed → Rose (before name) (now name)
   pub quiet : (IsErrOf result Failed → ⊥) → now ≡ before
 
--- nothing changes but the faults of reading, and the files that are held may be told no more
+abbrev pub read_of : List ℕ → ℕ → ℕ → List ℕ → Given
+read_of name at room bytes = record { name = name; at = at; room = room; bytes = bytes }
+
+-- what was given once a read was answered so: one read more at Ok, and no more at an error
+abbrev pub given_after : Result ℕ ShelfError → List ℕ → ℕ → List ℕ → List Given → List Given
+given_after (Ok n) name at buffer before = read_of name at (length buffer) (take n buffer) ∷ before
+given_after (Err e) name at buffer before = before
+
+-- more was given
+abbrev pub Grows : List Given → List Given → Type 0
+Grows before now = (more : List Given) × (now ≡ more ++ before)
+
+-- nothing changes but the faults of reading, and what was given, which grows; and the files that are
+-- held may be told no more
 pub record OnlyReads (old new : Outside) : Type 0 where
   pub held : Narrows old.held new.held
   pub written : new.written ≡ old.written
   pub printed : new.printed ≡ old.printed
   pub write_faults : new.write_faults ≡ old.write_faults
   pub print_faults : new.print_faults ≡ old.print_faults
+  pub given : Grows old.given new.given
 
 -- no reading failed either
 pub record HasRead (old new : Outside) : Type 0 where
@@ -87,14 +110,16 @@ pub record OnlyWrites (old new : Outside) : Type 0 where
   pub printed : new.printed ≡ old.printed
   pub read_faults : new.read_faults ≡ old.read_faults
   pub print_faults : new.print_faults ≡ old.print_faults
+  pub given : new.given ≡ old.given
 
--- the same, but reads that didn't fail may stand between the writes of one output, so the files that
--- are held may be told no more
+-- the same, but reads that didn't fail may stand between the writes of one output, so more may be
+-- given, and the files that are held may be told no more
 pub record OnlyWritesAndReads (old new : Outside) : Type 0 where
   pub held : Narrows old.held new.held
   pub printed : new.printed ≡ old.printed
   pub read_faults : new.read_faults ≡ old.read_faults
   pub print_faults : new.print_faults ≡ old.print_faults
+  pub given : Grows old.given new.given
 
 -- nothing changes but the printed text, and the faults of printing
 pub record OnlyPrints (old new : Outside) : Type 0 where
@@ -102,6 +127,7 @@ pub record OnlyPrints (old new : Outside) : Type 0 where
   pub written : new.written ≡ old.written
   pub read_faults : new.read_faults ≡ old.read_faults
   pub write_faults : new.write_faults ≡ old.write_faults
+  pub given : new.given ≡ old.given
 
 -- the first n bytes of the buffer are those of the file from a place on; none only at its end or
 -- with no room

@@ -4,12 +4,13 @@ ghost use Rattle.std.specs.Prelude.{IsOkUnless, IsErrOf, IfSome, IsOk, IsSome};
 ghost use Rattle.std.specs.Option.{option_copied, ForSome};
 ghost use Rattle.std.specs.Io.KnownBytes.{Appends};
 ghost use Rattle.std.specs.Io.{ReadsAtMost};
-ghost use Rattle.shelf.specs.Shelf.{content, Told, Goes, ChangesAt, HasCause, HasCauseAt};
+ghost use Rattle.shelf.specs.Shelf.{content, Told, Goes, ChangesAt, HasCause, HasCauseAt, given_after};
 ghost use Rattle.shelf.specs.Shelf.{OnlyReads, OnlyWrites, OnlyPrints, Reads, AddsUnless};
 ghost use Rattle.shelf.specs.Shelf.{AppendsUnless, Begins};
 ghost use Rattle.shelf.specs.Failing.{failing_at, kept_of};
 
 use crate::files::{append_to, begin_file, bytes_of, read_file};
+use crate::read_log::{ReadBytes, ReadLog};
 use crate::{HeldFile, Shelf, ShelfError};
 use base::NoMemory;
 use std::alloc::Global;
@@ -40,6 +41,7 @@ pub struct MemoryShelf {
     read_faults: u64,
     write_faults: u64,
     print_faults: u64,
+    log: ReadLog,
 }
 
 // How many bytes the call of a number keeps, where it is to fail.
@@ -75,6 +77,7 @@ impl MemoryShelf {
             read_faults: 0,
             write_faults: 0,
             print_faults: 0,
+            log: ReadLog::new(),
         })
     }
 
@@ -114,6 +117,8 @@ impl Shelf for MemoryShelf {
         ensures bound { ReadsAtMost result into.new }
         ensures bytes { IfOk result (λ n. Told (memory_outside self.new).held
             (λ files. Reads (content files name.now) at n into.new)) }
+        ensures given { (memory_outside self.new).given
+            ≡ given_after result name.now at into.new (memory_outside self.old).given }
         ensures cause { HasCauseAt name.now
             (memory_outside self.old).read_faults (memory_outside self.new).read_faults result }
         ensures only { OnlyReads (memory_outside self.old) (memory_outside self.new) }
@@ -134,7 +139,15 @@ impl Shelf for MemoryShelf {
             return Err(ShelfError::Failed);
         }
         match read_file(&self.files, name, at, into) {
-            Some(count) => Ok(count),
+            Some(count) => {
+                self.log = self.log.and(&ReadBytes {
+                    name,
+                    at,
+                    room: into.len(),
+                    bytes: &into[..count],
+                });
+                Ok(count)
+            }
             None => {
                 self.read_faults = self.read_faults.saturating_add(1);
                 Err(ShelfError::Failed)

@@ -2,11 +2,13 @@
 ghost use Rattle.std.specs.Prelude.{◌≡◌, ◌-◌, min, length, IfOk, IsOk, IsSome};
 ghost use Rattle.std.specs.Option.{ForSome};
 ghost use Rattle.std.specs.Io.{ReadsAtMost};
-ghost use Rattle.shelf.specs.Shelf.{content, Told, Goes, ChangesAt, HasCause, HasCauseAt};
+ghost use Rattle.shelf.specs.Shelf.{content, Told, Goes, ChangesAt, HasCause, HasCauseAt, given_after};
 ghost use Rattle.shelf.specs.Shelf.{OnlyReads, OnlyWrites, OnlyPrints, Reads, AddsUnless};
 ghost use Rattle.shelf.specs.Shelf.{AppendsUnless, Begins};
+ghost use Rattle.shelf.specs.HeldFile.{file_of};
 
 use crate::files::read_file;
+use crate::read_log::{ReadBytes, ReadLog};
 use crate::{HeldFile, Shelf, ShelfError};
 
 /// Files in memory that are read without a fault. It tells these files alone: what is written or
@@ -14,6 +16,7 @@ use crate::{HeldFile, Shelf, ShelfError};
 #[derive(Drop)]
 pub struct NeverFails {
     files: Vec<HeldFile>,
+    log: ReadLog,
 }
 
 impl NeverFails {
@@ -23,7 +26,22 @@ impl NeverFails {
     pub fn new(files: Vec<HeldFile>) -> Self
         ensures { never_fails_outside result ≡ faultless_outside files.items }
     {
-        NeverFails { files }
+        NeverFails {
+            files,
+            log: ReadLog::new(),
+        }
+    }
+}
+
+// Reads the file of a name, which is empty where there is none.
+fn read_or_none(files: &[HeldFile], name: &str, at: u64, into: &mut [u8]) -> usize
+    ensures count { result
+        ≡ min (length (content (file_of files.now) name.now) - at) (length into.new) }
+    ensures reads { Reads (content (file_of files.now) name.now) at result into.new }
+{
+    match read_file(files, name, at, into) {
+        Some(count) => count,
+        None => 0,
     }
 }
 
@@ -38,6 +56,8 @@ impl Shelf for NeverFails {
         ensures bound { ReadsAtMost result into.new }
         ensures bytes { IfOk result (λ n. Told (never_fails_outside self.new).held
             (λ files. Reads (content files name.now) at n into.new)) }
+        ensures given { (never_fails_outside self.new).given
+            ≡ given_after result name.now at into.new (never_fails_outside self.old).given }
         ensures cause { HasCauseAt name.now
             (never_fails_outside self.old).read_faults (never_fails_outside self.new).read_faults
             result }
@@ -46,10 +66,14 @@ impl Shelf for NeverFails {
         ensures count { IfOk result (λ n. Told (never_fails_outside self.old).held
             (λ files. n ≡ min (length (content files name.now) - at) (length into.new))) }
     {
-        match read_file(&self.files, name, at, into) {
-            Some(count) => Ok(count),
-            None => Ok(0),
-        }
+        let count = read_or_none(&self.files, name, at, into);
+        self.log = self.log.and(&ReadBytes {
+            name,
+            at,
+            room: into.len(),
+            bytes: &into[..count],
+        });
+        Ok(count)
     }
 
     /// Does nothing.

@@ -68,6 +68,7 @@ impl<'a> Outputs<'a> {
             → AreCut (outputs ++ record { name = name.now; bytes = [] } ∷ []) before
             (S.outside shelf.new) error) }
         ensures tells { (S.outside shelf.new).held ≡ (S.outside shelf.old).held }
+        ensures gives { (S.outside shelf.new).given ≡ (S.outside shelf.old).given }
     {
         match Sink::begin(alloc, shelf, name) {
             Ok(sink) => {
@@ -105,6 +106,7 @@ impl<'a> Outputs<'a> {
             → IsOutputs self.old outputs before (S.outside shelf.old)
             → AreCut (outputs_with outputs place bytes.now) before (S.outside shelf.new) error) }
         ensures tells { (S.outside shelf.new).held ≡ (S.outside shelf.old).held }
+        ensures gives { (S.outside shelf.new).given ≡ (S.outside shelf.old).given }
     {
         let file = &mut self.files[place];
         file.put(shelf, bytes)
@@ -132,6 +134,7 @@ impl<'a> Outputs<'a> {
             → IsOutputs self.old outputs before (S.outside shelf.old)
             → AreCut outputs before (S.outside shelf.new) error) }
         ensures tells { (S.outside shelf.new).held ≡ (S.outside shelf.old).held }
+        ensures gives { (S.outside shelf.new).given ≡ (S.outside shelf.old).given }
     {
         for place in 0..self.files.len() {
             let file = &mut self.files[place];

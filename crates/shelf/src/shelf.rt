@@ -3,6 +3,7 @@ ghost use Rattle.std.specs.Prelude.{◌≡◌, IfOk, IsSome};
 ghost use Rattle.std.specs.Option.{ForSome};
 ghost use Rattle.std.specs.Io.{ReadsAtMost};
 ghost use Rattle.shelf.specs.Shelf.{Outside, content, Told, Goes, ChangesAt, HasCause, HasCauseAt};
+ghost use Rattle.shelf.specs.Shelf.{given_after};
 ghost use Rattle.shelf.specs.Shelf.{OnlyReads, OnlyWrites, OnlyPrints, Reads, AddsUnless};
 ghost use Rattle.shelf.specs.Shelf.{AppendsUnless, Begins};
 
@@ -58,7 +59,8 @@ pub enum RunShown<'a> {
 /// files, as one on a disk, tells them for as long as what is read is theirs, and no more once a
 /// read gave other bytes.
 pub trait Shelf {
-    /// What is held, was written and was printed, where told, and how often calls have failed.
+    /// What is held, was written and was printed, where told, how often calls have failed, and what
+    /// reads have given.
     ghost outside: { Self → Outside };
 
     /// Reads bytes of the held file of a name into the front of `into`, from the byte `at` on, and
@@ -70,6 +72,8 @@ pub trait Shelf {
         ensures bound { ReadsAtMost result into.new }
         ensures bytes { IfOk result (λ n. Told (outside self.new).held
             (λ files. Reads (content files name.now) at n into.new)) }
+        ensures given { (outside self.new).given
+            ≡ given_after result name.now at into.new (outside self.old).given }
         ensures cause { HasCauseAt name.now
             (outside self.old).read_faults (outside self.new).read_faults result }
         ensures only { OnlyReads (outside self.old) (outside self.new) };

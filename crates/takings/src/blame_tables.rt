@@ -13,11 +13,12 @@ ghost use Rattle.takings.specs.Kept.{IsFew, taking_by};
 ghost use Rattle.takings.specs.Takings.{harts_of, pcs_of};
 
 use crate::latest::LatestTwo;
-use crate::recent::{Recent, RecentRows, mixed};
+use crate::recent::{RecentRows, mixed};
 use crate::sited::{Sides, Sited, Taking};
 use crate::tables::{Taken, after, put};
 use base::NoMemory;
 use indexmap::IndexMap;
+use misses::Recent;
 
 /// Of a line the two accesses that tell the next taking, and how many takings there were.
 #[derive(Clone, Copy, Debug)]

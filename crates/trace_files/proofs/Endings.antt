@@ -19,7 +19,7 @@ pub taken_up : (table : List Move) (trace file : List ℕ) (m : Mover) (cursor n
     (old mid read new : Outside) (at : IsMoving table trace file m cursor old mid)
     → HasRead mid read → (w : Wanted) → w ≡ any
     → ((bytes : List ℕ) → HasCome mid.held trace w bytes cursor
-    → GoesOn read.held trace w bytes next)
+    → GoesOn mid read trace w bytes next)
     → (head : Option (Version × Header)) (its : List TraceRecord) (fault : MoveFault)
     → head ≡ version_and_header next.reading.progress → its ≡ next.items
     → new.held ≡ read.held
@@ -31,7 +31,7 @@ taken_up table trace file m cursor next old mid read new at reads w is_any goes 
     head_is its_are tells stopped =
     let come = subst (λ (x : Wanted). HasCome mid.held trace x at.bytes cursor) (sym is_any) at.come
     in
-    let on = subst (λ (x : Wanted). GoesOn read.held trace x at.bytes next) is_any
+    let on = subst (λ (x : Wanted). GoesOn mid read trace x at.bytes next) is_any
     (goes at.bytes come) in
     let all = at.bytes ++ on.more in
     let front : Told new.held (λ fs. IsFront (content fs trace) all) =

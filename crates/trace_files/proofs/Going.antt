@@ -1,11 +1,13 @@
 -- Records that come to a target, and a second reading on its way.
 use Rattle.std.proofs.Common.{◌≡◌, ℕ, List, [], ◌++◌, take, Option, refl, sym, subst, ◌∙◌}
 use Rattle.std.proofs.lemmas.List.{append-nil}
+use Rattle.shelf.specs.Agreeing.{HasReadFront}
 use Rattle.shelf.specs.Shelf.{Files, HasRead, Narrows, Outside, content}
 use Rattle.shelf.specs.Fetch.{IsFront}
 use Rattle.shelf.specs.Files.{Output}
 use Rattle.shelf.specs.OneFile.{Waiting}
 use Rattle.shelf.specs.OnTheirWay.{IsOutputs}
+use Rattle.shelf.specs.Laws.Agreeing.{front_none}
 use Rattle.shelf.specs.Laws.Files.{IsOutputs-read}
 use Rattle.shelf.specs.Laws.Told.{narrows_same, narrows_then, told_still}
 use Rattle.trace_format.specs.declared.record.TraceRecord.{TraceRecord}
@@ -25,6 +27,7 @@ pub record PutTo {A : Type 0} (waiting : A → List Waiting)
       → IsOutputs (waiting first) (files first seen) before old
       → IsOutputs (waiting now) (files first (seen ++ take i items)) before new
   pub tells : new.held ≡ old.held
+  pub gives : new.given ≡ old.given
 
 module _ {A : Type 0} (waiting : A → List Waiting) (files : A → List TraceRecord → List Output)
     (has : A → List TraceRecord → Type 0)
@@ -38,6 +41,7 @@ module _ {A : Type 0} (waiting : A → List Waiting) (files : A → List TraceRe
           (λ (l : List TraceRecord). IsOutputs (waiting first) (files first l) before old)
           (sym (append-nil seen)) on;
       tells = refl;
+      gives = refl;
     }
 
     -- more may come
@@ -72,6 +76,7 @@ pub record IsAt {A : Type 0} (waiting : A → List Waiting)
     (old new : Outside) : Type 0 where
   pub bytes : List ℕ
   pub come : HasCome new.held name any bytes cursor
+  pub front : HasReadFront name bytes old.given new.given
   pub narrow : Narrows old.held new.held
   pub files_stay : files now ≡ files first
   pub came : has now (reading_of bytes).0
@@ -92,6 +97,7 @@ module _ {A : Type 0} (waiting : A → List Waiting) (files : A → List TraceRe
     at_first target cursor old come none = record {
       bytes = [];
       come = come;
+      front = front_none name old.given;
       narrow = narrows_same old.held;
       files_stay = refl;
       came = subst (has target) (sym nothing_read) none;
@@ -120,15 +126,16 @@ module _ {A : Type 0} (waiting : A → List Waiting) (files : A → List TraceRe
     pub at_next : (first now later : A) (cursor next : Reached) (old mid read new : Outside)
         → (at : IsAt waiting files has name first now cursor old mid)
         → HasRead mid read
-        → (on : GoesOn read.held name any at.bytes next)
+        → (on : GoesOn mid read name any at.bytes next)
         → files later ≡ files now
         → ((seen : List TraceRecord) → has now seen → has later (seen ++ next.items))
         → ((seen : List TraceRecord) (b : Outside) → has now seen
         → IsOutputs (waiting now) (files now seen) b read
         → IsOutputs (waiting later) (files now (seen ++ next.items)) b new)
-        → Narrows read.held new.held
+        → Narrows read.held new.held → new.given ≡ read.given
         → IsAt waiting files has name first later next old new
-    at_next first now later cursor next old mid read new at reads on files_stay came outputs narrow =
+    at_next first now later cursor next old mid read new at reads on files_stay came outputs narrow
+        gives =
         let seen = (reading_of at.bytes).0 in
         let put : (b : Outside) → IsOutputs (waiting first) (files first []) b old
         → IsOutputs (waiting later) (files first (seen ++ next.items)) b new =
@@ -140,6 +147,8 @@ module _ {A : Type 0} (waiting : A → List Waiting) (files : A → List TraceRe
         record {
           bytes = at.bytes ++ on.more;
           come = come_still read.held new.held name (at.bytes ++ on.more) next narrow on.come;
+          front = subst (HasReadFront name (at.bytes ++ on.more) old.given) (sym gives)
+              (on.front old.given at.front);
           narrow = narrows_then old.held mid.held new.held at.narrow
               (narrows_then mid.held read.held new.held reads.only.held narrow);
           files_stay = files_stay ∙ at.files_stay;

@@ -1,12 +1,14 @@
 -- A second reading, piece after piece: what it may rest on, and how it ends.
 use Rattle.std.proofs.Common.{◌≡◌, ℕ, List, [], ◌∷◌, ◌++◌, take, All, Option, Some, None, Err, refl}
-use Rattle.std.proofs.Common.{sym, ◌∙◌, subst, arith}
+use Rattle.std.proofs.Common.{sym, ap, ◌∙◌, subst, arith}
 use Rattle.std.proofs.lemmas.List.Elements.{All-nil, All-tail}
-use Rattle.shelf.specs.Shelf.{Files, HasRead, Narrows, OnlyReads, Outside, Told, content}
+use Rattle.shelf.specs.Agreeing.{HasShown}
+use Rattle.shelf.specs.Shelf.{Files, Given, HasRead, Narrows, OnlyReads, Outside, Told, content}
 use Rattle.shelf.specs.declared.shelf.ShelfError.{ShelfError}
 use Rattle.shelf.specs.Files.{Output, AreCut}
 use Rattle.shelf.specs.OneFile.{Waiting}
 use Rattle.shelf.specs.OnTheirWay.{IsOutputs}
+use Rattle.shelf.specs.Laws.Agreeing.{shown_then}
 use Rattle.shelf.specs.Laws.Files.{IsOutputs-read}
 use Rattle.shelf.specs.Laws.Told.{only_none}
 use Rattle.base.specs.declared.ending.Ending.{Ending}
@@ -21,7 +23,7 @@ use Rattle.trace_format.specs.Laws.Counts.{IsSoFar, so_far}
 use Rattle.trace_passes.specs.Cursors.{GoesOn, HasCome, HasEnded, Reached}
 use Rattle.trace_passes.specs.declared.wanted.Refusal.{Refusal}
 use Rattle.trace_passes.specs.declared.wanted.Wanted.{Wanted}
-use Rattle.trace_passes.specs.Passes.{HasPassCause, refusal_of, trace_with}
+use Rattle.trace_passes.specs.Passes.{HasParts, HasPassCause, refusal_of, trace_of, trace_with}
 use Rattle.trace_passes.specs.Laws.Passes.{trace-records}
 use Rattle.trace_files.specs.declared.copy_fault.CopyFault.{CopyFault}
 use Rattle.trace_files.specs.declared.copy_fault.CopyFault.TheVariants.{Changed, ReadFault}
@@ -45,10 +47,10 @@ writable_in None e items is = subst (All IsWritable) (sym is.0) (All-nil IsWrita
 writable_in (Some p) None items is = is.0.writable
 writable_in (Some p) (Some e) items is = is.0.writable
 
-pub piece_writable : (held : Option Files) (name bytes : List ℕ) (next : Reached)
-    → GoesOn held name any bytes next
+pub piece_writable : (old new : Outside) (name bytes : List ℕ) (next : Reached)
+    → GoesOn old new name any bytes next
     → All IsWritable next.items
-piece_writable held name bytes next on =
+piece_writable old new name bytes next on =
     let whole = reading_of (bytes ++ on.more) in
     all_behind IsWritable (reading_of bytes).0 next.items
     (subst (All IsWritable) on.records (writable_in whole.1.progress whole.1.ending whole.0
@@ -72,12 +74,12 @@ module _ {A : Type 0} (waiting : A → List Waiting) (files : A → List TraceRe
     pub come_at : (w : Wanted) → w ≡ any → HasCome mid.held name w at.bytes cursor
     come_at w is = subst (λ (x : Wanted). HasCome mid.held name x at.bytes cursor) (sym is) at.come
 
-    pub on_at : (w : Wanted) → w ≡ any → (next : Reached) (read : Option Files)
+    pub on_at : (w : Wanted) → w ≡ any → (next : Reached) (read : Outside)
         → ((bytes : List ℕ) → HasCome mid.held name w bytes cursor
-        → GoesOn read name w bytes next)
-        → GoesOn read name any at.bytes next
+        → GoesOn mid read name w bytes next)
+        → GoesOn mid read name any at.bytes next
     on_at w is next read goes =
-        subst (λ (x : Wanted). GoesOn read name x at.bytes next) is
+        subst (λ (x : Wanted). GoesOn mid read name x at.bytes next) is
         (goes at.bytes (come_at w is))
 
     pub end_at : (w : Wanted) → w ≡ any → (passed : Passed) (read : Option Files)
@@ -87,6 +89,15 @@ module _ {A : Type 0} (waiting : A → List Waiting) (files : A → List TraceRe
     end_at w is passed read ends =
         subst (λ (x : Wanted). HasEnded read name x at.bytes passed) is
         (ends at.bytes (come_at w is))
+
+    -- what the reads since then have given is such a trace
+    pub shown_at : (passed : Passed) (read : Option Files) (given : List Given)
+        → HasEnded read name any at.bytes passed
+        → HasShown name (λ file. at.bytes ≡ file) old.given given
+        → HasShown name (HasParts passed) old.given given
+    shown_at passed read given ended shown =
+        shown_then name (λ file. at.bytes ≡ file) (HasParts passed) old.given given
+        (λ file same. (ended.items, ap trace_of (sym same) ∙ ended.is)) shown
 
     pub ended_at : (passed : Passed) (new : Outside) → HasRead mid new
         → HasEnded new.held name any at.bytes passed → (before : Outside)
@@ -119,18 +130,18 @@ module _ {A : Type 0} (waiting : A → List Waiting) (files : A → List TraceRe
 
     -- after a piece was read, its records are put
     module _ (next : Reached) (read : Outside) (reads : HasRead mid read)
-        (on : GoesOn read.held name any at.bytes next)
+        (on : GoesOn mid read name any at.bytes next)
       where
         pub next_at : (later : A) (new : Outside) → files later ≡ files now
             → ((seen : List TraceRecord) → has now seen → has later (seen ++ next.items))
             → ((seen : List TraceRecord) (b : Outside) → has now seen
             → IsOutputs (waiting now) (files now seen) b read
             → IsOutputs (waiting later) (files now (seen ++ next.items)) b new)
-            → Narrows read.held new.held
+            → Narrows read.held new.held → new.given ≡ read.given
             → IsAt waiting files has name first later next old new
-        next_at later new files_stay came outputs narrow =
+        next_at later new files_stay came outputs narrow gives =
             at_next waiting files has name first now later cursor next old mid read new at reads on
-            files_stay came outputs narrow
+            files_stay came outputs narrow gives
 
         pub cut_at : (new : Outside) (error : ShelfError)
             → (k : ℕ) × ((seen : List TraceRecord) (before : Outside) → has now seen

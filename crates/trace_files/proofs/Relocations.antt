@@ -15,7 +15,6 @@ use Rattle.shelf.specs.Laws.Told.{told_same}
 use Rattle.trace_format.specs.declared.read_so_far.ReadSoFar.{ReadSoFar}
 use Rattle.trace_format.specs.declared.record.Header.{Header}
 use Rattle.trace_format.specs.declared.record.TraceRecord.{TraceRecord}
-use Rattle.trace_format.specs.declared.record.TraceRecord.TheVariants as records
 use Rattle.trace_format.specs.declared.record.Version.{Version}
 use Rattle.trace_format.specs.Laws.Counts.{IsSoFar, counted_so_far, few_accesses, so_far}
 use Rattle.trace_format.specs.Reading.{Reading, begin, read_on, reading_of}
@@ -30,7 +29,7 @@ use Rattle.trace_files.specs.declared.mover.Mover.{Mover}
 use Rattle.trace_files.specs.Copies.{any}
 use Rattle.trace_files.specs.Movers.{EndsAt, Follows, HasMoved, IsAllWritten, IsCutAt}
 use Rattle.trace_files.specs.Movers.{MayTake, StopsAt}
-use Rattle.trace_files.specs.Moving.{moved, moved_so_far}
+use Rattle.trace_files.specs.Moving.{moved_so_far}
 use Rattle.trace_files.proofs.Pieces.{all_behind, writable_in}
 
 -- ---- where it ends

@@ -2,7 +2,8 @@
 use Rattle.std.specs.Prelude.{◌≡◌, ◌≢◌, ◌⊎◌, ◌≤◌, ℕ, ◌==◌, List, [], ◌∷◌, Option, Some, None}
 use Rattle.std.specs.Prelude.{if◌then◌else◌, false}
 use Rattle.std.specs.Option.{option_and_then, option_or}
-use Rattle.shelf.specs.Shelf.{Files, Goes, Narrows, Outside, Rose, Told, content}
+use Rattle.shelf.specs.Agreeing.{HasShown}
+use Rattle.shelf.specs.Shelf.{Files, Given, Goes, Narrows, Outside, Rose, Told, content}
 use Rattle.shelf.specs.Files.{Output, AreWritten, BegunInOrder, one_file}
 use Rattle.shelf.specs.OnTheirWay.{IsNew}
 use Rattle.trace_format.specs.declared.fault.TraceFault.TheVariants as faults
@@ -108,9 +109,10 @@ refusal_again first bytes =
     option_or (refusal_of any bytes)
     (option_and_then (λ t. difference first (told_of t)) (trace_of bytes))
 
--- there are bytes that are refused so behind such a first reading
-abbrev pub IsOther : Passed → Refusal → Type 0
-IsOther first refusal = (bytes : List ℕ) × (refusal_again first bytes ≡ Some refusal)
+-- what the reads since then have given of the name is refused so behind such a first reading
+abbrev pub IsOther : List ℕ → Passed → Refusal → List Given → List Given → Type 0
+IsOther name first refusal before now =
+    HasShown name (λ file. refusal_again first file ≡ Some refusal) before now
 
 -- ---- what a call says
 

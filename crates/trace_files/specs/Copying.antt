@@ -1,6 +1,7 @@
 -- How far a copy is, in the clauses of this crate's own functions.
 use Rattle.std.specs.Prelude.{◌≡◌, ℕ, List, [], ◌∷◌, ◌++◌, length, Option, Some}
-use Rattle.shelf.specs.Shelf.{Files, Narrows, Outside, Told, content}
+use Rattle.shelf.specs.Agreeing.{HasShown}
+use Rattle.shelf.specs.Shelf.{Files, Given, Narrows, Outside, Told, content}
 use Rattle.shelf.specs.declared.shelf.ShelfError.{ShelfError}
 use Rattle.shelf.specs.declared.shelf.ShelfError.TheVariants as errors
 use Rattle.shelf.specs.Files.{Output, AreCut}
@@ -16,7 +17,7 @@ use Rattle.trace_passes.specs.declared.passes.PassFault.{PassFault}
 use Rattle.trace_passes.specs.declared.passes.PassFault.TheVariants as passes
 use Rattle.trace_passes.specs.declared.passes.Passed.{Passed}
 use Rattle.trace_passes.specs.declared.wanted.Refusal.{Refusal}
-use Rattle.trace_passes.specs.Passes.{all_records, trace_of, trace_with}
+use Rattle.trace_passes.specs.Passes.{HasParts, all_records, trace_of, trace_with}
 use Rattle.trace_format.specs.Splits.{HasSeen, Split, halves_of, headers_of}
 use Rattle.trace_files.specs.declared.split.Splitting.{Splitting}
 use Rattle.trace_files.specs.declared.copy_fault.CopyFault.{CopyFault}
@@ -77,11 +78,13 @@ pub record IsAccepted (held : Option Files) (name : List ℕ) (passed : Passed) 
   pub items : List TraceRecord
   pub is : trace_of bytes ≡ Some (trace_with passed items)
 
--- The first reading was accepted, and the second is refused so beside it.
-pub record HasChanged (held : Option Files) (name : List ℕ) (refusal : Refusal) : Type 0 where
+-- The reads since then are two readings of the name, one after the other. What the first gave is a
+-- trace of these parts, and what the second gave is refused so beside it.
+pub record HasChanged (name : List ℕ) (refusal : Refusal) (before now : List Given) : Type 0 where
   pub first : Passed
-  pub accepted : IsAccepted held name first
-  pub other : IsOther first refusal
+  pub between : List Given
+  pub accepted : HasShown name (HasParts first) before between
+  pub other : IsOther name first refusal between now
 
 -- two readings told the same version, header and number of accesses
 pub record AreAlike (first second : Passed) : Type 0 where

@@ -56,7 +56,8 @@ fn convert_accepted<S: Shelf>(
     ensures changed { (refusal : Refused) → result ≡ Err (CopyFault.Changed refusal)
         → (S.outside shelf.new).held ≡ None }
     ensures other { (refusal : Refused) → result ≡ Err (CopyFault.Changed refusal)
-        → IsOther first.now refusal }
+        → IsOther name.now first.now refusal (S.outside shelf.old).given
+        (S.outside shelf.new).given }
     ensures stopped { IfErr result (λ fault. HasStopped (S.outside shelf.new).held name.now
         (output.now ∷ []) (conversion output.now) (S.outside shelf.old)
         (S.outside shelf.new) fault) }
@@ -106,11 +107,12 @@ pub fn convert_trace<S: Shelf>(
         → HasRead (S.outside shelf.old) (S.outside shelf.new) }
     ensures memory { result ≢ Err (CopyFault.Refused (refusals.Trace trace_faults.NoMemory)) }
     // A second reading is refused as no trace, or beside the first: for its version, its number of
-    // harts, its first position, or its number of accesses. No files are told then, or no more.
+    // harts, its first position, or its number of accesses. What its reads have given is refused so,
+    // and no files are told then, or no more.
     ensures changed { (refusal : Refused) → result ≡ Err (CopyFault.Changed refusal)
         → (S.outside shelf.new).held ≡ None }
     ensures other { (refusal : Refused) → result ≡ Err (CopyFault.Changed refusal)
-        → HasChanged (S.outside shelf.new).held name.now refusal }
+        → HasChanged name.now refusal (S.outside shelf.old).given (S.outside shelf.new).given }
     // Only an accepted trace is written, whatever the fault.
     ensures accepted { result ≡ Err CopyFault.WriteFault
         → IsJudged (S.outside shelf.new).held name.now None }

@@ -2,6 +2,7 @@
 ghost use Rattle.std.specs.Prelude.{◌≡◌, ◌≢◌, ◌++◌, ℕ, List, [], Err, None, Some, take, IfErr};
 ghost use Rattle.std.specs.Prelude.{IfOk, OnOk};
 ghost use Rattle.std.specs.List.{All};
+ghost use Rattle.shelf.specs.Agreeing.{HasShown};
 ghost use Rattle.shelf.specs.Shelf.{HasRead, Narrows, Outside};
 ghost use Rattle.shelf.specs.Files.{AreCut, Output};
 ghost use Rattle.shelf.specs.OnTheirWay.{IsOutputs};
@@ -10,7 +11,7 @@ ghost use Rattle.trace_format.specs.declared.record.TraceRecord.{TraceRecord as 
 ghost use Rattle.trace_format.specs.Rules.{IsWritable};
 ghost use Rattle.trace_passes.specs.declared.wanted.Refusal.{Refusal as Refused};
 ghost use Rattle.trace_passes.specs.declared.wanted.Refusal.TheVariants as refusals;
-ghost use Rattle.trace_passes.specs.Passes.{Trace, refusal_of};
+ghost use Rattle.trace_passes.specs.Passes.{HasParts, Trace, refusal_of};
 ghost use Rattle.trace_files.specs.Copies.{HasStopped, IsJudged, IsOther, any, difference};
 ghost use Rattle.trace_files.specs.Copying.{AreAlike, IsAccepted, IsCopied, IsCutShort};
 ghost use Rattle.trace_files.specs.Copying.{IsUnderWay};
@@ -57,6 +58,8 @@ pub(crate) fn accept<S: Shelf>(
 ) -> Result<Passed, CopyFault>
     ensures accepted { IfOk result (λ passed. IsAccepted
         (S.outside shelf.new).held name.now passed) }
+    ensures shown { IfOk result (λ passed. HasShown name.now (HasParts passed)
+        (S.outside shelf.old).given (S.outside shelf.new).given) }
     ensures stays { OnOk result (HasRead (S.outside shelf.old) (S.outside shelf.new)) }
     ensures refused { (refusal : Refused) → result ≡ Err (CopyFault.Refused refusal)
         → IsJudged (S.outside shelf.new).held name.now (Some refusal) }
@@ -98,6 +101,7 @@ fn put_all<S: Shelf, T: Target>(
         → AreCut (T.files target.old (seen ++ take k items.now)) before
         (S.outside shelf.new) error)) }
     ensures tells { (S.outside shelf.new).held ≡ (S.outside shelf.old).held }
+    ensures gives { (S.outside shelf.new).given ≡ (S.outside shelf.old).given }
 {
     for item in items {
         match target.put(shelf, item) {
@@ -131,8 +135,11 @@ pub(crate) fn copy_records<S: Shelf, T: Target>(
     ensures unrefused { (refusal : Refused) → result ≢ Err (CopyFault.Refused refusal) }
     ensures changed { (refusal : Refused) → result ≡ Err (CopyFault.Changed refusal)
         → IsJudged (S.outside shelf.new).held name.now (Some refusal) }
+    ensures shown { IfOk result (λ passed. HasShown name.now (HasParts passed)
+        (S.outside shelf.old).given (S.outside shelf.new).given) }
     ensures found { (refusal : Refused) → result ≡ Err (CopyFault.Changed refusal)
-        → (bytes : List ℕ) × (refusal_of any bytes ≡ Some refusal) }
+        → HasShown name.now (λ file. refusal_of any file ≡ Some refusal)
+        (S.outside shelf.old).given (S.outside shelf.new).given }
     ensures tells { Narrows (S.outside shelf.old).held (S.outside shelf.new).held }
 {
     let mut cursor = match Cursor::new(alloc) {
@@ -202,7 +209,8 @@ pub(crate) fn copy_again<S: Shelf, T: Target>(
     ensures changed { (refusal : Refused) → result ≡ Err (CopyFault.Changed refusal)
         → (S.outside shelf.new).held ≡ None }
     ensures other { (refusal : Refused) → result ≡ Err (CopyFault.Changed refusal)
-        → IsOther first.now refusal }
+        → IsOther name.now first.now refusal (S.outside shelf.old).given
+        (S.outside shelf.new).given }
 {
     let second = match copy_records(alloc, shelf, name, target) {
         Ok(passed) => passed,

@@ -130,6 +130,7 @@ fn begin<'a, S: Shelf>(
     ensures cut { IfErr result (λ error. AreCut
         (halves_so_far first.now second.now version splitter [])
         (S.outside shelf.old) (S.outside shelf.new) error) }
+    ensures gives { (S.outside shelf.new).given ≡ (S.outside shelf.old).given }
 {
     let (before, after) = splitter.headers();
     let mut files = TraceOutputs::new(alloc);
@@ -172,7 +173,8 @@ fn split_accepted<'a, S: Shelf>(
     ensures changed { (refusal : Refused) → result ≡ Err (CopyFault.Changed refusal)
         → (S.outside shelf.new).held ≡ None }
     ensures other { (refusal : Refused) → result ≡ Err (CopyFault.Changed refusal)
-        → IsOther passed.now refusal }
+        → IsOther name.now passed.now refusal (S.outside shelf.old).given
+        (S.outside shelf.new).given }
     ensures stopped { IfErr result (λ fault. HasStopped (S.outside shelf.new).held name.now
         (first.now ∷ second.now ∷ []) (halves at first.now second.now) (S.outside shelf.old)
         (S.outside shelf.new) fault) }
@@ -229,11 +231,12 @@ pub fn split_trace<S: Shelf>(
     ensures stays { (refusal : Refused) → result ≡ Err (CopyFault.Refused refusal)
         → HasRead (S.outside shelf.old) (S.outside shelf.new) }
     // A second reading is refused as no trace, or beside the first: for its version, its number of
-    // harts, its first position, or its number of accesses. No files are told then, or no more.
+    // harts, its first position, or its number of accesses. What its reads have given is refused so,
+    // and no files are told then, or no more.
     ensures changed { (refusal : Refused) → result ≡ Err (CopyFault.Changed refusal)
         → (S.outside shelf.new).held ≡ None }
     ensures other { (refusal : Refused) → result ≡ Err (CopyFault.Changed refusal)
-        → HasChanged (S.outside shelf.new).held name.now refusal }
+        → HasChanged name.now refusal (S.outside shelf.old).given (S.outside shelf.new).given }
     // Only an accepted trace is written, whatever the fault.
     ensures accepted { result ≡ Err CopyFault.WriteFault
         → IsJudged (S.outside shelf.new).held name.now None }

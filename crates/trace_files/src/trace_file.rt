@@ -54,6 +54,7 @@ impl<'a> TraceFile<'a> {
             (S.outside shelf.old) (S.outside shelf.new)) }
         ensures cut { IfErr result (λ error. AreCut (trace_so_far name.now version header [])
             (S.outside shelf.old) (S.outside shelf.new) error) }
+        ensures gives { (S.outside shelf.new).given ≡ (S.outside shelf.old).given }
     {
         let mut files = TraceOutputs::new(alloc);
         match files.begin_trace(alloc, shelf, 0, name, version, header) {
@@ -84,6 +85,7 @@ impl<'a> TraceFile<'a> {
             → IsOutputs self.old.files outputs before (S.outside shelf.old)
             → AreCut outputs before (S.outside shelf.new) error) }
         ensures tells { (S.outside shelf.new).held ≡ (S.outside shelf.old).held }
+        ensures gives { (S.outside shelf.new).given ≡ (S.outside shelf.old).given }
     {
         self.files.finish(shelf)
     }

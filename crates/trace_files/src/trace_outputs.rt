@@ -64,6 +64,7 @@ impl<'a> TraceOutputs<'a> {
             → AreCut (outputs ++ record { name = name.now; bytes = [] } ∷ []) before
             (S.outside shelf.new) error) }
         ensures tells { (S.outside shelf.new).held ≡ (S.outside shelf.old).held }
+        ensures gives { (S.outside shelf.new).given ≡ (S.outside shelf.old).given }
     {
         self.outputs.begin(alloc, shelf, name)
     }
@@ -96,6 +97,7 @@ impl<'a> TraceOutputs<'a> {
             { name = name.now; bytes = begun_with version header [] } ∷ [])
             before (S.outside shelf.new) error) }
         ensures tells { (S.outside shelf.new).held ≡ (S.outside shelf.old).held }
+        ensures gives { (S.outside shelf.new).given ≡ (S.outside shelf.old).given }
     {
         match self.begin(alloc, shelf, name) {
             Ok(()) => {}
@@ -132,6 +134,7 @@ impl<'a> TraceOutputs<'a> {
             → AreCut (outputs_with outputs place (spell_header writer.old.version header))
             before (S.outside shelf.new) error) }
         ensures tells { (S.outside shelf.new).held ≡ (S.outside shelf.old).held }
+        ensures gives { (S.outside shelf.new).given ≡ (S.outside shelf.old).given }
     {
         self.piece.clear();
         match writer.header(header, &mut self.piece) {
@@ -168,6 +171,7 @@ impl<'a> TraceOutputs<'a> {
             (spell_record writer.old.version writer.old.before item.now))
             before (S.outside shelf.new) error) }
         ensures tells { (S.outside shelf.new).held ≡ (S.outside shelf.old).held }
+        ensures gives { (S.outside shelf.new).given ≡ (S.outside shelf.old).given }
     {
         self.piece.clear();
         match writer.item(item, &mut self.piece) {
@@ -196,6 +200,7 @@ impl<'a> TraceOutputs<'a> {
             → IsOutputs self.old outputs before (S.outside shelf.old)
             → AreCut (outputs_with outputs place bytes.now) before (S.outside shelf.new) error) }
         ensures tells { (S.outside shelf.new).held ≡ (S.outside shelf.old).held }
+        ensures gives { (S.outside shelf.new).given ≡ (S.outside shelf.old).given }
     {
         self.outputs.put(shelf, place, bytes)
     }
@@ -214,6 +219,7 @@ impl<'a> TraceOutputs<'a> {
             → IsOutputs self.old outputs before (S.outside shelf.old)
             → AreCut outputs before (S.outside shelf.new) error) }
         ensures tells { (S.outside shelf.new).held ≡ (S.outside shelf.old).held }
+        ensures gives { (S.outside shelf.new).given ≡ (S.outside shelf.old).given }
     {
         self.outputs.finish(shelf)
     }

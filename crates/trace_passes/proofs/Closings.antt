@@ -6,15 +6,27 @@ use Rattle.trace_format.specs.declared.read_so_far.ReadSoFar.{ReadSoFar}
 use Rattle.trace_format.specs.declared.record.TraceRecord.{TraceRecord}
 use Rattle.trace_format.specs.Reading.{Reading, ending_of, reading_of}
 use Rattle.trace_format.specs.Rules.{IsGoodHeader}
+use Rattle.shelf.specs.Agreeing.{HasShown}
+use Rattle.shelf.specs.Laws.Agreeing.{shown_then}
+use Rattle.shelf.specs.Shelf.{Given}
 use Rattle.trace_passes.specs.declared.passes.Passed.{Passed}
 use Rattle.trace_passes.specs.declared.wanted.Refusal.{Refusal}
 use Rattle.trace_passes.specs.declared.wanted.Wanted.{Wanted}
-use Rattle.trace_passes.specs.Passes.{HasPassed, IsWanted, before_last, head_of, header_refusal}
-use Rattle.trace_passes.specs.Passes.{refusal_of, trace_refusal, trace_with}
+use Rattle.trace_passes.specs.Passes.{HasParts, HasPassed, IsWanted, before_last, head_of}
+use Rattle.trace_passes.specs.Passes.{header_refusal, refusal_of, trace_of, trace_refusal, trace_with}
 use Rattle.trace_format.specs.Laws.Counts.{counted_so_far}
 use Rattle.trace_passes.specs.Laws.Passes.{accepted_at_end, is_sited, is_wanted}
 use Rattle.trace_passes.specs.Laws.Passes.{refusal_at_end, trace-records, trace_there}
 use Rattle.trace_passes.specs.Cursors.{HasEnded, IsHeadOf, IsRead}
+
+-- how the bytes are refused at their end
+pub refused_bytes : (w : Wanted) (now : Reading) (bytes : List ℕ) → IsRead w bytes now
+    → (x : Refusal) → trace_refusal (ending_of now) ≡ Some x → refusal_of w bytes ≡ Some x
+refused_bytes w now bytes read x e =
+    refusal_at_end w bytes read.sited
+    (ap (λ (r : Reading). header_refusal w (head_of r.progress)) (sym read.reading)
+    ∙ read.unrefused)
+    ∙ ap (λ (r : Reading). trace_refusal (ending_of r)) (sym read.reading) ∙ e
 
 module _ (held : Option Files) (name : List ℕ) (w : Wanted) (now : Reading) (bytes : List ℕ)
     (read : IsRead w bytes now)
@@ -59,8 +71,7 @@ module _ (held : Option Files) (name : List ℕ) (w : Wanted) (now : Reading) (b
         → Told held (λ files. refusal_of w (content files name) ≡ Some x)
     refused_end x e =
         told_map held (λ files same. ap (refusal_of w) (sym same)
-        ∙ refusal_at_end w bytes read.sited unrefused
-        ∙ ap (λ (r : Reading). trace_refusal (ending_of r)) (sym read.reading) ∙ e) whole
+        ∙ refused_bytes w now bytes read x e) whole
 
 -- the observer was given all records of the trace
 pub has_passed : (held : Option Files) (name : List ℕ) (w : Wanted) (bytes : List ℕ)
@@ -83,3 +94,12 @@ pub accepted_then : (held : Option Files) (name : List ℕ) (w : Wanted) (bytes 
     ≡ None)
 accepted_then held name w bytes passed ended =
     told_map held (λ files same. ap (refusal_of w) (sym same) ∙ ended.accepted) ended.whole
+
+-- the reads have shown that the name's file is such a trace
+pub shown_trace : (held : Option Files) (name : List ℕ) (w : Wanted) (bytes : List ℕ)
+    (passed : Passed) (before now : List Given) → HasEnded held name w bytes passed
+    → HasShown name (λ file. bytes ≡ file) before now
+    → HasShown name (HasParts passed) before now
+shown_trace held name w bytes passed before now ended shown =
+    shown_then name (λ file. bytes ≡ file) (HasParts passed) before now
+    (λ file same. (ended.items, ap trace_of (sym same) ∙ ended.is)) shown

@@ -4,5 +4,6 @@ pub mod Fronts
 pub mod Going
 pub mod Notes
 pub mod Pieces
+pub mod Shown
 pub mod Spelled
 pub mod Stopping

@@ -1,7 +1,8 @@
 -- How far a named trace is read, piece after piece, and what stands at its end.
 use Rattle.std.specs.Prelude.{◌≡◌, ℕ, ◌+◌, ◌-◌, ◌<◌, ◌≤◌, List, ◌++◌, length, Option, Some}
 use Rattle.std.specs.Prelude.{None, option_map, true}
-use Rattle.shelf.specs.Shelf.{Files, Told, content}
+use Rattle.shelf.specs.Agreeing.{HasReadFront}
+use Rattle.shelf.specs.Shelf.{Files, Given, Outside, Told, content}
 use Rattle.shelf.specs.Fetch.{IsFront}
 use Rattle.trace_format.specs.declared.read_so_far.ReadSoFar.{ReadSoFar}
 use Rattle.trace_format.specs.declared.record.TraceRecord.{TraceRecord}
@@ -77,12 +78,15 @@ pub record HasCome (held : Option Files) (name : List ℕ) (w : Wanted) (bytes :
   pub front : Told held (λ files. IsFront (content files name) bytes)
   pub read : IsRead w bytes now.reading
 
--- It has read more bytes than these, and holds the records that became whole in them.
-pub record GoesOn (held : Option Files) (name : List ℕ) (w : Wanted) (bytes : List ℕ)
+-- It has read more bytes than these, and holds the records that became whole in them. Where reads
+-- have given these bytes, they have given them all once they have given the new ones.
+pub record GoesOn (old new : Outside) (name : List ℕ) (w : Wanted) (bytes : List ℕ)
     (now : Reached) : Type 0 where
   pub more : List ℕ
-  pub come : HasCome held name w (bytes ++ more) now
+  pub come : HasCome new.held name w (bytes ++ more) now
   pub records : (reading_of (bytes ++ more)).0 ≡ (reading_of bytes).0 ++ now.items
+  pub front : (before : List Given) → HasReadFront name bytes before old.given
+      → HasReadFront name (bytes ++ more) before new.given
 
 -- These bytes are all of the name's, where these are told, and they are a trace of these parts, as
 -- wanted.

@@ -116,6 +116,11 @@ trace_with passed items =
           passed.ending;
     }
 
+-- these bytes are a trace of the parts that a pass gives
+abbrev pub HasParts : Passed → List ℕ → Type 0
+HasParts passed bytes =
+    (items : List TraceRecord) × (trace_of bytes ≡ Some (trace_with passed items))
+
 -- There are bytes, the held ones of the name where these are told, that are such a trace, whose
 -- records were given.
 pub record HasPassed (held : Option Files) (name : List ℕ) (passed : Passed)

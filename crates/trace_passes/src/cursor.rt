@@ -1,8 +1,9 @@
 // A named trace, piece after piece.
-ghost use Rattle.std.specs.Prelude.{◌≡◌, ◌≢◌, ◌++◌, ◌+◌, ◌<◌, ◌≤◌, ℕ, List, [], length, true};
-ghost use Rattle.std.specs.Prelude.{None, Some, unwrap_or, Ok, Err, IfOk, OnOk};
+ghost use Rattle.std.specs.Prelude.{◌≡◌, ◌≢◌, ◌++◌, ◌∷◌, ◌+◌, ◌<◌, ◌≤◌, ℕ, List, [], length, take};
+ghost use Rattle.std.specs.Prelude.{true, None, Some, unwrap_or, Ok, Err, IfOk, OnOk};
 ghost use Rattle.std.specs.Io.{ReadsAtMost};
-ghost use Rattle.shelf.specs.Shelf.{content, HasCauseAt, OnlyReads, Reads, Told};
+ghost use Rattle.shelf.specs.Agreeing.{HasReadFront, HasShown};
+ghost use Rattle.shelf.specs.Shelf.{content, Given, HasCauseAt, OnlyReads, Reads, Told, read_of};
 ghost use Rattle.trace_format.specs.declared.fault.TraceFault.{TraceFault as Fault};
 ghost use Rattle.trace_format.specs.declared.fault.TraceFault.TheVariants as trace_faults;
 ghost use Rattle.trace_format.specs.Reading.{ending_of, reading_of};
@@ -87,6 +88,8 @@ fn fetch<S: Shelf>(
     ensures bytes { IfOk result (λ n. Told (S.outside shelf.new).held
         (λ files. Reads (content files name.now) at n piece.new)) }
     ensures magic { IfOk result (λ n. pcs ≡ true → at < magic_length → at + n ≤ magic_length) }
+    ensures given { IfOk result (λ n. (room : ℕ) × (0 < room) × ((S.outside shelf.new).given
+        ≡ read_of name.now at room (take n piece.new) ∷ (S.outside shelf.old).given)) }
     ensures cause { HasCauseAt name.now
         (S.outside shelf.old).read_faults (S.outside shelf.new).read_faults result }
     ensures only { OnlyReads (S.outside shelf.old) (S.outside shelf.new) }
@@ -211,18 +214,33 @@ impl Cursor {
         // More bytes were read, and their records are there.
         ensures more { result ≡ Ok None → (bytes : List ℕ)
             → HasCome (S.outside shelf.old).held name.now wanted.now bytes self.old
-            → GoesOn (S.outside shelf.new).held name.now wanted.now bytes self.new }
+            → GoesOn (S.outside shelf.old) (S.outside shelf.new) name.now wanted.now bytes
+            self.new }
         ensures fewer { result ≡ Ok None → bytes_left self.new < bytes_left self.old }
         // No more bytes are there, and those so far are a trace.
         ensures ended { (passed : Parts) → result ≡ Ok (Some passed) → (bytes : List ℕ)
             → HasCome (S.outside shelf.old).held name.now wanted.now bytes self.old
             → HasEnded (S.outside shelf.new).held name.now wanted.now bytes passed }
+        // What reads have given shows that, also where none are told.
+        ensures shown { (passed : Parts) → result ≡ Ok (Some passed) → (bytes : List ℕ)
+            → HasCome (S.outside shelf.old).held name.now wanted.now bytes self.old
+            → (before : List Given)
+            → HasReadFront name.now bytes before (S.outside shelf.old).given
+            → HasShown name.now (λ file. bytes ≡ file) before (S.outside shelf.new).given }
         ensures refused { (refusal : Refused) → result ≡ Err (PassFault.Refused refusal)
             → Told (S.outside shelf.new).held
             (λ files. refusal_of wanted.now (content files name.now) ≡ Some refusal) }
         // It is that of some bytes, also where none are told.
         ensures found { (refusal : Refused) → result ≡ Err (PassFault.Refused refusal)
             → (bytes : List ℕ) × (refusal_of wanted.now bytes ≡ Some refusal) }
+        // What reads have given shows it.
+        ensures shown_refused { (refusal : Refused) → result ≡ Err (PassFault.Refused refusal)
+            → (bytes : List ℕ)
+            → HasCome (S.outside shelf.old).held name.now wanted.now bytes self.old
+            → (before : List Given)
+            → HasReadFront name.now bytes before (S.outside shelf.old).given
+            → HasShown name.now (λ file. refusal_of wanted.now file ≡ Some refusal) before
+            (S.outside shelf.new).given }
         // At a fault of the trace it has read all that the bytes say.
         ensures stopped { (fault : Fault)
             → result ≡ Err (PassFault.Refused (refusals.Trace fault)) → (bytes : List ℕ)

@@ -2,6 +2,7 @@
 ghost use Rattle.std.specs.Prelude.{◌≡◌, ◌≢◌, ◌++◌, ◌<◌, List, [], length};
 ghost use Rattle.std.specs.Prelude.{None, Some, Err, IfOk, OnOk, true};
 ghost use Rattle.std.specs.List.{All};
+ghost use Rattle.shelf.specs.Agreeing.{HasShown};
 ghost use Rattle.shelf.specs.Shelf.{content, OnlyReads, Told};
 ghost use Rattle.trace_format.specs.declared.record.Header.{Header as Head};
 ghost use Rattle.trace_format.specs.declared.record.TraceRecord.{TraceRecord as Record};
@@ -9,7 +10,8 @@ ghost use Rattle.trace_format.specs.declared.fault.TraceFault.TheVariants as tra
 ghost use Rattle.trace_format.specs.Rules.{IsGoodHeader, IsWritable};
 ghost use Rattle.trace_passes.specs.declared.wanted.Refusal.{Refusal as Refused};
 ghost use Rattle.trace_passes.specs.declared.wanted.Refusal.TheVariants as refusals;
-ghost use Rattle.trace_passes.specs.Passes.{HasPassCause, HasPassed, IsWanted, refusal_of};
+ghost use Rattle.trace_passes.specs.Passes.{HasParts, HasPassCause, HasPassed, IsWanted};
+ghost use Rattle.trace_passes.specs.Passes.{refusal_of};
 ghost use Rattle.trace_passes.specs.Rooms.{HasRoom};
 
 use crate::{Cursor, Observer, Refusal, Wanted};
@@ -118,6 +120,12 @@ pub fn pass<S: Shelf, O: Observer>(
     ensures refused { (refusal : Refused) → result ≡ Err (PassFault.Refused refusal)
         → Told (S.outside shelf.new).held
         (λ files. refusal_of wanted.now (content files name.now) ≡ Some refusal) }
+    // What the reads of this call have given shows so much, also where none are told.
+    ensures shown { IfOk result (λ passed. HasShown name.now (HasParts passed)
+        (S.outside shelf.old).given (S.outside shelf.new).given) }
+    ensures shown_refused { (refusal : Refused) → result ≡ Err (PassFault.Refused refusal)
+        → HasShown name.now (λ file. refusal_of wanted.now file ≡ Some refusal)
+        (S.outside shelf.old).given (S.outside shelf.new).given }
     ensures memory { result ≢ Err (PassFault.Refused (refusals.Trace trace_faults.NoMemory)) }
     // A fault of reading has its cause, and no number rises with another answer.
     ensures cause { HasPassCause name.now (S.outside shelf.old) (S.outside shelf.new) result }

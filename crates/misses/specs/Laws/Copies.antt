@@ -2,18 +2,19 @@
 use Rattle.std.proofs.Common.{◌≡◌, ℕ, zero, suc, ◌+◌, ◌≤◌, Bool, true, false, eqb, ◌&&◌}
 use Rattle.std.proofs.Common.{◌||◌, List, [], ◌∷◌, ◌++◌, length, drop, refl, sym, subst}
 use Rattle.std.proofs.Common.{arith, inl, inr, length-append}
-use Rattle.std.proofs.lemmas.Bool.{cases_Bool}
+use Rattle.std.proofs.lemmas.Bool.{cases_Bool, false≢true}
 use Rattle.std.proofs.Math.Bool.{or-false}
 use Rattle.std.proofs.lemmas.Bool.Decides.{nat_tests}
 use Rattle.std.proofs.lemmas.List.{append-nil, append_assoc}
 use Rattle.std.proofs.lemmas.List.Folds.{list_any-append}
-use Rattle.std.specs.Prelude.{if◌then◌else◌}
+use Rattle.std.specs.Prelude.{if◌then◌else◌, is_some, Option, None, Some}
 use Rattle.std.specs.List.{list_any}
 use Rattle.base.specs.Touch.{Touch}
 use Rattle.sharing_rules.specs.Laws.Lists.{by_push}
+use Rattle.misses.specs.Entries.{right_after}
 use Rattle.misses.specs.Misses.{after_load, changes, copies, copies_from, is_by_in, lacks, wants}
 
-copies_from-push : (line_of : ℕ → ℕ) (s : List Touch) (loaded : ℕ → ℕ → ℕ) (t : List Touch)
+copies_from-push : (line_of : ℕ → ℕ) (s : List Touch) (loaded : ℕ → ℕ → Option ℕ) (t : List Touch)
     (a : Touch) (h r : ℕ)
     → copies_from line_of s loaded (t ++ a ∷ []) h r ≡ after_load line_of (s ++ t)
     (copies_from line_of s loaded t) a h r
@@ -28,18 +29,18 @@ copies_from-push line_of s loaded (b ∷ t) a h r =
 pub copies-push : (line_of : ℕ → ℕ) (t : List Touch) (a : Touch) (h r : ℕ)
     → copies line_of (t ++ a ∷ []) h r ≡ after_load line_of t (copies line_of t) a h r
 unfolding copies
-copies-push line_of t a h r = copies_from-push line_of [] (λ h r. 0) t a h r
+copies-push line_of t a h r = copies_from-push line_of [] (λ h r. None) t a h r
 
-pub copies-empty : (line_of : ℕ → ℕ) (h r : ℕ) → copies line_of [] h r ≡ 0
+pub copies-empty : (line_of : ℕ → ℕ) (h r : ℕ) → copies line_of [] h r ≡ None
 unfolding copies
 copies-empty line_of h r = refl
 
 -- a copy was loaded within the list
 pub copies-within : (line_of : ℕ → ℕ) (t : List Touch) (h r : ℕ)
-    → copies line_of t h r ≤ length t
+    → right_after (copies line_of t h r) ≤ length t
 copies-within line_of t h r =
-    by_push (λ (t : List Touch). copies line_of t h r ≤ length t)
-    (omega (arith, copies-empty line_of h r))
+    by_push (λ (t : List Touch). right_after (copies line_of t h r) ≤ length t)
+    (rw (copies-empty line_of h r) (omega arith))
     (λ t a ih.
     let len = length-append t (a ∷ []) in
     rw (copies-push line_of t a h r)
@@ -79,17 +80,20 @@ any-kept p c t a le =
 
 -- a copy that was just loaded lacks nothing
 lacks-loaded : (t : List Touch) (a : Touch) (h x : ℕ)
-    → lacks (length t + 1) (t ++ a ∷ []) h x ≡ false
-lacks-loaded t a h x =
-    let positive : eqb (length t + 1) 0 ≡ false = above_zero (length t) in
-    rw (positive, any-loaded (changes h x) t a) refl
+    → lacks (Some (length t)) (t ++ a ∷ []) h x ≡ false
+lacks-loaded t a h x = any-loaded (changes h x) t a
 
 -- one that stays lacks a word more where the access changes it
-lacks-kept : (c : ℕ) (t : List Touch) (a : Touch) (h x : ℕ) → c ≤ length t
+lacks-kept : (c : Option ℕ) (t : List Touch) (a : Touch) (h x : ℕ) → right_after c ≤ length t
     → lacks c (t ++ a ∷ []) h x ≡ (lacks c t h x || changes h x a)
-lacks-kept c t a h x le =
-    rw (any-kept (changes h x) c t a le)
-    (elim (cases_Bool (eqb c 0)) [ inl e ↦ rw e refl | inr e ↦ rw e refl ])
+lacks-kept None t a h x le = refl
+lacks-kept (Some load) t a h x le = any-kept (changes h x) (load + 1) t a le
+
+-- where a word isn't lacking there is a copy
+pub lacks-some : (c : Option ℕ) (t : List Touch) (h x : ℕ) → lacks c t h x ≡ false
+    → is_some c ≡ true
+lacks-some None t h x e = absurd (false≢true (sym e))
+lacks-some (Some load) t h x e = refl
 
 pub wants-push : (line_of : ℕ → ℕ) (t : List Touch) (a : Touch) (h x : ℕ)
     → wants line_of (t ++ a ∷ []) h x ≡

@@ -7,6 +7,7 @@ use Rattle.std.proofs.lemmas.Bool.{and_parts, and_from, false≢true}
 use Rattle.std.proofs.Math.Bool.{and-false, or-false, or-true}
 use Rattle.std.proofs.lemmas.List.Folds.{list_any-append}
 use Rattle.std.specs.List.{list_any}
+use Rattle.std.specs.Prelude.{None}
 use Rattle.base.specs.Touch.{Touch, is_write, word_of}
 use Rattle.sharing_rules.specs.Holders.{holders}
 use Rattle.sharing_rules.specs.Places.{count_places}
@@ -23,10 +24,10 @@ use Rattle.misses.specs.WordLines.{IsAlone, KeepsWords, PartsWords}
 
 -- a hart that never came has no copy
 copied-came : (line_of : ℕ → ℕ) (h r : ℕ) (t : List Touch)
-    → list_any (is_by_in line_of h r) t ≡ false → copies line_of t h r ≡ 0
+    → list_any (is_by_in line_of h r) t ≡ false → copies line_of t h r ≡ None
 copied-came line_of h r t =
     by_push (λ (t : List Touch). list_any (is_by_in line_of h r) t ≡ false
-    → copies line_of t h r ≡ 0)
+    → copies line_of t h r ≡ None)
     (λ e. copies-empty line_of h r)
     (λ t a ih never.
     let split = sym (list_any-append (is_by_in line_of h r) t (a ∷ [])) ∙ never in
@@ -45,8 +46,8 @@ cold-needed line_of r t a e =
     elim (cases_Bool (list_any (is_by_in line_of a.hart r) t)) [
       | inl came ↦ let k : false ≡ true = rw came at parts.1 in absurd (false≢true k)
       | inr never ↦
-          let none : copies line_of t a.hart (line_of a.addr) ≡ 0 =
-          subst (λ q. copies line_of t a.hart q ≡ 0) (sym (eqb-true _ _ inside))
+          let none : copies line_of t a.hart (line_of a.addr) ≡ None =
+          subst (λ q. copies line_of t a.hart q ≡ None) (sym (eqb-true _ _ inside))
           (copied-came line_of a.hart r t never) in
           and_from _ _ inside (rw none refl)
     ]

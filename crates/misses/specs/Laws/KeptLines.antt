@@ -12,7 +12,7 @@ use Rattle.std.proofs.lemmas.Option.{get_or_from_slice_get}
 use Rattle.std.proofs.Math.Bool.{and-false, and-true}
 use Rattle.std.specs.List.{list_any}
 use Rattle.std.specs.Prelude.{if◌then◌else◌, filter, nat_eq, nat_le, nat_lt, slice_index_or}
-use Rattle.std.specs.Prelude.{slice_set}
+use Rattle.std.specs.Prelude.{slice_set, Option, Some}
 use Rattle.indexmap.specs.IndexMap.{insert_entry}
 use Rattle.base.specs.Lines.{Grid, is_layout}
 use Rattle.base.specs.Touch.{Touch, is_write}
@@ -22,7 +22,7 @@ use Rattle.sharing_rules.specs.Laws.Lists.{by_push, map_same, slice_get-map-belo
 use Rattle.sharing_rules.specs.Laws.Places.{count_places-push}
 use Rattle.sharing_rules.specs.Lines.{grid_line, word_place}
 use Rattle.sharing_rules.specs.Places.{below}
-use Rattle.misses.specs.Entries.{behind, writes_in, writes_word}
+use Rattle.misses.specs.Entries.{behind, right_after, writes_in, writes_word}
 use Rattle.misses.specs.Kept.{LineEntry, all_counted, cost_of}
 use Rattle.misses.specs.Kept.{counted, counts_after, kept_line, last_write_of}
 use Rattle.misses.specs.Kept.{lines_of, misses_now, needs_now, no_visits, note_line, unwritten}
@@ -35,7 +35,7 @@ use Rattle.misses.specs.Laws.Entries.{last_hart-same}
 use Rattle.misses.specs.Laws.Loads.{copies-own}
 use Rattle.misses.specs.Laws.Served.{holders-kept, wants-old}
 use Rattle.misses.specs.Laws.WordLines.{layout-keeps, same_word}
-use Rattle.misses.specs.Misses.{is_by_in, is_cold, is_in, is_miss, is_needed, wants}
+use Rattle.misses.specs.Misses.{copies, is_by_in, is_cold, is_in, is_miss, is_needed, wants}
 use Rattle.misses.specs.declared.line_misses.Cost.{Cost}
 use Rattle.misses.specs.declared.line_misses.Counts.{Counts}
 use Rattle.misses.specs.declared.line_misses.LastWrite.{LastWrite}
@@ -148,7 +148,7 @@ never-visited : (g : Grid) (r : ℕ) (t : List Touch) (h : ℕ)
 never-visited g r t h =
     by_push (λ (t : List Touch). list_any (eqb h) (harts_in g r t) ≡ false
     → visits_in g r t h ≡ no_visits)
-    (λ e. same_visits _ _ refl (copies-empty (lines_of g) h r))
+    (λ e. same_visits _ _ refl (ap right_after (copies-empty (lines_of g) h r)))
     (λ t a ih never.
     elim (cases_Bool (is_in (lines_of g) r a)) [
       | inr out ↦
@@ -213,7 +213,14 @@ visits-own g t a =
       eq-eqb a.hart a.hart refl,
       eq-eqb (lines_of g a.addr) (lines_of g a.addr) refl,
     ) refl)
-    (copies-own (lines_of g) t a)
+    (ap right_after (copies-own (lines_of g) t a)
+    ∙ either (wants (lines_of g) t a.hart a.addr) (length t)
+    (copies (lines_of g) t a.hart (lines_of g a.addr)))
+  where
+    either : (b : Bool) (n : ℕ) (c : Option ℕ)
+        → right_after (if b then Some n else c) ≡ (if b then n + 1 else right_after c)
+    either true n c = refl
+    either false n c = refl
 
 harts-own : (g : Grid) (t : List Touch) (a : Touch)
     → entries (visits_in g (lines_of g a.addr) (t ++ a ∷ []))

@@ -1,21 +1,21 @@
 -- Each needed load that isn't cold has a miss of its own: between a hart's load of its copy and the
 -- next there is a miss of that hart in that line.
 use Rattle.std.proofs.Common.{◌≡◌, ℕ, ◌+◌, ◌≤◌, Bool, true, false, eqb, not, ◌&&◌}
-use Rattle.std.proofs.Common.{List, [], ◌∷◌, ◌++◌, length, drop, refl, sym, ◌∙◌, subst}
+use Rattle.std.proofs.Common.{List, [], ◌∷◌, ◌++◌, length, drop, refl, sym, ap, ◌∙◌, subst}
 use Rattle.std.proofs.Common.{arith, inl, inr}
-use Rattle.std.proofs.lemmas.Bool.{cases_Bool, eqb-true, eq-eqb, or_parts, or_cases}
+use Rattle.std.proofs.lemmas.Bool.{cases_Bool, eqb-true, eq-eqb, or_cases}
 use Rattle.std.proofs.lemmas.Bool.{and_parts, and_from, or_left, or_right, false≢true}
 use Rattle.std.proofs.Math.Bool.{and-false, and-true, or-false}
-use Rattle.std.specs.Prelude.{if◌then◌else◌}
+use Rattle.std.specs.Prelude.{if◌then◌else◌, is_some, Some}
 use Rattle.std.specs.List.{list_any}
 use Rattle.base.specs.Touch.{Touch, is_write}
 use Rattle.sharing_rules.specs.Holders.{holders}
 use Rattle.sharing_rules.specs.Places.{count_places}
 use Rattle.sharing_rules.specs.Laws.Counts.{holders-push}
-use Rattle.sharing_rules.specs.Laws.Lists.{by_push}
+use Rattle.sharing_rules.specs.Laws.Lists.{by_push, slice_cases}
 use Rattle.sharing_rules.specs.Laws.Places.{count_places-empty, count_places-push}
-use Rattle.misses.specs.Laws.Copies.{any-kept, any-loaded, copies-push, copies-within}
-use Rattle.misses.specs.Laws.Copies.{above_zero}
+use Rattle.misses.specs.Entries.{right_after}
+use Rattle.misses.specs.Laws.Copies.{any-kept, any-loaded, copies-push, copies-within, lacks-some}
 use Rattle.misses.specs.Laws.Sums.{count_places-by_hart, of_hart, one}
 use Rattle.misses.specs.Misses.{changes, copies, is_by_in, is_miss, is_needed}
 use Rattle.misses.specs.Misses.{lacks, wants}
@@ -38,18 +38,18 @@ held_before line_of h r t a other held =
 
 -- whoever holds a line has a copy of it
 holds-copied : (line_of : ℕ → ℕ) (h r : ℕ) (t : List Touch) → holders line_of t h r ≡ true
-    → eqb (copies line_of t h r) 0 ≡ false
+    → is_some (copies line_of t h r) ≡ true
 holds-copied line_of h r t =
     by_push (λ (t : List Touch). holders line_of t h r ≡ true
-    → eqb (copies line_of t h r) 0 ≡ false)
+    → is_some (copies line_of t h r) ≡ true)
     (λ e. absurd (false≢true e))
     (λ t a ih held.
     rw (copies-push line_of t a h r)
     (elim (cases_Bool (is_by_in line_of h r a && lacks (copies line_of t h r) t h a.addr)) [
-      | inl l ↦ rw l (above_zero (length t))
+      | inl l ↦ rw l refl
       | inr l ↦ rw l (elim (cases_Bool (is_by_in line_of h r a)) [
         | inl mine ↦ let none : lacks (copies line_of t h r) t h a.addr ≡ false = rw mine at l in
-            (or_parts _ _ none).0
+            lacks-some (copies line_of t h r) t h a.addr none
         | inr other ↦ ih (held_before line_of h r t a other held)
       ])
     ]))
@@ -77,7 +77,8 @@ changes-foreign line_of h x a keeps e =
 -- h holds a line that another hart wrote since h's copy was loaded: then h had a miss for nothing
 abbrev is_ahead : (ℕ → ℕ) → ℕ → ℕ → List Touch → Bool
 is_ahead line_of h r t =
-    holders line_of t h r && list_any (is_foreign line_of h r) (drop (copies line_of t h r) t)
+    holders line_of t h r
+    && list_any (is_foreign line_of h r) (drop (right_after (copies line_of t h r)) t)
 
 -- h's needed loads, those for which it is ahead, and its misses
 abbrev HasEnough : (ℕ → ℕ) → ℕ → ℕ → List Touch → Type 0
@@ -119,7 +120,7 @@ holds-own line_of t a =
 
 pub copies-own : (line_of : ℕ → ℕ) (t : List Touch) (a : Touch)
     → copies line_of (t ++ a ∷ []) a.hart (line_of a.addr)
-    ≡ if wants line_of t a.hart a.addr then length t + 1
+    ≡ if wants line_of t a.hart a.addr then Some (length t)
     else copies line_of t a.hart (line_of a.addr)
 copies-own line_of t a =
     rw (
@@ -134,13 +135,16 @@ ahead-needed : (line_of : ℕ → ℕ) (t : List Touch) (a : Touch) → KeepsWor
     → is_ahead line_of a.hart (line_of a.addr) t ≡ true
 ahead-needed line_of t a keeps needed held =
     and_from _ _ held
-    (elim (or_cases _ _ needed) [
-      | inl none ↦ absurd (false≢true (sym (holds-copied line_of a.hart (line_of a.addr) t held)
-          ∙ none))
-      | inr changed ↦ any-within (changes a.hart a.addr)
-          (is_foreign line_of a.hart (line_of a.addr))
-          (drop (copies line_of t a.hart (line_of a.addr)) t)
-          (λ b e. changes-foreign line_of a.hart a.addr b keeps e) changed
+    (elim (slice_cases (copies line_of t a.hart (line_of a.addr))) [
+      | inl none ↦
+          let copied = holds-copied line_of a.hart (line_of a.addr) t held in
+          absurd (false≢true (sym (ap is_some none) ∙ copied))
+      | inr some ↦
+          let changed : list_any (changes a.hart a.addr) (drop (some.0 + 1) t) ≡ true =
+          rw some.1 at needed in
+          rw some.1
+          (any-within (changes a.hart a.addr) (is_foreign line_of a.hart (line_of a.addr))
+          (drop (some.0 + 1) t) (λ b e. changes-foreign line_of a.hart a.addr b keeps e) changed)
     ])
 
 ahead-loaded : (line_of : ℕ → ℕ) (t : List Touch) (a : Touch)
@@ -158,14 +162,14 @@ ahead-unneeded : (line_of : ℕ → ℕ) (t : List Touch) (a : Touch)
     → wants line_of t a.hart a.addr ≡ false
     → is_ahead line_of a.hart (line_of a.addr) (t ++ a ∷ [])
     ≡ list_any (is_foreign line_of a.hart (line_of a.addr))
-    (drop (copies line_of t a.hart (line_of a.addr)) t)
+    (drop (right_after (copies line_of t a.hart (line_of a.addr))) t)
 ahead-unneeded line_of t a unneeded =
     rw (
       copies-own line_of t a,
       unneeded,
       holds-own line_of t a,
       any-kept (is_foreign line_of a.hart (line_of a.addr))
-          (copies line_of t a.hart (line_of a.addr)) t a
+          (right_after (copies line_of t a.hart (line_of a.addr))) t a
           (copies-within line_of t a.hart (line_of a.addr)),
       eq-eqb a.hart a.hart refl,
       and-false (is_write a.kind),
@@ -195,7 +199,7 @@ enough-own : (line_of : ℕ → ℕ) (t : List Touch) (a : Touch) → KeepsWords
 enough-own line_of t a keeps ih =
     own-step _ _ _ _ (wants line_of t a.hart a.addr) (holders line_of t a.hart (line_of a.addr))
     (list_any (is_foreign line_of a.hart (line_of a.addr))
-    (drop (copies line_of t a.hart (line_of a.addr)) t))
+    (drop (right_after (copies line_of t a.hart (line_of a.addr))) t))
     (is_ahead line_of a.hart (line_of a.addr) t)
     (is_ahead line_of a.hart (line_of a.addr) (t ++ a ∷ []))
     (needed-own line_of t a) (missed-own line_of t a) ih refl (ahead-loaded line_of t a)
@@ -213,7 +217,8 @@ enough-other line_of h r t a other ih =
       count_places-push (of_hart h (is_miss line_of r)) t a,
       holders-push line_of t a h r,
       still,
-      any-kept (is_foreign line_of h r) (copies line_of t h r) t a (copies-within line_of t h r),
+      any-kept (is_foreign line_of h r) (right_after (copies line_of t h r)) t a
+          (copies-within line_of t h r),
     )
     (elim (cases_Bool (eqb (line_of a.addr) r)) [
       | inr i ↦ rw (

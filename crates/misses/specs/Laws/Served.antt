@@ -4,17 +4,18 @@
 use Rattle.std.proofs.Common.{◌≡◌, ℕ, ◌+◌, ◌≤◌, Bool, true, false, eqb, not, ◌&&◌}
 use Rattle.std.proofs.Common.{◌||◌, List, length, drop, refl, sym, ap, ◌∙◌}
 use Rattle.std.proofs.Common.{arith, inl, inr}
-use Rattle.std.proofs.lemmas.Bool.{cases_Bool, eqb-true, eq-eqb, lt-ltb, or_parts}
+use Rattle.std.proofs.lemmas.Bool.{cases_Bool, eqb-true, eq-eqb, false≢true, lt-ltb}
 use Rattle.std.proofs.lemmas.Bool.Decides.{nat_tests}
 use Rattle.std.proofs.Math.Bool.{and-false, or-false, or-true}
-use Rattle.std.specs.Prelude.{if◌then◌else◌, nat_lt, nat_le}
+use Rattle.std.specs.Prelude.{if◌then◌else◌, nat_lt, nat_le, Option, None, Some}
 use Rattle.std.specs.List.{list_any}
 use Rattle.base.specs.Touch.{Touch, is_write, word_of}
 use Rattle.sharing_rules.specs.Holders.{holders}
 use Rattle.sharing_rules.specs.Laws.Counts.{holders-push}
 use Rattle.sharing_rules.specs.Laws.Lists.{by_push}
-use Rattle.misses.specs.Entries.{behind, last_hart, writes_in, writes_word}
-use Rattle.misses.specs.Laws.Copies.{copies-empty, copies-push, copies-within, wants-empty}
+use Rattle.misses.specs.Entries.{behind, last_hart, right_after, writes_in, writes_word}
+use Rattle.misses.specs.Laws.Copies.{above_zero, copies-empty, copies-push, copies-within}
+use Rattle.misses.specs.Laws.Copies.{wants-empty}
 use Rattle.misses.specs.Laws.Copies.{wants-push}
 use Rattle.misses.specs.Laws.Entries.{behind-push, behind-within, last_hart-push}
 use Rattle.misses.specs.Misses.{copies, is_by_in, lacks, wants}
@@ -68,10 +69,17 @@ holders-kept line_of h r t =
     t
 
 -- what a copy lacks depends on the word alone
-pub lacks-word : (c : ℕ) (t : List Touch) (h x y : ℕ) → word_of x ≡ word_of y
+pub lacks-word : (c : Option ℕ) (t : List Touch) (h x y : ℕ) → word_of x ≡ word_of y
     → lacks c t h x ≡ lacks c t h y
-lacks-word c t h x y same = ap (λ w. eqb c 0 || list_any (λ (b : Touch). is_write b.kind
-    && not (eqb h b.hart) && eqb (word_of b.addr) w) (drop c t)) same
+lacks-word None t h x y same = refl
+lacks-word (Some load) t h x y same = ap (λ w. list_any (λ (b : Touch). is_write b.kind
+    && not (eqb h b.hart) && eqb (word_of b.addr) w) (drop (load + 1) t)) same
+
+-- and where it lacks nothing there is one
+copy-there : (c : Option ℕ) (t : List Touch) (h x : ℕ) → lacks c t h x ≡ false
+    → eqb (right_after c) 0 ≡ false
+copy-there None t h x e = absurd (false≢true (sym e))
+copy-there (Some load) t h x e = above_zero load
 
 -- a copy, where there is one, is old where the word's latest write is another hart's and is behind
 -- the load
@@ -92,19 +100,20 @@ own_write : (line_of : ℕ → ℕ) (h x : ℕ) (t : List Touch) (a : Touch) →
     → eqb h a.hart ≡ true → word_of a.addr ≡ word_of x
     → (is_by_in line_of h (line_of x) a && lacks (copies line_of t h (line_of x)) t h a.addr)
     ≡ false
-    → (eqb (copies line_of t h (line_of x)) 0 ≡ false) × (wants line_of t h x ≡ false)
+    → (eqb (right_after (copies line_of t h (line_of x))) 0 ≡ false) × (wants line_of t h x ≡ false)
 own_write line_of h x t a keeps e same unneeded =
     let i : eqb (line_of a.addr) (line_of x) ≡ true = eq-eqb _ _ (keeps a.addr x same) in
-    let none : lacks (copies line_of t h (line_of x)) t h a.addr ≡ false = rw (e, i) at unneeded in
-    let parts = or_parts _ _ none in
-    (parts.0, lacks-word _ t h x a.addr (sym same) ∙ none)
+    let none : lacks (copies line_of t h (line_of x)) t h a.addr ≡ false = rw (e, i) at unneeded in (
+      copy-there (copies line_of t h (line_of x)) t h a.addr none,
+      lacks-word (copies line_of t h (line_of x)) t h x a.addr (sym same) ∙ none,
+    )
 
 pub wants-old : (line_of : ℕ → ℕ) (h x : ℕ) (t : List Touch) → KeepsWords line_of
-    → wants line_of t h x ≡ is_old (copies line_of t h (line_of x)) h (behind (writes_word x) t)
-    (last_hart (writes_word x) t)
+    → wants line_of t h x ≡ is_old (right_after (copies line_of t h (line_of x))) h
+    (behind (writes_word x) t) (last_hart (writes_word x) t)
 wants-old line_of h x t keeps =
     by_push (λ (t : List Touch). wants line_of t h x
-    ≡ is_old (copies line_of t h (line_of x)) h (behind (writes_word x) t)
+    ≡ is_old (right_after (copies line_of t h (line_of x))) h (behind (writes_word x) t)
     (last_hart (writes_word x) t))
     (rw (wants-empty line_of h x, copies-empty line_of h (line_of x)) refl)
     (λ t a ih.
@@ -133,8 +142,8 @@ wants-old line_of h x t keeps =
                   v,
                   e,
                   or-true (wants line_of t h x),
-                  lt-ltb c (length t + 1) (omega (arith, le)),
-                  or-true (eqb c 0),
+                  lt-ltb (right_after c) (length t + 1) (omega (arith, le)),
+                  or-true (eqb (right_after c) 0),
                 ) refl
           ]
         ]

@@ -1,18 +1,17 @@
 -- A good state is read as it was spelled, whatever follows.
-use Rattle.std.proofs.Common.{◌≡◌, ℕ, zero, suc, ◌+◌, ◌-◌, ◌*◌, ◌/◌, ◌%◌, ◌^◌, ◌<◌, ◌≤◌, Bool, true}
+use Rattle.std.proofs.Common.{◌≡◌, ℕ, suc, ◌+◌, ◌-◌, ◌*◌, ◌/◌, ◌%◌, ◌^◌, ◌<◌, ◌≤◌, Bool, true}
 use Rattle.std.proofs.Common.{false, ◌&&◌, eqb, ltb, leb, ℤ, pos, negsuc, ◌+ℤ◌, ◌-ℤ◌, List, [], ◌∷◌}
-use Rattle.std.proofs.Common.{◌++◌, length, refl, sym, ap, ◌∙◌, subst, arith, inl, inr, take, drop}
-use Rattle.std.proofs.Common.{append_assoc, append-nil, get_or, slice_get}
+use Rattle.std.proofs.Common.{◌++◌, length, refl, sym, ap, ◌∙◌, subst, arith, take, drop}
+use Rattle.std.proofs.Common.{append_assoc, append-nil, get_or}
 use Rattle.std.proofs.Math.Nat.{div-mul-le_self, mul-div_left}
-use Rattle.std.proofs.Math.Seq.{drop-append-add, drop-append_seam}
-use Rattle.std.proofs.lemmas.Bool.{and_parts, and_from}
+use Rattle.std.proofs.Math.Seq.{drop-append_seam}
+use Rattle.std.proofs.lemmas.Bool.{and_parts, and_from, eqb-true, leb-true, ltb-true}
 use Rattle.std.proofs.lemmas.Bool.Decides.{Decides-eqb, nat_tests}
 use Rattle.std.proofs.lemmas.Int.{ints, to_z-of_z}
-use Rattle.std.proofs.lemmas.List.{length-append, length-map}
+use Rattle.std.proofs.lemmas.List.{length-append}
 use Rattle.std.proofs.lemmas.Nat.{from_le_bytes-to_le_bytes_2, from_le_bytes-to_le_bytes_4}
 use Rattle.std.proofs.lemmas.Nat.{from_le_bytes-to_le_bytes_8}
 use Rattle.std.proofs.lemmas.List.Sums.{sum_by-cons}
-use Rattle.std.proofs.lemmas.Option.{none-some, same_Some, slice_get_cases, slice_get_past}
 use Rattle.std.proofs.lemmas.Slice.Eq.{starts_is}
 use Rattle.std.specs.Prelude.{FitsSigned, flat_map, nat_abs, nat_eq, nat_lt, nat_le, Option, None}
 use Rattle.std.specs.Prelude.{Some, Ok, Err, if◌then◌else◌, sum_by, unwrap_or}
@@ -23,9 +22,6 @@ use Rattle.base.specs.Levels.{is_from_to}
 use Rattle.base.specs.Lines.{Grid, is_layout, is_line_size, line_number}
 use Rattle.base.specs.Ranges.{line_range}
 use Rattle.base.specs.declared.faults.ResumeFault.TheVariants.{BadState}
-use Rattle.sharing_rules.specs.Places.{below}
-use Rattle.sharing_rules.specs.Laws.Lists.{length-below, same_by_get, slice_get-map-below}
-use Rattle.sharing_rules.specs.Laws.Lists.{slice_cases}
 use Rattle.sharing_rules.specs.Arrivals.{each_once}
 use Rattle.sharing_rules.specs.Members.{IsRising}
 use Rattle.sharing_rules.specs.Laws.Orders.{in_order-same}
@@ -52,13 +48,13 @@ use Rattle.saved_state.specs.Spelling.{header_of, spell_state, spell_word}
 use Rattle.saved_state.specs.Units.{IsSized, are_entries, is_good_track, is_good_word}
 use Rattle.saved_state.specs.Units.{is_kind_placed, is_owner, is_placed, is_since, kind_of}
 use Rattle.saved_state.specs.Units.{owner_of, size_of, track_as, track_at, track_in, word_at}
-use Rattle.saved_state.specs.Units.{words_at, header_at, header_in, if_spelled, is_good_header}
+use Rattle.saved_state.specs.Units.{words_at, words_from, header_at, header_in, if_spelled, is_good_header}
 use Rattle.saved_state.specs.Units.{is_good_line, is_line, is_prediction, line_at, line_in}
 use Rattle.saved_state.specs.Units.{some_unless}
 use Rattle.sharing_rules.specs.Lines.{number_of_base}
 
 -- what is good and spelled is read
-spelled_again : {X : Type 0} (spell : X → List ℕ) (good : X → Bool) (x y : X) (more : List ℕ)
+pub spelled_again : {X : Type 0} (spell : X → List ℕ) (good : X → Bool) (x y : X) (more : List ℕ)
     → x ≡ y → good y ≡ true → if_spelled spell (good x) x (spell y ++ more) ≡ Some y
 spelled_again spell good x y more same is_good =
     let begins : starts_with nat_eq (spell y ++ more) (spell y) ≡ true =
@@ -118,11 +114,8 @@ rules_of h good =
       tracking = p1.1;
       prediction = p2.1;
       harts = p3.1;
-      position = at_most h.position (2 ^ 40) p4.1;
+      position = leb-true h.position (2 ^ 40) p4.1;
     }
-  where
-    at_most : (n m : ℕ) → leb n m ≡ true → n ≤ m
-    at_most n m h = grind (arith, nat_tests)
 
 -- the numbers of a good header fit their fields
 record FitFields (h : Header) : Type 0 where
@@ -213,12 +206,6 @@ integer_again b fits =
 pub size_some : (n : ℕ) → is_line_size n ≡ true → (0 < n) × (n ≤ 1024)
 size_some n h = (grind (arith, nat_tests), grind (arith, nat_tests))
 
-lower_by : (o n : ℕ) → ltb o n ≡ true → o < n
-lower_by o n h = grind (arith, nat_tests)
-
-upper_by : (k m : ℕ) → leb k m ≡ true → k ≤ m
-upper_by k m h = grind (arith, nat_tests)
-
 pub times_up : (k q n a : ℕ) → k ≤ q → q * n ≤ a → k * n ≤ a
 times_up k q n a h e = grind arith
 
@@ -228,7 +215,7 @@ line_fits n o k allowed low =
     let parts = and_parts (is_line_size n) (ltb o n)
     (and_parts (is_line_size n && ltb o n) (eqb (o % 4) 0) allowed).0 in
     let some = size_some n parts.0 in
-    let under = lower_by o n parts.1 in
+    let under = ltb-true o n parts.1 in
     let within = times_up k (line_number n o (2 ^ 32 - 1)) n (2 ^ 32 - 1 + n - o) low
     (div-mul-le_self (2 ^ 32 - 1 + n - o) n) in (
       some.0,
@@ -245,7 +232,7 @@ line_again h before l more header good =
     let outer = and_parts _ (is_from_to 1 h.position l.writes) good in
     let inner = and_parts (is_line h.grid l.number) _ outer.0 in
     let writes = in_range 1 h.position l.writes outer.1 in
-    let last = upper_by l.number (line_number h.grid.size h.grid.offset (2 ^ 32 - 1))
+    let last = leb-true l.number (line_number h.grid.size h.grid.offset (2 ^ 32 - 1))
     (and_parts _ _ inner.0).1 in
     let base = line_fits h.grid.size h.grid.offset l.number (rules_of h header).layout last in
     let number = ap (number_of_base h.grid) (integer_again (line_range h.grid.size h.grid.offset
@@ -274,7 +261,7 @@ owner_again : (harts : ℕ) (o : Owner) → harts ≤ 256 → is_owner harts o �
 owner_again harts owner.None few is = (omega arith, refl)
 owner_again harts owner.Many few is = (omega arith, refl)
 owner_again harts (owner.One h) few is =
-    let less : h < harts = lower_by h harts is in (
+    let less : h < harts = ltb-true h harts is in (
       omega arith,
       rw (not_this h no_hart (omega arith), not_this h many_harts (omega arith)) refl,
     )
@@ -290,76 +277,35 @@ word_again harts w more few good small =
     let mine = ap owner_of (from_le_bytes-to_le_bytes_2 (owner_number w.owner) o.0) ∙ o.1 in
     λ i. record { reads = reads i; writes = writes i; owner = mine i }
 
--- the words before a place are dropped
-piece : (ws : List Word) (i : ℕ) (w : Word) (more : List ℕ) → slice_get ws i ≡ Some w
-    → (rest : List ℕ) × (drop (20 * i) (flat_map spell_word ws ++ more) ≡ spell_word w ++ rest)
-piece [] i w more at = absurd (none-some w at)
-piece (v ∷ vs) zero w more at = (
-  flat_map spell_word vs ++ more,
-  append_assoc (spell_word v) (flat_map spell_word vs) more
-      ∙ ap (λ z. spell_word z ++ (flat_map spell_word vs ++ more)) (same_Some v w at),
-)
-piece (v ∷ vs) (suc i) w more at =
-    let later = piece vs i w more at in (
-      later.0,
-      ap (λ n. drop n (flat_map spell_word (v ∷ vs) ++ more))
-          (let e : 20 * suc i ≡ length (spell_word v) + 20 * i = omega (arith, length-word v) in e)
-          ∙ ap (drop (length (spell_word v) + 20 * i))
-          (append_assoc (spell_word v) (flat_map spell_word vs) more)
-          ∙ drop-append-add (spell_word v) (flat_map spell_word vs ++ more) (20 * i) ∙ later.1,
-    )
+words_again : (harts : ℕ) (ws : List Word) (more : List ℕ) → harts ≤ 256
+    → list_all (is_good_word harts) ws ≡ true → sum_by accesses ws < 2 ^ 64
+    → words_from (length ws) (flat_map spell_word ws ++ more) ≡ ws
+words_again harts [] more few all small = refl
+words_again harts (w ∷ ws) more few all small =
+    let rest = flat_map spell_word ws ++ more in
+    let parts = and_parts (is_good_word harts w) (list_all (is_good_word harts) ws) all in
+    let sum = sum_by-cons accesses w ws in
+    let joined = append_assoc (spell_word w) (flat_map spell_word ws) more in
+    let first = ap word_at joined
+    ∙ word_again harts w rest few parts.0 (omega (arith, sum, small)) in
+    let behind : drop 20 (flat_map spell_word (w ∷ ws) ++ more) ≡ rest =
+    ap (drop 20) joined ∙ ap (λ n. drop n (spell_word w ++ rest)) (sym (length-word w))
+    ∙ drop-append_seam (spell_word w) rest in
+    let others = ap (words_from (length ws)) behind
+    ∙ words_again harts ws more few parts.1 (omega (arith, sum, small)) in
+    λ i. first i ∷ others i
 
-word_small : (ws : List Word) (i : ℕ) (w : Word) → slice_get ws i ≡ Some w
-    → accesses w ≤ sum_by accesses ws
-word_small [] i w at = absurd (none-some w at)
-word_small (v ∷ vs) zero w at = let same : accesses v ≡ accesses w = ap accesses (same_Some v w at)
-    in omega (arith, same, sum_by-cons accesses v vs)
-word_small (v ∷ vs) (suc i) w at = omega (arith, word_small vs i w at, sum_by-cons accesses v vs)
-
-word_good : (harts : ℕ) (ws : List Word) (i : ℕ) (w : Word)
-    → list_all (is_good_word harts) ws ≡ true → slice_get ws i ≡ Some w → is_good_word harts w
-    ≡ true
-word_good harts [] i w all at = absurd (none-some w at)
-word_good harts (v ∷ vs) zero w all at = subst (λ z. is_good_word harts z ≡ true) (same_Some v w at)
-    (and_parts (is_good_word harts v) (list_all (is_good_word harts) vs) all).0
-word_good harts (v ∷ vs) (suc i) w all at = word_good harts vs i w
-    (and_parts (is_good_word harts v) (list_all (is_good_word harts) vs) all).1 at
-
-words_again : (harts : ℕ) (head : List ℕ) (ws : List Word) (more : List ℕ) → harts ≤ 256
-    → length head ≡ 32 → list_all (is_good_word harts) ws ≡ true → sum_by accesses ws < 2 ^ 64
-    → words_at (length ws) (head ++ (flat_map spell_word ws ++ more)) ≡ ws
-words_again harts head ws more few long all small =
-    let bytes = head ++ (flat_map spell_word ws ++ more) in
-    let f : ℕ → Word = λ i. word_at (drop (32 + 20 * i) bytes) in
-    same_by_get (words_at (length ws) bytes) ws (λ i. elim (slice_get_cases ws i).1 [
-      | inl (w, within, got, read) ↦
-          let rest = piece ws i w more got in
-          let there : drop (32 + 20 * i) bytes ≡ spell_word w ++ rest.0 =
-          ap (λ n. drop (n + 20 * i) bytes) (sym long)
-          ∙ drop-append-add head (flat_map spell_word ws ++ more) (20 * i) ∙ rest.1 in
-          slice_get-map-below f (length ws) i within
-          ∙ ap Some (ap word_at there
-          ∙ word_again harts w rest.0 few (word_good harts ws i w all got)
-          (omega (arith, word_small ws i w got, small)))
-          ∙ sym got
-      | inr (past, got) ↦
-          slice_get_past (words_at (length ws) bytes) i
-          (let n : length (words_at (length ws) bytes) ≡ length ws =
-          length-map (below (length ws)) f ∙ length-below (length ws) in omega (arith, n, past))
-          ∙ sym got
-    ])
-
--- what fits the fields of a track
-record FitTrack (x : Kept) : Type 0 where
+-- what fits the fields of a track, with a start
+record FitTrack (x : Kept) (start : Option ℕ) : Type 0 where
   pub entries : (harts : ℕ) × (harts ≤ 256) × (list_all (λ h. nat_lt h harts) x.entries ≡ true)
   pub few : length x.entries ≤ 2
-  pub start : (unwrap_or x.start no_start < 2 ^ 64)
-      × (some_unless no_start (unwrap_or x.start no_start) ≡ x.start)
+  pub start_fits : unwrap_or start no_start < 2 ^ 64
+  pub start_again : some_unless no_start (unwrap_or start no_start) ≡ start
   pub count : x.count < 2 ^ 64
   pub accessed : sum_by accesses x.words < 2 ^ 64
 
 hart_small : (h harts : ℕ) → harts ≤ 256 → nat_lt h harts ≡ true → h < 2 ^ 16
-hart_small h harts few less = let low = lower_by h harts less in omega arith
+hart_small h harts few less = let low = ltb-true h harts less in omega arith
 
 entries_again : (hs : List ℕ) (harts : ℕ) → harts ≤ 256 → list_all (λ h. nat_lt h harts) hs ≡ true
     → length hs ≤ 2
@@ -385,76 +331,59 @@ no_entries_at (h ∷ hs) none = absurd (above_none (length hs) none)
     above_none : (n : ℕ) → eqb (suc n) 0 ≡ true → ⊥
     above_none n e = grind (arith, nat_tests)
 
-zero_by : (n : ℕ) → eqb n 0 ≡ true → n ≡ 0
-zero_by n h = grind (arith, nat_tests)
-
-start_again : (s : ℕ) → s < 2 ^ 40 → some_unless no_start s ≡ Some s
-start_again s small = ap (λ b. if b then None else Some s) (not_this s no_start (omega arith))
-
-fit_track : (h : Header) (x : Kept) → is_good_header h ≡ true → is_since h x x.start ≡ true
-    → FitTrack x
-fit_track h x header since = elim (slice_cases x.start) [
-  | inl none ↦
-      let parts = and_parts _ (eqb (sum_by accesses x.words) 0)
-      (subst (λ (o : Option ℕ). is_since h x o ≡ true) none since) in
-      let inner = and_parts (eqb (length x.entries) 0) (eqb x.count 0) parts.0 in
-      let empty = no_entries_at x.entries inner.0 in
-      record {
-        entries = (0, omega arith, ap (λ hs. list_all (λ k. nat_lt k 0) hs) empty);
-        few = let n : length x.entries ≡ 0 = ap length empty in omega (arith, n);
-        start = (
-          (let n : unwrap_or x.start no_start ≡ no_start = ap (λ o. unwrap_or o no_start) none
-              in omega (arith, n)),
-          ap (λ o. some_unless no_start (unwrap_or o no_start)) none ∙ sym none,
-        );
-        count = omega (arith, zero_by x.count inner.1);
-        accessed = omega (arith, zero_by (sum_by accesses x.words) parts.1);
-      }
-  | inr there ↦
-      let s = there.0 in
-      let parts = and_parts _ (nat_le (sum_by accesses x.words + s) h.position)
-      (subst (λ (o : Option ℕ). is_since h x o ≡ true) there.1 since) in
-      let inner = and_parts (are_entries h.harts x.entries) (nat_lt (x.count + s) h.position)
-      parts.0 in
-      let hs = and_parts _ (eqb (length (each_once x.entries)) (length x.entries)) inner.0 in
-      let each = and_parts (is_from_to 1 2 (length x.entries))
-      (list_all (λ k. nat_lt k h.harts) x.entries) hs.0 in
-      let counted = lower_by (x.count + s) h.position inner.1 in
-      let accessed = upper_by (sum_by accesses x.words + s) h.position parts.1 in
-      let bounds = header_bounds h header in
-      record {
-        entries = (h.harts, bounds.0, each.1);
-        few = (in_range 1 2 (length x.entries) each.0).1;
-        start = (
-          (let n : unwrap_or x.start no_start ≡ s = ap (λ o. unwrap_or o no_start) there.1
-              in omega (arith, n, counted, bounds.1)),
-          ap (λ o. some_unless no_start (unwrap_or o no_start)) there.1
-              ∙ start_again s (omega (arith, counted, bounds.1)) ∙ sym there.1,
-        );
-        count = omega (arith, counted, bounds.1);
-        accessed = omega (arith, accessed, bounds.1);
-      }
-]
+fit_track : (h : Header) (x : Kept) (start : Option ℕ) → is_good_header h ≡ true
+    → is_since h x start ≡ true → FitTrack x start
+fit_track h x None header since =
+    let parts = and_parts _ (eqb (sum_by accesses x.words) 0) since in
+    let inner = and_parts (eqb (length x.entries) 0) (eqb x.count 0) parts.0 in
+    let empty = no_entries_at x.entries inner.0 in
+    record {
+      entries = (0, omega arith, ap (λ hs. list_all (λ k. nat_lt k 0) hs) empty);
+      few = let n : length x.entries ≡ 0 = ap length empty in omega (arith, n);
+      start_fits = omega arith;
+      start_again = refl;
+      count = omega (arith, eqb-true x.count 0 inner.1);
+      accessed = omega (arith, eqb-true (sum_by accesses x.words) 0 parts.1);
+    }
+fit_track h x (Some s) header since =
+    let parts = and_parts _ (nat_le (sum_by accesses x.words + s) h.position) since in
+    let inner = and_parts (are_entries h.harts x.entries) (nat_lt (x.count + s) h.position)
+    parts.0 in
+    let hs = and_parts _ (eqb (length (each_once x.entries)) (length x.entries)) inner.0 in
+    let each = and_parts (is_from_to 1 2 (length x.entries))
+    (list_all (λ k. nat_lt k h.harts) x.entries) hs.0 in
+    let counted = ltb-true (x.count + s) h.position inner.1 in
+    let accessed = leb-true (sum_by accesses x.words + s) h.position parts.1 in
+    let bounds = header_bounds h header in
+    record {
+      entries = (h.harts, bounds.0, each.1);
+      few = (in_range 1 2 (length x.entries) each.0).1;
+      start_fits = omega (arith, counted, bounds.1);
+      start_again = ap (λ b. if b then None else Some s)
+          (not_this s no_start (omega (arith, counted, bounds.1)));
+      count = omega (arith, counted, bounds.1);
+      accessed = omega (arith, accessed, bounds.1);
+    }
 
 track_fields : (h : Header) (x : Kept) (more : List ℕ) → is_good_header h ≡ true
     → is_good_track h x ≡ true → IsSized h.grid x → track_at h.grid (spell_track x ++ more) ≡ x
 unfolding spell_head
 track_fields h x more header good sized =
     let parts = and_parts (list_all (is_good_word h.harts) x.words) (is_since h x x.start) good in
-    let fit = fit_track h x header parts.1 in
+    let fit = fit_track h x x.start header parts.1 in
     let bytes = spell_track x ++ more in
     let kind = kind_again x.kind in
     let base = integer_again x.range.base sized.base in
     let start = ap (some_unless no_start)
-    (from_le_bytes-to_le_bytes_8 (unwrap_or x.start no_start) fit.start.0) ∙ fit.start.1 in
+    (from_le_bytes-to_le_bytes_8 (unwrap_or x.start no_start) fit.start_fits) ∙ fit.start_again in
     let entries = entries_again x.entries fit.entries.0 fit.entries.1 fit.entries.2 fit.few in
     let count = from_le_bytes-to_le_bytes_8 x.count fit.count in
     let joined : bytes ≡ spell_head x ++ (flat_map spell_word x.words ++ more) =
     append_assoc (spell_head x) (flat_map spell_word x.words) more in
     let words : words_at (size_of h.grid x.kind / 4) bytes ≡ x.words =
-    ap (λ n. words_at n bytes) (sym sized.words) ∙ ap (words_at (length x.words)) joined
-    ∙ words_again h.harts (spell_head x) x.words more (header_bounds h header).0 refl parts.0
-    fit.accessed in
+    ap (λ n. words_at n bytes) (sym sized.words)
+    ∙ ap (λ (t : List ℕ). words_from (length x.words) (drop 32 t)) joined
+    ∙ words_again h.harts x.words more (header_bounds h header).0 parts.0 fit.accessed in
     ap (λ k. track_as h.grid k bytes) kind
     ∙ (λ i. record {
       kind = x.kind;
@@ -479,7 +408,7 @@ track_again h lines before x more header good placed sized =
 -- ---- the whole
 
 -- units that are each read beside those before them
-units_again : {X : Type 0} (unit : List X → List ℕ → Option X) (spell : X → List ℕ)
+pub units_again : {X : Type 0} (unit : List X → List ℕ → Option X) (spell : X → List ℕ)
     (P : List X → X → Type 0)
     → ((before : List X) (x : X) (more : List ℕ) → P before x
     → unit before (spell x ++ more) ≡ Some x)

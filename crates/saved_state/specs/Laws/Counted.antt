@@ -1,7 +1,7 @@
 -- The written lines of a count: which they are is one list.
 use Rattle.std.proofs.Common.{◌≡◌, ℕ, ◌+◌, ◌<◌, ◌≤◌, Bool, true, false, ltb, List, [], ◌∷◌, ◌++◌}
 use Rattle.std.proofs.Common.{map, refl, sym, ap, ◌∙◌, subst, arith, inl, inr}
-use Rattle.std.proofs.lemmas.Bool.{cases_lt}
+use Rattle.std.proofs.lemmas.Bool.{cases_lt, lt-ltb}
 use Rattle.std.proofs.lemmas.Bool.Decides.{nat_tests}
 use Rattle.std.specs.Prelude.{nat_lt}
 use Rattle.std.specs.Cmp.{IsStrictWeakOrder}
@@ -18,9 +18,6 @@ lower-one_way a b h = grind (arith, nat_tests)
 
 lower-chain : (a b c : ℕ) → ltb a b ≡ false → ltb b c ≡ false → ltb a c ≡ false
 lower-chain a b c h k = grind (arith, nat_tests)
-
-is_lower : (a b : ℕ) → a < b → ltb a b ≡ true
-is_lower a b h = grind (arith, nat_tests)
 
 has_lower_number-ranks : IsStrictWeakOrder has_lower_number
 has_lower_number-ranks = record {
@@ -83,7 +80,7 @@ counted-push count from n lines above some none counted = record {
   rising = rising-push has_lower_number lines (counted_line count n) counted.rising (λ x m.
       let is = counted.counted x m in
       let small = below_some from count x.number (subst (λ z. 0 < z) is.1 is.0) in
-      is_lower x.number n (omega (arith, small.0)));
+      lt-ltb x.number n (omega (arith, small.0)));
   counted = λ l m. elim (Member-append lines (counted_line count n ∷ []) l m) [
     | inl before ↦
         let is = counted.counted l before in

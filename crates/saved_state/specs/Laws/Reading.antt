@@ -28,7 +28,7 @@ use Rattle.saved_state.specs.Units.{due, header_at, header_in, if_spelled, is_go
 use Rattle.saved_state.specs.Units.{is_good_line, is_good_track, is_kind_placed, is_placed, line_at}
 use Rattle.saved_state.specs.Units.{line_in, track_at, track_in}
 
-result_cases : {A E : Type 0} (r : Result A E) → ((e : E) × (r ≡ Err e)) ⊎ ((x : A) × (r ≡ Ok x))
+pub result_cases : {A E : Type 0} (r : Result A E) → ((e : E) × (r ≡ Err e)) ⊎ ((x : A) × (r ≡ Ok x))
 result_cases (Ok x) = inr (x, refl)
 result_cases (Err e) = inl (e, refl)
 
@@ -36,11 +36,11 @@ ok_or : {A E : Type 0} → A → Result A E → A
 ok_or d (Ok x) = x
 ok_or d (Err e) = d
 
-same_Ok : {A E : Type 0} (x y : A) → ◌≡◌ {A = Result A E} (Ok x) (Ok y) → x ≡ y
+pub same_Ok : {A E : Type 0} (x y : A) → ◌≡◌ {A = Result A E} (Ok x) (Ok y) → x ≡ y
 unfolding ok_or
 same_Ok x y e = ap (ok_or x) e
 
-never_Ok : {A E : Type 0} (e : E) (x : A) → ◌≡◌ {A = Result A E} (Err e) (Ok x) → ⊥
+pub never_Ok : {A E : Type 0} (e : E) (x : A) → ◌≡◌ {A = Result A E} (Err e) (Ok x) → ⊥
 never_Ok e x is = cc
 
 -- a unit that was read is good, and the bytes begin with its spelling
@@ -49,7 +49,7 @@ pub record IsUnit {X : Type 0} (spell : X → List ℕ) (good : X → Bool) (byt
   pub is_good : good x ≡ true
   pub begins : bytes ≡ spell x ++ drop (length (spell x)) bytes
 
-unit_is : {X : Type 0} (spell : X → List ℕ) (good : X → Bool) (x y : X) (bytes : List ℕ)
+pub unit_is : {X : Type 0} (spell : X → List ℕ) (good : X → Bool) (x y : X) (bytes : List ℕ)
     → if_spelled spell (good x) x bytes ≡ Some y → IsUnit spell good bytes y
 unit_is spell good x y bytes is =
     elim (cases_Bool (good x && starts_with nat_eq bytes (spell x))) [
@@ -61,6 +61,15 @@ unit_is spell good x y bytes is =
             begins = (starts_is Decides-eqb bytes (spell x)
                 (starts_with nat_eq bytes (spell x)) refl).0 parts.1;
           })
+      | inr fails ↦ let never : None ≡ Some y = rw fails at is in absurd (none-some y never)
+    ]
+
+-- and it is what the fields say
+pub unit_told : {X : Type 0} (spell : X → List ℕ) (good : Bool) (x y : X) (bytes : List ℕ)
+    → if_spelled spell good x bytes ≡ Some y → x ≡ y
+unit_told spell good x y bytes is =
+    elim (cases_Bool (good && starts_with nat_eq bytes (spell x))) [
+      | inl passes ↦ same_Some x y (rw passes at is)
       | inr fails ↦ let never : None ≡ Some y = rw fails at is in absurd (none-some y never)
     ]
 
@@ -86,7 +95,7 @@ track_is h lines before bytes x is = unit_is spell_track (fits h lines before)
     (track_at h.grid bytes) x bytes is
 
 -- units that were read behind others
-record AreRead {X : Type 0} (spell : X → List ℕ) (n : ℕ) (u v : Units X) : Type 0 where
+pub record AreRead {X : Type 0} (spell : X → List ℕ) (n : ℕ) (u v : Units X) : Type 0 where
   pub more : List X
   pub read : v.read ≡ u.read ++ more
   pub count : length more ≡ n
@@ -110,16 +119,15 @@ one_more spell n u v x begins rest = record {
       ∙ sym (append_assoc (spell x) (flat_map spell rest.more) v.left);
 }
 
--- what holds of the units read so far, if each unit keeps it
-units_are : {X : Type 0} (unit : List X → List ℕ → Option X) (spell : X → List ℕ)
-    (P : List X → Type 0)
-    → ((before : List X) (left : List ℕ) (x : X) → unit before left ≡ Some x
-    → left ≡ spell x ++ drop (length (spell x)) left)
-    → ((before : List X) (left : List ℕ) (x : X) → unit before left ≡ Some x → P before
-    → P (before ++ x ∷ []))
-    → (n : ℕ) (u v : Units X) → read_units unit spell n u ≡ Ok v → P u.read
-    → AreRead spell n u v × P v.read
-units_are {X = X} unit spell P begins keeps zero u v is held =
+-- what holds of the units read so far and of the bytes behind them, if each unit keeps it
+pub units_are : {X : Type 0} (unit : List X → List ℕ → Option X) (spell : X → List ℕ)
+    (P : List X → List ℕ → Type 0)
+    → ((before : List X) (left : List ℕ) (x : X) → unit before left ≡ Some x → P before left
+    → (left ≡ spell x ++ drop (length (spell x)) left)
+    × P (before ++ x ∷ []) (drop (length (spell x)) left))
+    → (n : ℕ) (u v : Units X) → read_units unit spell n u ≡ Ok v → P u.read u.left
+    → AreRead spell n u v × P v.read v.left
+units_are {X = X} unit spell P keeps zero u v is held =
     let same : u ≡ v = same_Ok u v is in (
       subst (AreRead spell 0 u) same (record {
         more = [];
@@ -128,19 +136,20 @@ units_are {X = X} unit spell P begins keeps zero u v is held =
         place = omega arith;
         begins = refl;
       }),
-      subst (λ (w : Units X). P w.read) same held,
+      subst (λ (w : Units X). P w.read w.left) same held,
     )
-units_are unit spell P begins keeps (suc n) u v is held =
+units_are unit spell P keeps (suc n) u v is held =
     elim (slice_cases (unit u.read u.left)) [
       | inl none ↦ absurd (never_Ok (BadState u.place) v (rw none at is))
       | inr there ↦
           let x = there.0 in
-          let rest = units_are unit spell P begins keeps n (record {
+          let kept = keeps u.read u.left x there.1 held in
+          let rest = units_are unit spell P keeps n (record {
             read = u.read ++ x ∷ [];
             place = u.place + length (spell x);
             left = drop (length (spell x)) u.left;
-          }) v (rw there.1 at is) (keeps u.read u.left x there.1 held) in
-          (one_more spell n u v x (begins u.read u.left x there.1) rest.0, rest.1)
+          }) v (rw there.1 at is) kept.1 in
+          (one_more spell n u v x kept.0 rest.0, rest.1)
     ]
 
 pub each_passes : {X : Type 0} (p : X → Bool) (xs : List X) → list_all p xs ≡ true → (y : X)
@@ -245,9 +254,12 @@ tracks_are bytes h u s place header lines is =
       | inl fault ↦ absurd (never_Ok fault.0 (s, place) (rw fault.1 at is))
       | inr there ↦
           let v = there.0 in
-          let read = units_are (track_in h u.read) spell_track (IsRising is_placed_before)
-          (λ before left x e. (track_is h u.read before left x e).begins)
-          (λ before left x e rising. track_rises h u.read before left x e rising)
+          let read = units_are (track_in h u.read) spell_track
+          (λ before left. IsRising is_placed_before before)
+          (λ before left x e rising. (
+            (track_is h u.read before left x e).begins,
+            track_rises h u.read before left x e rising,
+          ))
           h.tracks (at_tracks u) v there.1 tt in
           let rest : tracks_then h u.read (Ok v) ≡ Ok (s, place) = rw there.1 at is in
           elim (cases_Bool (nat_le (length (due h u.read)) (length v.read))) [
@@ -277,8 +289,8 @@ read_is_spelled bytes s place is =
           (at_lines bytes))) [
             | inl fault ↦ absurd (never_Ok fault.0 (s, place) (rw fault.1 at rest))
             | inr lines ↦
-                let read = units_are (line_in h) (spell_line h.grid) (λ ls. Unit {0})
-                (λ before left l e. (line_is h before left l e).begins) (λ before left l e held. tt)
+                let read = units_are (line_in h) (spell_line h.grid) (λ before left. Unit {0})
+                (λ before left l e held. ((line_is h before left l e).begins, tt))
                 h.lines (at_lines bytes) lines.0 lines.1 tt in
                 tracks_are bytes h lines.0 s place header read.0 (rw lines.1 at rest)
           ]

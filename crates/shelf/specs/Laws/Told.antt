@@ -1,9 +1,9 @@
 -- What holds of a told meaning, of one that goes over into another, and of faults that rose.
-use Rattle.std.proofs.Common.{◌≡◌, ℕ, ◌≤◌, List, Option, Some, None, arith, length, refl, subst}
-use Rattle.std.proofs.Common.{◌∙◌, sym}
+use Rattle.std.proofs.Common.{◌≡◌, ℕ, ◌≤◌, List, [], ◌∷◌, ◌++◌, Option, Some, None, arith, length}
+use Rattle.std.proofs.Common.{◌∙◌, ap, append_assoc, refl, subst, sym}
 use Rattle.std.proofs.Math.Seq.{take-length}
-use Rattle.shelf.specs.Shelf.{Told, Narrows, Goes, Rose, Adds, AddsFront, HasRead, OnlyReads}
-use Rattle.shelf.specs.Shelf.{OnlyWrites, OnlyWritesAndReads, Outside}
+use Rattle.shelf.specs.Shelf.{Told, Narrows, Goes, Rose, Adds, AddsFront, Given, Grows, HasRead}
+use Rattle.shelf.specs.Shelf.{OnlyReads, OnlyWrites, OnlyWritesAndReads, Outside}
 
 -- what holds of each value holds where it is told
 pub told : {A : Type 0} {P : A → Type 0} (o : Option A) → ((x : A) → P x) → Told o P
@@ -40,6 +40,22 @@ narrows_then {A = A} a b c first then = told_still (λ (x : A). a ≡ Some x) b 
 pub narrows_by : {A : Type 0} (a b : Option A) → b ≡ a → Narrows a b
 narrows_by {A = A} a b same = subst (λ (o : Option A). Narrows o b) same (narrows_same b)
 
+-- ---- more is given
+
+pub grows_same : (a b : List Given) → b ≡ a → Grows a b
+grows_same a b same = ([], same)
+
+-- one read more was given
+pub grows_one : {g : Given} {mid : List Given} (a b : List Given) → b ≡ g ∷ mid → mid ≡ a
+    → Grows a b
+grows_one {g = g} {mid = mid} a b is same = (g ∷ [], is ∙ ap (λ (l : List Given). g ∷ l) same)
+
+pub grows_then : (a b c : List Given) → Grows a b → Grows b c → Grows a c
+grows_then a b c first then = (
+  then.0 ++ first.0,
+  then.1 ∙ ap (λ (l : List Given). then.0 ++ l) first.1 ∙ sym (append_assoc then.0 first.0 a),
+)
+
 -- ---- one reading after another
 
 pub only_both : (a b c : Outside) → OnlyReads a b → OnlyReads b c → OnlyReads a c
@@ -49,6 +65,7 @@ only_both a b c first then = record {
   printed = then.printed ∙ first.printed;
   write_faults = then.write_faults ∙ first.write_faults;
   print_faults = then.print_faults ∙ first.print_faults;
+  given = grows_then a.given b.given c.given first.given then.given;
 }
 
 -- nothing was read
@@ -59,6 +76,7 @@ only_none a = record {
   printed = refl;
   write_faults = refl;
   print_faults = refl;
+  given = grows_same a.given a.given refl;
 }
 
 pub read_none : (a : Outside) → HasRead a a
@@ -78,6 +96,7 @@ writes_alone a b only = record {
   printed = only.printed;
   read_faults = only.read_faults;
   print_faults = only.print_faults;
+  given = grows_same a.given b.given only.given;
 }
 
 pub reads_alone : (a b : Outside) → HasRead a b → OnlyWritesAndReads a b
@@ -86,6 +105,7 @@ reads_alone a b read = record {
   printed = read.only.printed;
   read_faults = read.faults;
   print_faults = read.only.print_faults;
+  given = read.only.given;
 }
 
 pub writes_both : (a b c : Outside) → OnlyWritesAndReads a b → OnlyWritesAndReads b c
@@ -95,6 +115,7 @@ writes_both a b c first then = record {
   printed = then.printed ∙ first.printed;
   read_faults = then.read_faults ∙ first.read_faults;
   print_faults = then.print_faults ∙ first.print_faults;
+  given = grows_then a.given b.given c.given first.given then.given;
 }
 
 -- ---- a meaning that goes over into another

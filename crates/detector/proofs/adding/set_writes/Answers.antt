@@ -1,7 +1,6 @@
 use Rattle.std.proofs.Common.{refl, ap, ◌∙◌, subst, sym}
 use Rattle.std.specs.Prelude.{is_ok}
 use Rattle.detector.specs.Entries.{Entries, entry_at}
-use Rattle.detector.specs.declared.line_entry.LineEntry.{LineEntry}
 use Rattle.detector.specs.Counts.{counts_of}
 use Rattle.detector.specs.Index.{IsIndexed}
 use Rattle.detector.proofs.AddLaws.{at_err, counting, written-indexed}
@@ -10,8 +9,6 @@ use Rattle.detector.proofs.adding.set_writes.Goals as goal
 
 pub returns-in-Ok-clause-counts : goal.returns-in-Ok-clause-counts
 returns-in-Ok-clause-counts g c =
-    let m = g.I.LineIndex.entries c.args.index.now in
-    let e : LineEntry = counting c.in-Ok.entry.now c.args.writes in
     let change = (c.entry.follows.holds (counting c.in-Ok.entry.now c.args.writes)
     (ap is_ok c.in-Ok.is)).0 in
     ap counts_of change.whole
@@ -21,7 +18,6 @@ returns-in-Ok-clause-counts g c =
 
 pub returns-in-Ok-clause-indexed : goal.returns-in-Ok-clause-indexed
 returns-in-Ok-clause-indexed g c = λ grid xs T p few indexed.
-    let m = g.I.LineIndex.entries c.args.index.now in
     let change = (c.entry.follows.holds (counting c.in-Ok.entry.now c.args.writes)
     (ap is_ok c.in-Ok.is)).0 in
     written-indexed (entry_at (g.I.LineIndex.entries c.args.index.now))

@@ -1,31 +1,24 @@
-use Rattle.std.proofs.Common.{◌≡◌, ℕ, ◌++◌, ◌∷◌, [], Some, sym, ap, ◌∙◌, subst}
+use Rattle.std.proofs.Common.{ℕ, ◌++◌, ◌∷◌, [], sym, ap, ◌∙◌, subst}
 use Rattle.std.proofs.lemmas.Option.{same_Some, slice_get_within}
-use Rattle.std.specs.Prelude.{slice_get, slice_set}
+use Rattle.std.specs.Prelude.{slice_set}
 use Rattle.base.specs.Ranges.{holds_address, line_range}
 use Rattle.base.specs.Lines.{line_number}
 use Rattle.base.specs.declared.layout.Range.{Range}
 use Rattle.sharing_rules.specs.declared.line_kind.LineKind.TheVariants.{Observed}
 use Rattle.line_tracks.specs.Kept.{CanNote, Kept, note_kept, waiting}
-use Rattle.detector.proofs.TaskLaws.{set_end}
+use Rattle.detector.proofs.TaskLaws.{added-at, set_end}
 use Rattle.detector.proofs.task.begin.Goals as goal
-use Rattle.sharing_rules.specs.Laws.Lists.{slice_get-push}
 
 pub note-requires-clause-there : goal.note-requires-clause-there
 note-requires-clause-there g c =
-    let at : slice_get c.add.new.tracks c.in-Ok.place ≡ Some (waiting Observed c.line_of.result) =
-    ap (λ zs. slice_get zs c.in-Ok.place) c.in-Ok.ensures.added
-    ∙ ap (slice_get (c.args.tracks.now ++ waiting Observed c.line_of.result ∷ []))
-    c.in-Ok.ensures.place
-    ∙ slice_get-push c.args.tracks.now (waiting Observed c.line_of.result) in
+    let at = added-at c.args.tracks.now c.add.new.tracks (waiting Observed c.line_of.result)
+    c.in-Ok.place c.in-Ok.ensures.added c.in-Ok.ensures.place in
     slice_get_within c.add.new.tracks c.in-Ok.place (waiting Observed c.line_of.result) at
 
 pub note-requires-clause-ready : goal.note-requires-clause-ready
 note-requires-clause-ready g c = λ x got.
-    let at : slice_get c.add.new.tracks c.in-Ok.place ≡ Some (waiting Observed c.line_of.result) =
-    ap (λ zs. slice_get zs c.in-Ok.place) c.in-Ok.ensures.added
-    ∙ ap (slice_get (c.args.tracks.now ++ waiting Observed c.line_of.result ∷ []))
-    c.in-Ok.ensures.place
-    ∙ slice_get-push c.args.tracks.now (waiting Observed c.line_of.result) in
+    let at = added-at c.args.tracks.now c.add.new.tracks (waiting Observed c.line_of.result)
+    c.in-Ok.place c.in-Ok.ensures.added c.in-Ok.ensures.place in
     subst (λ (z : Kept). CanNote z c.args.position c.args.access.addr)
     (same_Some (waiting Observed c.line_of.result) x (sym at ∙ got))
     (record {
@@ -36,13 +29,8 @@ note-requires-clause-ready g c = λ x got.
 
 pub returns-in-Ok-clause-begun : goal.returns-in-Ok-clause-begun
 returns-in-Ok-clause-begun g c =
-    let xs = c.args.tracks.now in
-    let w : Kept = waiting Observed c.line_of.result in
-    let at : slice_get c.add.new.tracks c.in-Ok.place ≡ Some (waiting Observed c.line_of.result) =
-    ap (λ zs. slice_get zs c.in-Ok.place) c.in-Ok.ensures.added
-    ∙ ap (slice_get (c.args.tracks.now ++ waiting Observed c.line_of.result ∷ []))
-    c.in-Ok.ensures.place
-    ∙ slice_get-push c.args.tracks.now (waiting Observed c.line_of.result) in
+    let at = added-at c.args.tracks.now c.add.new.tracks (waiting Observed c.line_of.result)
+    c.in-Ok.place c.in-Ok.ensures.added c.in-Ok.ensures.place in
     c.note.ensures.exact (waiting Observed c.line_of.result) at
     ∙ ap (λ zs. slice_set zs c.in-Ok.place (note_kept
     (waiting Observed c.line_of.result) c.args.position c.args.access))

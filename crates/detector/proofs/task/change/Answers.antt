@@ -1,8 +1,8 @@
-use Rattle.std.proofs.Common.{length, refl, ap, ◌∙◌}
+use Rattle.std.proofs.Common.{refl, ap, ◌∙◌}
 use Rattle.detector.specs.Entries.{entry_at}
 use Rattle.detector.specs.Tasks.{task_opens}
-use Rattle.detector.proofs.ChangeLaws.{task-begun, task-below, task-doubled, task-indexed}
-use Rattle.detector.proofs.ChangeLaws.{task-kept, task-tracks}
+use Rattle.detector.proofs.SettleLaws.{task-begun, task-below, task-doubled, task-indexed}
+use Rattle.detector.proofs.SettleLaws.{task-kept, task-tracks}
 use Rattle.detector.proofs.task.change.Goals as goal
 
 pub openings_at-openings-requires-clause-named : goal.openings_at-openings-requires-clause-named
@@ -22,7 +22,7 @@ settle-requires-clause-below g c =
     c.in-Ok.ensures.tracks c.in-Ok.ensures.place c.peek-named.ensures in
     task-below f c.args.layout c.args.tracks.now c.own_place.new.tracks c.args.line c.args.task
     c.args.position c.args.access c.in-Ok.own
-    c.openings_at-openings.result c.in-Ok-open.opened (length c.own_place.new.tracks)
+    c.openings_at-openings.result c.in-Ok-open.opened c.own_place.new.tracks
     c.requires.task b c.openings_at-openings.ensures.value c.in-Ok-open.ensures.places
 
 pub settle-requires-clause-doubled : goal.settle-requires-clause-doubled
@@ -34,7 +34,7 @@ settle-requires-clause-doubled g c =
     c.in-Ok.ensures.tracks c.in-Ok.ensures.place c.peek-named.ensures in
     task-doubled f c.args.layout c.args.tracks.now c.own_place.new.tracks c.args.line c.args.task
     c.args.position c.args.access c.in-Ok.own
-    c.openings_at-openings.result c.in-Ok-open.opened (length c.own_place.new.tracks)
+    c.openings_at-openings.result c.in-Ok-open.opened c.own_place.new.tracks
     c.requires.task b c.openings_at-openings.ensures.value c.in-Ok-open.ensures.places
 
 pub returns-in-Ok-open-clause-tracks : goal.returns-in-Ok-open-clause-tracks
@@ -84,7 +84,6 @@ returns-in-Err-open-clause-known g c = λ still none.
 
 pub returns-in-Err-open-clause-kept : goal.returns-in-Err-open-clause-kept
 returns-in-Err-open-clause-kept g c =
-    let f = entry_at (g.I.LineIndex.entries c.args.index.now) in
     task-kept c.args.layout c.args.tracks.now c.own_place.new.tracks c.open.new.tracks _
     c.args.position c.args.access c.args.task.begins
     c.in-Ok.ensures.tracks c.in-Err-open.ensures.kept

@@ -9,8 +9,7 @@ use Rattle.detector.specs.Openings.{nothing_opens, openings}
 use Rattle.detector.specs.Pairs.{AreAround, IsNativeGrid}
 use Rattle.detector.specs.Tasks.{with_name}
 use Rattle.std.specs.Prelude.{if◌then◌else◌}
-use Rattle.detector.proofs.NamedLaws.{with_name-other}
-use Rattle.detector.proofs.AroundLaws.{around}
+use Rattle.detector.proofs.NamedLaws.{with_name-other, around}
 use Rattle.detector.proofs.PairLaws.{reached-native}
 use Rattle.detector.proofs.task.openings_at.Goals as goal
 use Rattle.sharing_rules.specs.Lines.{native_grid}
@@ -27,7 +26,6 @@ below_other k some e = absurd (omega arith)
 pub search-requires : goal.search-requires
 search-requires g c =
     let f = entry_at (g.I.LineIndex.entries c.args.index.now) in
-    let k = c.args.line in
     let grid : IsNativeGrid c.args.layout = c.requires.native c.if-not-searches.false in
     let low = (reached-native c.args.layout c.args.line grid.size grid.offset
     c.requires.reached).some in

@@ -2,8 +2,7 @@ use Rattle.std.proofs.Common.{◌-◌, refl, ◌∙◌}
 use Rattle.detector.specs.Entries.{entry_at}
 use Rattle.sharing_rules.specs.Opened.{even_lower}
 use Rattle.detector.specs.Index.{names_in}
-use Rattle.detector.proofs.ChangeLaws.{settle-names}
-use Rattle.detector.proofs.SettleLaws.{counted-names, settled-written, still-written}
+use Rattle.detector.proofs.SettleLaws.{settle-names, counted-names, settled-written, still-written}
 use Rattle.detector.proofs.task.settle.Goals as goal
 
 pub name-requires-clause-written : goal.name-requires-clause-written

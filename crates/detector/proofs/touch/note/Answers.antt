@@ -1,8 +1,7 @@
 use Rattle.std.proofs.Common.{sym, ap, ◌∙◌, subst}
 use Rattle.detector.specs.declared.track_places.Places.{Places}
 use Rattle.detector.specs.Noting.{AreHeld, CanTouchAll, places, touched_places}
-use Rattle.detector.proofs.HeldLaws.{places-held}
-use Rattle.detector.proofs.TouchLaws.{places-can, places-touched}
+use Rattle.detector.proofs.TouchLaws.{places-held, places-can, places-touched}
 use Rattle.detector.proofs.touch.note.Goals as goal
 
 pub note_places-requires-clause-can : goal.note_places-requires-clause-can

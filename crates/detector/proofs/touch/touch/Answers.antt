@@ -1,4 +1,4 @@
-use Rattle.std.proofs.Common.{◌≡◌, ℕ, ◌+◌, ◌%◌, ◌<◌, ◌≤◌, ◌==◌, false, refl, sym, ap, ◌∙◌, arith}
+use Rattle.std.proofs.Common.{◌≡◌, ℕ, ◌+◌, ◌%◌, ◌≤◌, ◌==◌, false, refl, sym, ap, ◌∙◌, arith}
 use Rattle.std.specs.Option.{option_map_or}
 use Rattle.detector.specs.declared.task.Task.{Task}
 use Rattle.std.proofs.lemmas.Bool.{or_parts}
@@ -16,9 +16,6 @@ use Rattle.detector.proofs.AfterLaws.{steps-within, task-lent, writes-few}
 use Rattle.detector.proofs.CountLaws.{counts-with_entry}
 use Rattle.detector.proofs.SettleLaws.{counted-lent}
 use Rattle.detector.proofs.touch.touch.Goals as goal
-
-never-written : (n : ℕ) → 0 < n → n ≡ 0 → ⊥
-never-written n some none = omega arith
 
 no-steps : (s room : ℕ) → s ≤ s + 4 + room
 no-steps s room = omega arith
@@ -144,7 +141,7 @@ returns-in-Err-clause-known g c =
     (sym c.kind.ensures ∙ c.in-Write.is)) none in
     let zero : (entry_at m c.args.line).writes ≡ 0 =
     ap (λ (e : LineEntry). e.writes) c.in-Err.ensures.blank in
-    absurd (never-written _ w zero)
+    absurd (omega arith)
 
 pub returns-in-Err-clause-steps : goal.returns-in-Err-clause-steps
 returns-in-Err-clause-steps g c = no-steps c.args.steps.now _

@@ -1,4 +1,4 @@
-use Rattle.std.proofs.Common.{◌≡◌, ℕ, ◌+◌, ◌<◌, ◌≤◌, refl, sym, ap, ◌∙◌, subst, arith}
+use Rattle.std.proofs.Common.{◌≡◌, ◌+◌, ◌≤◌, refl, sym, ap, ◌∙◌, subst, arith}
 use Rattle.std.specs.Prelude.{false, not, ◌&&◌, ◌||◌}
 use Rattle.detector.specs.declared.track_places.Places.{Places}
 use Rattle.detector.specs.declared.line_entry.LineEntry.{LineEntry}
@@ -6,17 +6,12 @@ use Rattle.std.proofs.lemmas.Result.{on_ok_weaker}
 use Rattle.base.specs.Touch.{is_write}
 use Rattle.detector.specs.Entries.{entry_at}
 use Rattle.detector.specs.Noting.{have_opened, places, places_between}
-use Rattle.detector.proofs.OpenedLaws.{after-idle}
+use Rattle.detector.proofs.AfterLaws.{after-idle, after-read, after-task, counts-read}
+use Rattle.detector.proofs.AfterLaws.{first-written, plain-indexed, counts-write, due-at}
+use Rattle.detector.proofs.AfterLaws.{native-grid, notable, quiet, read-indexed, searches-is}
+use Rattle.detector.proofs.AfterLaws.{steps-within, task-lent, writes-few}
 use Rattle.detector.specs.Tasks.{search_steps}
-use Rattle.detector.proofs.AfterLaws.{after-read, after-task, counts-read}
-use Rattle.detector.proofs.AfterLaws.{first-written, plain-indexed}
-use Rattle.detector.proofs.AfterLaws.{counts-write, due-lent, native-grid, notable}
-use Rattle.detector.proofs.AfterLaws.{quiet, read-indexed}
-use Rattle.detector.proofs.AfterLaws.{searches-is, steps-within, task-lent, writes-few}
 use Rattle.detector.proofs.touch.touch_apart.Goals as goal
-
-never-written : (n : ℕ) → 0 < n → n ≡ 0 → ⊥
-never-written n some none = omega arith
 
 pub note-requires-clause-notable : goal.note-requires-clause-notable
 note-requires-clause-notable g c =
@@ -68,8 +63,8 @@ do_task-requires-clause-task g c =
     let m = g.I.LineIndex.entries c.args.index.now in
     let task = task-lent (entry_at m) c.args.line c.peek-here.result c.args.thresholds.now
     c.task_of-task.result c.peek-here.ensures c.task_of-task.ensures in
-    let due = due-lent m m c.args.layout c.args.tracks.now c.args.line c.args.thresholds.now
-    c.task_of-task.result c.args.position refl
+    let due = due-at (entry_at m) c.args.layout c.args.tracks.now c.args.line
+    c.args.thresholds.now c.task_of-task.result c.args.position
     c.requires.indexed c.requires.some task in
     (c.args.thresholds.now.tracking, due)
 
@@ -103,8 +98,8 @@ returns-then-is_due_where-clause-indexed g c =
     let m = g.I.LineIndex.entries c.args.index.now in
     let task = task-lent (entry_at m) c.args.line c.peek-here.result c.args.thresholds.now
     c.task_of-task.result c.peek-here.ensures c.task_of-task.ensures in
-    let due = due-lent m m c.args.layout c.args.tracks.now c.args.line c.args.thresholds.now
-    c.task_of-task.result c.args.position refl
+    let due = due-at (entry_at m) c.args.layout c.args.tracks.now c.args.line
+    c.args.thresholds.now c.task_of-task.result c.args.position
     c.requires.indexed c.requires.some task in
     on_ok_weaker c.do_task.result (λ e. e c.args.thresholds.now.tracking due) c.do_task.ensures.indexed
 
@@ -165,4 +160,4 @@ returns-in-Err-clause-known g c =
     (sym c.kind.ensures ∙ c.in-Write.is)) none in
     let zero : (entry_at m c.args.line).writes ≡ 0 =
     ap (λ (e : LineEntry). e.writes) c.in-Err.ensures.blank in
-    absurd (never-written _ w zero)
+    absurd (omega arith)

@@ -5,19 +5,19 @@ use Rattle.misses.proofs.all_lines.note_in.Goals as goal
 
 pub note_known-requires-clause-fit : goal.note_known-requires-clause-fit
 note_known-requires-clause-fit c =
-    let placed = c.word_place-place.ensures ∙ ap (word_place c.args.line) c.addr.ensures in
-    let within : c.word_place-place.result < c.args.line.size / 4 =
+    let placed = c.place_in-place.ensures ∙ ap (word_place c.args.line) c.addr.ensures in
+    let within : c.place_in-place.result < c.args.line.size / 4 =
     subst (λ (x : ℕ). x < c.args.line.size / 4) (sym placed) c.requires.within in
     known-fit c.args.line.size c.args.position c.args.lines.now.entries c.in-Some.index
-    c.word_place-place.result c.requires.fit within
+    c.place_in-place.result c.requires.fit within
 
 pub returns-in-Some-clause-noted : goal.returns-in-Some-clause-noted
 returns-in-Some-clause-noted c =
     known-noted-as c.note_known.result c.args.lines.now.entries c.note_known.new.lines.entries
     c.args.line.number c.number-number.result c.in-Some.index (c.args.line.size / 4)
-    c.args.position (word_place c.args.line c.args.access.now.addr) c.word_place-place.result
+    c.args.position (word_place c.args.line c.args.access.now.addr) c.place_in-place.result
     c.args.access.now c.number-number.ensures.value
-    (c.word_place-place.ensures ∙ ap (word_place c.args.line) c.addr.ensures)
+    (c.place_in-place.ensures ∙ ap (word_place c.args.line) c.addr.ensures)
     c.in-Some.ensures.index c.in-Some.ensures.value c.in-Some.ensures.found
     c.note_known.ensures.noted
 
@@ -25,7 +25,7 @@ pub returns-in-Some-clause-told : goal.returns-in-Some-clause-told
 returns-in-Some-clause-told c =
     known-told-as c.note_known.result c.args.lines.now.entries
     c.args.line.number c.number-number.result c.in-Some.index (c.args.line.size / 4)
-    (word_place c.args.line c.args.access.now.addr) c.word_place-place.result
+    (word_place c.args.line c.args.access.now.addr) c.place_in-place.result
     c.args.access.now c.number-number.ensures.value
-    (c.word_place-place.ensures ∙ ap (word_place c.args.line) c.addr.ensures)
+    (c.place_in-place.ensures ∙ ap (word_place c.args.line) c.addr.ensures)
     c.in-Some.ensures.value c.in-Some.ensures.found c.note_known.ensures.told

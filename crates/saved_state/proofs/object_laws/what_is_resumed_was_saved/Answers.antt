@@ -3,7 +3,7 @@ use Rattle.saved_state.proofs.object_laws.what_is_resumed_was_saved.Goals as goa
 
 pub returns-clause-found : goal.returns-clause-found
 returns-clause-found c = λ place position part o fits e.
-    part_found c.what_is_read_was_spelled.ensures.record_found place position part o fits e
+    part_found place position part o fits e
 
 pub returns-clause-again : goal.returns-clause-again
 returns-clause-again c = λ place position o low good. part_again place position o low good

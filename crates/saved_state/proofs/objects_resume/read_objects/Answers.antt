@@ -1,4 +1,4 @@
-use Rattle.std.proofs.Common.{◌≡◌, ◌∙◌, ◌+◌, length, Err, sym, ap, arith}
+use Rattle.std.proofs.Common.{◌≡◌, ◌∙◌, length, Err, sym, ap, arith}
 use Rattle.std.proofs.lemmas.Bool.Decides.{nat_tests}
 use Rattle.base.specs.declared.faults.ResumeFault.{ResumeFault}
 use Rattle.saved_state.proofs.ObjectPartLaws.{judged_enough, judged_short, none_left, some_left}
@@ -17,19 +17,18 @@ returns-in-Err c = λ memory.
 
 pub returns-then-is_empty : goal.returns-then-is_empty
 returns-then-is_empty c = λ memory.
-    let end = c.args.place + length c.args.part.now in
-    let empty : length c.in-Ok.rest.now ≡ 0 = grind
+    let empty : length c.in-Ok.rest.bytes.now ≡ 0 = grind
     (arith, nat_tests, c.is_empty.ensures, c.if-is_empty.true) in
     sym (judged_enough c.args.place c.args.position c.args.part.now
     (omega (arith, c.if-part-lt-COUNTS_LENGTH.false))
-    ∙ c.in-Ok.ensures.read ∙ none_left end c.read_units.new.table c.in-Ok.rest.now empty)
+    ∙ c.in-Ok.ensures.read ∙ none_left c.in-Ok.rest.place c.read_units.new.table
+    c.in-Ok.rest.bytes.now empty)
 
 pub returns-else-is_empty : goal.returns-else-is_empty
 returns-else-is_empty c = λ memory.
-    let end = c.args.place + length c.args.part.now in
     sym (judged_enough c.args.place c.args.position c.args.part.now
     (omega (arith, c.if-part-lt-COUNTS_LENGTH.false))
     ∙ c.in-Ok.ensures.read
-    ∙ some_left end c.read_units.new.table c.in-Ok.rest.now
+    ∙ some_left c.in-Ok.rest.place c.read_units.new.table c.in-Ok.rest.bytes.now
     (λ empty. grind (arith, nat_tests, c.is_empty.ensures, c.if-is_empty.false))
     ∙ ap (λ (f : ResumeFault). Err f) (sym c.fault_at.ensures))

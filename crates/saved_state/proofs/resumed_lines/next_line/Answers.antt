@@ -3,11 +3,13 @@ use Rattle.base.specs.declared.faults.ResumeFault.{ResumeFault}
 use Rattle.saved_state.specs.declared.state_parts.CountedLine.{CountedLine}
 use Rattle.saved_state.specs.Laws.Parts.{IsLast-push}
 use Rattle.saved_state.specs.Parts.{IsLast, header_meant}
+use Rattle.saved_state.specs.Spelling.{spell_line}
 use Rattle.saved_state.specs.Units.{line_in}
 use Rattle.detector.specs.Watch.{Watch}
-use Rattle.saved_state.specs.Ready.{IsReady, lines_read}
+use Rattle.saved_state.specs.Ready.{IsReady, lines_at, lines_read}
 use Rattle.saved_state.specs.Saving.{counted_lines}
-use Rattle.saved_state.proofs.AddLaws.{added_behind, good_of, next_line, no_line, ready_line}
+use Rattle.saved_state.proofs.AddLaws.{added_behind, good_of, next_line, ready_line}
+use Rattle.saved_state.proofs.LoopLaws.{no_unit}
 use Rattle.saved_state.proofs.SaveLaws.{counted_lines-counted}
 use Rattle.saved_state.proofs.resumed_lines.next_line.Given.{Over}
 use Rattle.saved_state.proofs.resumed_lines.next_line.Goals as goal
@@ -31,8 +33,9 @@ some g c = sym (c.in-Some.ensures.value (counted_lines c.args.detector.now.write
 
 pub returns-in-None-clause-refused : goal.returns-in-None-clause-refused
 returns-in-None-clause-refused g c = λ more memory.
-    no_line (header_meant c.args.header.now) c.args.detector.now c.args.rest.place
-    c.args.rest.bytes.now more
+    let h = header_meant c.args.header.now in
+    no_unit (line_in h) (spell_line h.grid)
+    (lines_at c.args.detector.now c.args.rest.place c.args.rest.bytes.now) more
     (none g (goal.at.returns-in-None-clause-refused g c).In-None)
     ∙ ap (λ (f : ResumeFault). Err f) (sym c.fault_at.ensures)
 

@@ -3,12 +3,15 @@ use Rattle.std.proofs.lemmas.Option.{none-some}
 use Rattle.std.specs.Prelude.{IfSome, Option, option_map}
 use Rattle.base.specs.declared.faults.ResumeFault.{ResumeFault}
 use Rattle.saved_state.specs.Parts.{header_meant, kept_of}
-use Rattle.saved_state.specs.Units.{IsSized}
+use Rattle.saved_state.specs.Spelling.{spell_track}
+use Rattle.saved_state.specs.Units.{IsSized, track_in}
 use Rattle.saved_state.specs.declared.state_parts.SavedTrack.{SavedTrack}
 use Rattle.line_tracks.specs.Kept.{IsBlank, IsInTime}
-use Rattle.saved_state.specs.Ready.{IsReady, tracks_read}
-use Rattle.saved_state.proofs.AddLaws.{bad_track, can_add_track, next_track, no_track, placed_track}
+use Rattle.saved_state.specs.Ready.{IsReady, tracks_at, tracks_read}
+use Rattle.saved_state.specs.Saving.{counted_lines}
+use Rattle.saved_state.proofs.AddLaws.{bad_track, can_add_track, next_track, placed_track}
 use Rattle.saved_state.proofs.AddLaws.{ready_track, unplaced_track}
+use Rattle.saved_state.proofs.LoopLaws.{no_unit}
 use Rattle.saved_state.proofs.resumed_tracks.next_track.Goals as goal
 
 blank_without : (y : SavedTrack) → (y.start ≡ None → IsBlank (kept_of y)) → (kept_of y).start ≡ None
@@ -23,7 +26,8 @@ pub returns-in-Ok-None-clause-refused : goal.returns-in-Ok-None-clause-refused
 returns-in-Ok-None-clause-refused g c = λ more memory.
     let h = header_meant c.args.header.now in
     let w = c.args.detector.now in
-    no_track h w c.args.rest.place c.args.rest.bytes.now more
+    no_unit (track_in h (counted_lines w.writes)) spell_track
+    (tracks_at w c.args.rest.place c.args.rest.bytes.now) more
     (bad_track h w c.args.rest.bytes.now (sym c.in-Ok-None.ensures.value
     ∙ ap (option_map kept_of) c.in-Ok-None.field-0-is))
     ∙ ap (λ (f : ResumeFault). Err f) (sym c.fault_at.ensures)
@@ -34,7 +38,8 @@ returns-then-not-is_placed-clause-refused g c = λ more memory.
     let w = c.args.detector.now in
     let x = kept_of c.in-Ok-Some.track in
     let misplaced = sym c.is_placed.ensures.value ∙ c.if-not-is_placed.true in
-    no_track h w c.args.rest.place c.args.rest.bytes.now more
+    no_unit (track_in h (counted_lines w.writes)) spell_track
+    (tracks_at w c.args.rest.place c.args.rest.bytes.now) more
     (unplaced_track h w x c.args.rest.bytes.now (sym c.in-Ok-Some.ensures.value ∙ ap
     (option_map kept_of) c.in-Ok-Some.field-0-is) misplaced)
     ∙ ap (λ (f : ResumeFault). Err f) (sym c.fault_at-then-not-is_placed.ensures)

@@ -14,3 +14,11 @@ loop-bytes-preserved g c =
       only = only_both _ _ _ x.only read.only;
       quiet = read.cause.quiet (λ no. cc) ∙ x.quiet;
     }
+
+pub returns-in_err-read_piece-clause-only : goal.returns-in_err-read_piece-clause-only
+returns-in_err-read_piece-clause-only g c =
+    only_both _ _ _ c.loop-bytes.invariant.only c.in_err-read_piece.ensures.only
+
+pub returns-then-not-branch-clause-only : goal.returns-then-not-branch-clause-only
+returns-then-not-branch-clause-only g c =
+    only_both _ _ _ c.loop-bytes.invariant.only c.in_ok-read_piece.ensures.only

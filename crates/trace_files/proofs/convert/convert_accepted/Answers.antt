@@ -1,10 +1,12 @@
-use Rattle.std.proofs.Common.{[], subst}
+use Rattle.std.proofs.Common.{[], List, subst}
 use Rattle.shelf.specs.Files.{AreCut}
+use Rattle.shelf.specs.Shelf.{Given}
 use Rattle.shelf.specs.Laws.Files.{IsOutputs-begun}
 use Rattle.shelf.specs.Laws.Told.{narrows_by, narrows_then}
 use Rattle.trace_format.specs.declared.record.Version.{Version}
 use Rattle.trace_passes.specs.Passes.{trace_with}
 use Rattle.trace_passes.specs.Laws.Passes.{trace-parts}
+use Rattle.trace_files.specs.Copies.{IsOther}
 use Rattle.trace_files.specs.OneTrace.{HasPut, so_far, trace_so_far}
 use Rattle.trace_files.proofs.Again.{begun_as}
 use Rattle.trace_files.proofs.Conversions.{copied_whole, stopped_again, stopped_ending, stopped_put}
@@ -52,6 +54,12 @@ returns-in-Err-copy_again-clause-stopped g c =
     (accepted_still old.held now.held a.name.now a.first.now short.held_stay c.requires)
     c.other_version-version.result c.other_version-version.ensures (so_far to)
     c.in-Ok.ensures.files old now c.in-Err-copy_again.fault short
+
+pub returns-in-Err-copy_again-clause-other : goal.returns-in-Err-copy_again-clause-other
+returns-in-Err-copy_again-clause-other g c = λ refusal same.
+    subst (λ (before : List Given). IsOther c.args.name.now c.args.first.now refusal before
+    (g.S.Shelf.outside c.copy_again.new.shelf).given) c.begin.ensures.gives
+    (c.in-Err-copy_again.ensures.other refusal (cc))
 
 pub finish-requires : goal.finish-requires
 finish-requires g c =

@@ -32,18 +32,12 @@ returns-in-Ok-clause-memory g c = c.convert_accepted.ensures.unrefused
     (refusals.Trace trace_faults.NoMemory)
 
 pub returns-in-Ok-clause-other : goal.returns-in-Ok-clause-other
-returns-in-Ok-clause-other g c = λ refusal same.
-    let mid = g.S.Shelf.outside c.accept.new.shelf in
-    let new = g.S.Shelf.outside c.convert_accepted.new.shelf in
-    let stopped = IfErr-at_err (λ fault. HasStopped new.held c.args.name.now
-    (c.args.output.now ∷ []) (conversion c.args.output.now) mid new fault) same
-    c.convert_accepted.ensures.stopped in
-    record {
-      first = c.in-Ok.first;
-      accepted = accepted_still mid.held new.held c.args.name.now c.in-Ok.first stopped.held_stay
-          c.in-Ok.ensures.accepted;
-      other = c.convert_accepted.ensures.other refusal same;
-    }
+returns-in-Ok-clause-other g c = λ refusal same. record {
+  first = c.in-Ok.first;
+  between = (g.S.Shelf.outside c.accept.new.shelf).given;
+  accepted = c.in-Ok.ensures.shown;
+  other = c.convert_accepted.ensures.other refusal same;
+}
 
 pub returns-in-Ok-clause-accepted : goal.returns-in-Ok-clause-accepted
 returns-in-Ok-clause-accepted g c = λ same.

@@ -36,11 +36,14 @@ returns-in-Some-clause-changed g c = λ refusal same.
 
 pub returns-in-Err-clause-other : goal.returns-in-Err-clause-other
 returns-in-Err-clause-other g c = λ refusal same.
-    no_trace_again c.args.first.now refusal (c.in-Err.ensures.found refusal (cc))
+    no_trace_again c.args.name.now c.args.first.now refusal
+    (g.S.Shelf.outside c.args.shelf.now).given
+    (g.S.Shelf.outside c.copy_records.new.shelf).given (c.in-Err.ensures.found refusal (cc))
 
 pub returns-in-Some-clause-other : goal.returns-in-Some-clause-other
 returns-in-Some-clause-other g c = λ refusal same.
-    let copied = c.in-Ok.ensures.copied c.requires.way.0 c.requires.way.1 in
     let some = c.in-Some.is in
     let value = c.differs.ensures.value in
-    other_again c.args.first.now c.in-Ok.passed copied.items copied.bytes refusal copied.is (cc)
+    other_again c.args.name.now c.args.first.now c.in-Ok.passed refusal
+    (g.S.Shelf.outside c.args.shelf.now).given
+    (g.S.Shelf.outside c.copy_records.new.shelf).given c.in-Ok.ensures.shown (cc)

@@ -3,6 +3,7 @@ use Rattle.trace_passes.specs.declared.passes.PassFault.{PassFault}
 use Rattle.trace_passes.specs.declared.passes.Passed.{Passed}
 use Rattle.trace_passes.specs.declared.wanted.Wanted.{Wanted}
 use Rattle.trace_passes.specs.Passes.{refusal_of}
+use Rattle.shelf.specs.Agreeing.{HasShown}
 use Rattle.shelf.specs.Shelf.{HasRead, Outside}
 use Rattle.shelf.specs.Laws.Told.{narrows_by, narrows_same, narrows_then}
 use Rattle.shelf.specs.Files.{AreCut}
@@ -11,7 +12,7 @@ use Rattle.trace_format.specs.declared.record.TraceRecord.{TraceRecord}
 use Rattle.trace_format.specs.Rules.{IsWritable}
 use Rattle.trace_files.proofs.Going.{at_first, way_at}
 use Rattle.trace_files.proofs.Pieces.{come_at, cut_at, end_at, ended_at, next_at, on_at}
-use Rattle.trace_files.proofs.Pieces.{piece_writable, refused_at, short_at, short_none}
+use Rattle.trace_files.proofs.Pieces.{piece_writable, refused_at, short_at, short_none, shown_at}
 use Rattle.trace_files.proofs.Pieces.{was_refused}
 use Rattle.trace_files.proofs.copy.copy_records.Goals as goal
 
@@ -46,10 +47,10 @@ put_all-requires g c =
     in
     let on = on_at g.T.Target.waiting g.T.Target.files g.T.Target.has c.args.name.now
     c.args.target.now c.pieces.target c.pieces.cursor
-    old mid c.pieces.invariant c.any.result c.any.ensures next read.held (e.more (ap Ok none)) in
+    old mid c.pieces.invariant c.any.result c.any.ensures next read (e.more (ap Ok none)) in
     record {
       writable = subst (All IsWritable) (sym c.items.ensures)
-          (piece_writable read.held c.args.name.now c.pieces.invariant.bytes next on);
+          (piece_writable mid read c.args.name.now c.pieces.invariant.bytes next on);
       way = way_at g.T.Target.waiting g.T.Target.files g.T.Target.has c.args.name.now
           c.args.target.now c.pieces.target c.pieces.cursor
           old mid read c.requires.way.0 c.requires.way.1 c.pieces.invariant reads;
@@ -71,7 +72,7 @@ pieces-preserved g c =
     in
     let on = on_at g.T.Target.waiting g.T.Target.files has c.args.name.now c.args.target.now now
     c.pieces.cursor
-    old mid c.pieces.invariant c.any.result c.any.ensures next read.held (e.more (ap Ok none)) in
+    old mid c.pieces.invariant c.any.result c.any.ensures next read (e.more (ap Ok none)) in
     next_at g.T.Target.waiting g.T.Target.files has c.args.name.now c.args.target.now now
     c.pieces.cursor
     old mid c.pieces.invariant next read reads on later new c.put_all.ensures.files
@@ -82,7 +83,7 @@ pieces-preserved g c =
     → IsOutputs (g.T.Target.waiting now) (g.T.Target.files now seen) b read
     → IsOutputs (g.T.Target.waiting later) (g.T.Target.files now (seen ++ items)) b new)
     c.items.ensures c.in-Ok-put_all.ensures.outputs)
-    (narrows_by read.held new.held c.put_all.ensures.tells)
+    (narrows_by read.held new.held c.put_all.ensures.tells) c.put_all.ensures.gives
 
 pub pieces-smaller : goal.pieces-smaller
 pieces-smaller g c = let none = c.in-Ok-None.field-0-is in c.in-Ok-None.ensures.fewer (ap Ok none)
@@ -113,6 +114,24 @@ returns-in-Ok-Some-clause-copied g c =
     c.pieces.target c.pieces.cursor
     old mid c.pieces.invariant passed read reads ended
 
+pub returns-in-Ok-Some-clause-shown : goal.returns-in-Ok-Some-clause-shown
+returns-in-Ok-Some-clause-shown g c =
+    let some = c.in-Ok-Some.field-0-is in
+    let e = c.in-Ok-Some.ensures in
+    let old = g.S.Shelf.outside c.args.shelf.now in
+    let mid = g.S.Shelf.outside c.pieces.shelf in
+    let read = g.S.Shelf.outside c.advance.new.shelf in
+    let passed = c.in-Ok-Some.passed in
+    let x = c.pieces.invariant in
+    let ended = end_at g.T.Target.waiting g.T.Target.files g.T.Target.has c.args.name.now
+    c.args.target.now c.pieces.target c.pieces.cursor old mid x c.any.result c.any.ensures passed
+    read.held (e.ended passed (ap Ok some)) in
+    shown_at g.T.Target.waiting g.T.Target.files g.T.Target.has c.args.name.now c.args.target.now
+    c.pieces.target c.pieces.cursor old mid x passed read.held read.given ended
+    (e.shown passed (ap Ok some) x.bytes
+    (come_at g.T.Target.waiting g.T.Target.files g.T.Target.has c.args.name.now c.args.target.now
+    c.pieces.target c.pieces.cursor old mid x c.any.result c.any.ensures) old.given x.front)
+
 pub returns-in-Err-put_all-clause-short : goal.returns-in-Err-put_all-clause-short
 returns-in-Err-put_all-clause-short g c = λ before began.
     let none = c.in-Ok-None.field-0-is in
@@ -128,7 +147,7 @@ returns-in-Err-put_all-clause-short g c = λ before began.
     in
     let on = on_at g.T.Target.waiting g.T.Target.files g.T.Target.has c.args.name.now
     c.args.target.now now c.pieces.cursor
-    old mid c.pieces.invariant c.any.result c.any.ensures next read.held (e.more (ap Ok none)) in
+    old mid c.pieces.invariant c.any.result c.any.ensures next read (e.more (ap Ok none)) in
     rw c.write_fault.ensures
     (cut_at g.T.Target.waiting g.T.Target.files g.T.Target.has c.args.name.now c.args.target.now now
     c.pieces.cursor
@@ -162,8 +181,15 @@ pub returns-in-Err-advance-clause-found : goal.returns-in-Err-advance-clause-fou
 returns-in-Err-advance-clause-found g c = λ refusal same.
     let refused = was_refused c.in-Err-advance.fault c.second_fault-in-Err-advance.result refusal
     c.second_fault-in-Err-advance.ensures (cc) in
-    let some = c.in-Err-advance.ensures.found refusal (cc) in
-    (some.0, subst (λ (w : Wanted). refusal_of w some.0 ≡ Some refusal) c.any.ensures some.1)
+    let old = g.S.Shelf.outside c.args.shelf.now in
+    let read = g.S.Shelf.outside c.advance.new.shelf in
+    let x = c.pieces.invariant in
+    subst (λ (w : Wanted). HasShown c.args.name.now (λ file. refusal_of w file ≡ Some refusal)
+    old.given read.given) c.any.ensures
+    (c.in-Err-advance.ensures.shown_refused refusal (cc) x.bytes
+    (come_at g.T.Target.waiting g.T.Target.files g.T.Target.has c.args.name.now c.args.target.now
+    c.pieces.target c.pieces.cursor old (g.S.Shelf.outside c.pieces.shelf) x c.any.result
+    c.any.ensures) old.given x.front)
 
 -- ---- no more is told than before
 

@@ -49,11 +49,16 @@ loop-item-preserved g c =
           (g.T.Target.files c.args.target.now l) before new)
           (more seen) (then (x.outputs seen before h on));
       tells = c.put.ensures.tells ∙ x.tells;
+      gives = c.put.ensures.gives ∙ x.gives;
     }
 
 pub returns-in-Err-clause-tells : goal.returns-in-Err-clause-tells
 returns-in-Err-clause-tells g c =
     c.put.ensures.tells ∙ c.loop-item.invariant.tells
+
+pub returns-in-Err-clause-gives : goal.returns-in-Err-clause-gives
+returns-in-Err-clause-gives g c =
+    c.put.ensures.gives ∙ c.loop-item.invariant.gives
 
 pub returns-in-Err-clause-cut : goal.returns-in-Err-clause-cut
 returns-in-Err-clause-cut g c =

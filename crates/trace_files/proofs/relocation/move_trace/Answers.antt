@@ -72,7 +72,7 @@ take-requires-clause-writable g c =
     let at = c.pieces.invariant in
     let come = subst (λ (w : Wanted). HasCome mid.held trace w at.bytes c.pieces.cursor)
     (sym c.any.ensures) at.come in
-    let on = subst (λ (w : Wanted). GoesOn read.held trace w at.bytes c.advance.new.self)
+    let on = subst (λ (w : Wanted). GoesOn mid read trace w at.bytes c.advance.new.self)
     c.any.ensures (e.more (ap Ok none) at.bytes come) in
     subst (All IsWritable) (sym c.items.ensures)
     (writable_behind at.bytes (at.bytes ++ on.more) c.advance.new.self.items on.records)
@@ -94,7 +94,7 @@ take-requires-clause-way g c =
     in
     let come = subst (λ (w : Wanted). HasCome mid.held trace w at.bytes c.pieces.cursor)
     (sym c.any.ensures) at.come in
-    let on = subst (λ (w : Wanted). GoesOn read.held trace w at.bytes next)
+    let on = subst (λ (w : Wanted). GoesOn mid read trace w at.bytes next)
     c.any.ensures (e.more (ap Ok none) at.bytes come) in
     subst (λ (h : Option (Version × Header)). MayTake t m h c.items.result.now read)
     (sym c.head.ensures)
@@ -122,7 +122,7 @@ pieces-preserved g c =
     in
     let come = subst (λ (w : Wanted). HasCome mid.held trace w at.bytes c.pieces.cursor)
     (sym c.any.ensures) at.come in
-    let on = subst (λ (w : Wanted). GoesOn read.held trace w at.bytes next)
+    let on = subst (λ (w : Wanted). GoesOn mid read trace w at.bytes next)
     c.any.ensures (e.more (ap Ok none) at.bytes come) in
     moving_next t trace file later next old read new (at.bytes ++ on.more) c.take.ensures.tells
     on.come

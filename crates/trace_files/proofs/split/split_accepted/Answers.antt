@@ -1,4 +1,5 @@
-use Rattle.std.proofs.Common.{refl, sym, subst, arith}
+use Rattle.std.proofs.Common.{List, refl, sym, subst, arith}
+use Rattle.shelf.specs.Shelf.{Given}
 use Rattle.shelf.specs.Laws.Files.{IsOutputs-begun}
 use Rattle.shelf.specs.Laws.Told.{narrows_by, narrows_then}
 use Rattle.base.specs.declared.ending.Ending.{Ending}
@@ -6,6 +7,7 @@ use Rattle.trace_format.specs.Rules.{IsAllowedEnd, IsGoodHeader}
 use Rattle.trace_passes.specs.Passes.{trace_with}
 use Rattle.trace_passes.specs.Laws.Passes.{trace-parts}
 use Rattle.trace_format.specs.Splits.{Split, headers_of}
+use Rattle.trace_files.specs.Copies.{IsOther}
 use Rattle.trace_files.specs.Copying.{HasSplit, halves_so_far}
 use Rattle.trace_files.proofs.Again.{begun_as}
 use Rattle.trace_files.proofs.Splittings.{end_allowed, second_header, split_whole, stopped_begun}
@@ -55,6 +57,12 @@ copy_again-requires-clause-accepted g c =
 pub copy_again-requires-clause-way : goal.copy_again-requires-clause-way
 copy_again-requires-clause-way g c =
     (g.S.Shelf.outside c.args.shelf.now, begun_as c.in-Ok.ensures.files c.in-Ok.ensures.outputs)
+
+pub returns-in-Err-copy_again-clause-other : goal.returns-in-Err-copy_again-clause-other
+returns-in-Err-copy_again-clause-other g c = λ refusal same.
+    subst (λ (before : List Given). IsOther c.args.name.now c.args.passed.now refusal before
+    (g.S.Shelf.outside c.copy_again.new.shelf).given) c.begin.ensures.gives
+    (c.in-Err-copy_again.ensures.other refusal (cc))
 
 pub returns-in-Err-copy_again-clause-stopped : goal.returns-in-Err-copy_again-clause-stopped
 returns-in-Err-copy_again-clause-stopped g c =

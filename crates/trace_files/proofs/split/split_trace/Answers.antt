@@ -34,19 +34,12 @@ returns-in-Ok-clause-memory g c = c.split_accepted.ensures.unrefused
     (refusals.Trace trace_faults.NoMemory)
 
 pub returns-in-Ok-clause-other : goal.returns-in-Ok-clause-other
-returns-in-Ok-clause-other g c = λ refusal same.
-    let mid = g.S.Shelf.outside c.accept.new.shelf in
-    let new = g.S.Shelf.outside c.split_accepted.new.shelf in
-    let stopped = IfErr-at_err (λ fault. HasStopped new.held c.args.name.now
-    (c.args.first.now ∷ c.args.second.now ∷ [])
-    (halves c.args.at c.args.first.now c.args.second.now) mid new fault) same
-    c.split_accepted.ensures.stopped in
-    record {
-      first = c.in-Ok.passed;
-      accepted = accepted_still mid.held new.held c.args.name.now c.in-Ok.passed stopped.held_stay
-          c.in-Ok.ensures.accepted;
-      other = c.split_accepted.ensures.other refusal same;
-    }
+returns-in-Ok-clause-other g c = λ refusal same. record {
+  first = c.in-Ok.passed;
+  between = (g.S.Shelf.outside c.accept.new.shelf).given;
+  accepted = c.in-Ok.ensures.shown;
+  other = c.split_accepted.ensures.other refusal same;
+}
 
 pub returns-in-Ok-clause-accepted : goal.returns-in-Ok-clause-accepted
 returns-in-Ok-clause-accepted g c = λ same.

@@ -7,7 +7,8 @@ use Rattle.trace_passes.proofs.passes.pass.Given as goal
 abbrev pub invariant-pieces : goal.invariant-pieces
 invariant-pieces g l = record {
   way : IsAt (g.S.Shelf.outside l.shelf).held l.name l.wanted
-      (g.O.Observer.given l.fn.observer l.observer) l.cursor;
+      (g.O.Observer.given l.fn.observer l.observer) (g.S.Shelf.outside l.fn.shelf).given
+      (g.S.Shelf.outside l.shelf).given l.cursor;
   only : OnlyReads (g.S.Shelf.outside l.fn.shelf) (g.S.Shelf.outside l.shelf);
   quiet : (g.S.Shelf.outside l.shelf).read_faults ≡ (g.S.Shelf.outside l.fn.shelf).read_faults;
 }

@@ -1,7 +1,6 @@
 use Rattle.std.proofs.Common.{List, ap, sym, subst, ◌∙◌}
 use Rattle.line_tracks.specs.Kept.{Kept, saved}
 use Rattle.detector.specs.Adding.{CanAddTrack, with_track}
-use Rattle.detector.specs.Counts.{Counts, counts_of}
 use Rattle.base.specs.Levels.{Levels}
 use Rattle.detector.specs.Entries.{entry_at}
 use Rattle.detector.specs.Index.{IsIndexed}
@@ -33,21 +32,9 @@ invariant_of-self g c = (
 
 pub returns-clause-added : goal.returns-clause-added
 returns-clause-added g c = on_ok_weaker c.add_saved.result
-    (λ added.
-    ap (λ (ws : Counts). record {
-      position = c.self.inside.position;
-      grid = c.self.inside.layout;
-      levels = c.self.inside.thresholds;
-      writes = ws;
-      tracks = c.add_saved.new.tracks;
-    }) c.add_saved.ensures.counts
-    ∙ ap (λ (xs : List Kept). record {
-      position = c.self.inside.position;
-      grid = c.self.inside.layout;
-      levels = c.self.inside.thresholds;
-      writes = counts_of (g.I.LineIndex.entries c.self.inside.index);
-      tracks = xs;
-    }) added
+    (λ added. rw c.add_saved.ensures.counts
+    (ap (λ (xs : List Kept). watch_of (g.I.LineIndex.entries c.self.inside.index) xs
+    c.self.inside.layout c.self.inside.thresholds c.self.inside.position) added
     ∙ ap (λ (w : Watch). with_track w (saved c.args.kind c.args.shadow c.args.start c.args.count))
-    c.self.view_is)
+    c.self.view_is))
     c.add_saved.ensures.tracks

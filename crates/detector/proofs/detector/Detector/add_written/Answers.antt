@@ -1,6 +1,6 @@
 use Rattle.std.proofs.Common.{◌≤◌, ap, sym, subst, ◌∙◌}
 use Rattle.detector.specs.Adding.{with_written}
-use Rattle.detector.specs.Counts.{Counts, count_at}
+use Rattle.detector.specs.Counts.{count_at}
 use Rattle.detector.specs.Watch.{Watch}
 use Rattle.detector.proofs.CountLaws.{count_at-counts_of}
 use Rattle.detector.proofs.detector.Detector.add_written.Goals as goal
@@ -23,13 +23,6 @@ invariant_of-self g c = (
 
 pub returns-clause-added : goal.returns-clause-added
 returns-clause-added g c = on_ok_weaker c.set_writes.result
-    (λ counts.
-    ap (λ (ws : Counts). record {
-      position = c.self.inside.position;
-      grid = c.self.inside.layout;
-      levels = c.self.inside.thresholds;
-      writes = ws;
-      tracks = c.self.inside.tracks;
-    }) counts
-    ∙ ap (λ (w : Watch). with_written w c.args.line c.args.writes) c.self.view_is)
+    (λ counts. rw counts (ap (λ (w : Watch). with_written w c.args.line c.args.writes)
+    c.self.view_is))
     c.set_writes.ensures.counts

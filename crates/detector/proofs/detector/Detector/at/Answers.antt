@@ -1,5 +1,4 @@
 use Rattle.std.proofs.Common.{◌≡◌, List, sym, ap, ◌∙◌, subst}
-use Rattle.base.specs.Levels.{Levels}
 use Rattle.sharing_rules.specs.Listed.{may_predict}
 use Rattle.line_tracks.specs.Kept.{Kept}
 use Rattle.detector.specs.Entries.{entry_at}
@@ -24,24 +23,4 @@ pub returns : goal.returns
 returns g c =
     let none : counts_of (g.I.LineIndex.entries c.args.index) ≡ no_writes =
     ap counts_of c.requires.empty ∙ counts-empty in
-    ap (λ ws. record {
-      position = c.args.position;
-      grid = c.args.layout;
-      levels = c.of.result;
-      writes = ws;
-      tracks = c.new.result;
-    }) none
-    ∙ ap (λ (v : Levels). record {
-      position = c.args.position;
-      grid = c.args.layout;
-      levels = v;
-      writes = no_writes;
-      tracks = c.new.result;
-    }) c.of.ensures
-    ∙ ap (λ xs. record {
-      position = c.args.position;
-      grid = c.args.layout;
-      levels = c.args.thresholds;
-      writes = no_writes;
-      tracks = xs;
-    }) c.new.ensures
+    rw (none, c.of.ensures, c.new.ensures)

@@ -5,12 +5,11 @@ use Rattle.detector.specs.declared.line_entry.LineEntry.{LineEntry}
 use Rattle.detector.specs.Index.{names_in, place_in}
 use Rattle.detector.specs.Named.{track_named}
 use Rattle.detector.specs.Watch.{Watch}
-use Rattle.detector.proofs.AroundLaws.{is_some-kept}
+use Rattle.detector.proofs.NamedLaws.{is_some-kept}
 use Rattle.detector.proofs.detector.Detector.has_track.Goals as goal
 
 pub returns : goal.returns
 returns g c =
-    let d = c.self.inside in
     c.is_some.ensures ∙ ap is_some c.place_of.ensures
     ∙ ap (λ (e : LineEntry). is_some (place_in e c.args.kind)) c.peek.ensures
     ∙ sym (is_some-kept (names_in (entry_at (g.I.LineIndex.entries c.self.inside.index)))

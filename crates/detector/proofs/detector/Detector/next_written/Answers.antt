@@ -31,7 +31,6 @@ returns-clause-none g c =
 
 pub returns-then-from-gt-LAST_LINE-clause-none : goal.returns-then-from-gt-LAST_LINE-clause-none
 returns-then-from-gt-LAST_LINE-clause-none g c = λ q late.
-    let m = g.I.LineIndex.entries c.self.inside.index in
     let past : 2 ^ 30 < q = omega arith in
     sym (ap (λ (w : Watch). count_at w.writes q) c.self.view_is)
     ∙ count_at-counts_of (g.I.LineIndex.entries c.self.inside.index) q

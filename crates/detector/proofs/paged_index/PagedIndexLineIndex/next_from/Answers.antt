@@ -5,8 +5,7 @@ use Rattle.detector.specs.Entries.{entry_at}
 use Rattle.detector.specs.Laws.Entries.{entry_at-entries_of, unwritten}
 use Rattle.detector.specs.PagedEntries.{paged_entries, paged_entry}
 use Rattle.detector.specs.Pages.{NoneWritten, directory_entry}
-use Rattle.detector.proofs.NextLaws.{found_in, searched}
-use Rattle.detector.proofs.PageLaws.{items_at-past}
+use Rattle.detector.proofs.PageLaws.{found_in, searched, items_at-past}
 use Rattle.detector.proofs.paged_index.PagedIndexLineIndex.next_from.Goals as goal
 
 pub returns-then-line-le-LAST_LINE-clause-written :

@@ -1,6 +1,7 @@
-use Rattle.std.proofs.Common.{rules}
+use Rattle.std.proofs.Common.{length, rules, take}
 use Rattle.disk_shelf.proofs.DiskLaws.{fault_cause_at}
-use Rattle.disk_shelf.proofs.ReadLaws.{told_read, still_told}
+use Rattle.disk_shelf.proofs.ReadLaws.{only_read, told_read, still_told}
+use Rattle.disk_shelf.specs.Disk.{Seen}
 use Rattle.disk_shelf.proofs.disk.DiskShelfShelf.read_at.Goals as goal
 
 pub returns-in-Ok-clause-bytes : goal.returns-in-Ok-clause-bytes
@@ -19,3 +20,16 @@ returns-in-Err-clause-cause g c =
     rw (← c.self.view_is) (fault_cause_at c.args.name.now c.self.inside.reads
     c.tell_and_count.new.count c.tell_and_count.result
     c.tell_and_count.ensures.later c.tell_and_count.ensures.counted)
+
+pub returns-in-Ok-clause-only : goal.returns-in-Ok-clause-only
+returns-in-Ok-clause-only g c =
+    let was = c.self.inside in
+    let seen : Seen = record {
+      reads = was.reads;
+      writes = was.writes;
+      prints = was.prints;
+      done = was.log.items;
+    } in
+    rw (c.and-self-inside.ensures, ← c.self.view_is) (only_read g.K.Contents.files seen
+    c.args.name.now c.args.at (length c.read_at.new.into)
+    (take c.in-Ok.read.count c.read_at.new.into))

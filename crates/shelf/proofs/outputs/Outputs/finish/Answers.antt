@@ -66,6 +66,10 @@ pub returns-in-Err-clause-tells : goal.returns-in-Err-clause-tells
 returns-in-Err-clause-tells g c =
     c.in-Err.ensures.only.held ∙ c.loop-place.invariant.tells
 
+pub returns-in-Err-clause-gives : goal.returns-in-Err-clause-gives
+returns-in-Err-clause-gives g c =
+    c.in-Err.ensures.only.given ∙ c.loop-place.invariant.gives
+
 pub returns-clause-nothing_waits : goal.returns-clause-nothing_waits
 returns-clause-nothing_waits g c =
     finished_all c.self.inside.files.items c.loop-place.self-inside.files.items c.loop-place.place

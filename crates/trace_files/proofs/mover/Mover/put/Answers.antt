@@ -1,12 +1,13 @@
 use Rattle.std.proofs.Common.{◌≡◌, ◌+◌, ◌++◌, ◌∷◌, [], List, OnOk, Some, ap, arith, refl, subst}
 use Rattle.std.proofs.Common.{sym}
-use Rattle.std.proofs.lemmas.Result.{IfErr-weaker}
+use Rattle.std.proofs.lemmas.Result.{IfErr-weaker, on_ok_weaker}
 use Rattle.shelf.specs.Shelf.{Outside}
 use Rattle.shelf.specs.Files.{AreCut, Output}
 use Rattle.shelf.specs.OnTheirWay.{IsOutputs, outputs_with}
 use Rattle.trace_format.specs.declared.record.TraceRecord.{TraceRecord}
 use Rattle.trace_format.specs.Rules.{touches_in}
 use Rattle.trace_format.specs.Spelling.{before_after, spell_record}
+use Rattle.trace_files.specs.Movers.{HasMoved}
 use Rattle.trace_files.specs.Moves.{count_moved}
 use Rattle.trace_files.specs.Moving.{moved_so_far}
 use Rattle.trace_files.proofs.Movings.{begun_there, both_ok, has_put, one_file_there, other_item}
@@ -37,6 +38,18 @@ returns-in-Touch-clause-cut g c =
     (moved_so_far t m.name.now (Some head) (seen ++ item ∷ [])) before new error)
     (sym c.in-Touch.is) (cut head seen before has))
     c.put_access.ensures.cut
+
+pub returns-in-Touch-clause-moved : goal.returns-in-Touch-clause-moved
+returns-in-Touch-clause-moved g c =
+    let t = c.args.table.now in
+    let m = c.args.self.now in
+    let after = c.put_access.new.self in
+    let new = g.S.Shelf.outside c.put_access.new.shelf in
+    on_ok_weaker c.put_access.result
+    (λ moved head seen before has.
+    subst (λ (item : TraceRecord). HasMoved t m.name.now after (Some head) (seen ++ item ∷ [])
+    before new) (sym c.in-Touch.is) (moved head seen before has))
+    c.put_access.ensures.moved
 
 pub returns-in_default : goal.returns-in_default
 returns-in_default g c =

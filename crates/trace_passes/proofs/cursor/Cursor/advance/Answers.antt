@@ -2,6 +2,7 @@ use Rattle.std.proofs.Common.{◌≡◌, ◌+◌, ◌-◌, ◌≤◌, ◌<◌, �
 use Rattle.std.proofs.Common.{sym, ap, subst, ◌∙◌, arith}
 use Rattle.shelf.specs.Shelf.{Told, content}
 use Rattle.shelf.specs.Fetch.{IsFront}
+use Rattle.shelf.specs.Laws.Agreeing.{front_shows, shown_then}
 use Rattle.shelf.specs.Laws.Told.{told_both}
 use Rattle.trace_format.specs.Reading.{reading_of}
 use Rattle.trace_format.specs.Rules.{longest_trace}
@@ -11,7 +12,8 @@ use Rattle.trace_passes.specs.Passes.{refusal_of}
 use Rattle.trace_passes.proofs.Fronts.{at_most, come_still, falls, given_back, longer_front}
 use Rattle.trace_passes.proofs.Fronts.{next_come}
 use Rattle.trace_passes.proofs.Fronts.{refused_file, stops_there, whole_front}
-use Rattle.trace_passes.proofs.Closings.{ended, refused_end}
+use Rattle.trace_passes.proofs.Closings.{ended, refused_bytes, refused_end}
+use Rattle.trace_passes.proofs.Shown.{read_more, read_none}
 use Rattle.trace_passes.proofs.Stopping.{stopped_end, stopped_piece}
 use Rattle.trace_passes.proofs.cursor.Cursor.advance.Goals as goal
 
@@ -93,6 +95,59 @@ returns-in_err-take_piece-clause-refused g c = λ refusal same.
     (cc) bytes more come.read.reading) stops in
     refused_file held name (bytes ++ take count into) w refusal front refused
 
+pub returns-then-count-eq0-clause-shown : goal.returns-then-count-eq0-clause-shown
+returns-then-count-eq0-clause-shown g c = λ passed same bytes reached before.
+    let came = subst (HasCome (g.S.Shelf.outside c.args.shelf.now).held c.args.name.now
+    c.args.wanted.now bytes) (sym c.self.view_is) reached in
+    read_none c.args.name.now bytes c.fetch.new.piece c.self.inside.at c.in_ok-count.count before
+    (g.S.Shelf.outside c.args.shelf.now).given (g.S.Shelf.outside c.fetch.new.shelf).given
+    came.size c.if-count-eq0.true c.in_ok-count.ensures.given
+
+pub returns-in_err-end_of-clause-shown_refused : goal.returns-in_err-end_of-clause-shown_refused
+returns-in_err-end_of-clause-shown_refused g c = λ refusal same bytes reached before front.
+    let came = subst (HasCome (g.S.Shelf.outside c.args.shelf.now).held c.args.name.now
+    c.args.wanted.now bytes) (sym c.self.view_is) reached in
+    let w = c.args.wanted.now in
+    let was_err = c.in_err-end_of.was in
+    let handed_on = rw same at c.from_residual-in_err-end_of.ensures.1 in
+    let refused = refused_bytes w c.self.inside.reader bytes came.read refusal
+    (c.end_of.ensures.refused refusal (cc)) in
+    shown_then c.args.name.now (λ file. bytes ≡ file) (λ file. refusal_of w file ≡ Some refusal)
+    before (g.S.Shelf.outside c.fetch.new.shelf).given
+    (λ file is. ap (refusal_of w) (sym is) ∙ refused)
+    (read_none c.args.name.now bytes c.fetch.new.piece c.self.inside.at c.in_ok-count.count before
+    (g.S.Shelf.outside c.args.shelf.now).given (g.S.Shelf.outside c.fetch.new.shelf).given
+    came.size c.if-count-eq0.true c.in_ok-count.ensures.given front)
+
+pub returns-in_err-take_piece-clause-shown_refused : goal.returns-in_err-take_piece-clause-shown_refused
+returns-in_err-take_piece-clause-shown_refused g c = λ refusal same bytes reached before front.
+    let into = c.fetch.new.piece in
+    let was = c.self.inside.piece.items in
+    let lent : length into ≡ c.self.inside.piece.len = omega (arith, c.deref_mut.ensures.len) in
+    let size : length was ≡ c.self.inside.piece.len = omega arith in
+    let back = given_back c.self.inside.piece.len into was lent size in
+    let name = c.args.name.now in
+    let came = subst (HasCome (g.S.Shelf.outside c.args.shelf.now).held name c.args.wanted.now
+    bytes) (sym c.self.view_is) reached in
+    let at = c.self.inside.at in
+    let count = c.in_ok-count.count in
+    let fits : count ≤ length into = omega (arith, c.in_ok-count.ensures.bound) in
+    let was_err = c.in_err-take_piece.was in
+    let handed_on = rw same at c.from_residual-in_err-take_piece.ensures.1 in
+    let w = c.args.wanted.now in
+    let stops : StopsAtMagic w bytes (take count into) =
+    stops_there w bytes into at count came.size fits came.read.sited
+    (c.in_ok-count.ensures.magic) in
+    let new = (g.S.Shelf.outside c.fetch.new.shelf).given in
+    front_shows name (bytes ++ take count into) (λ file. refusal_of w file ≡ Some refusal) before
+    new
+    (λ more. subst (λ (xs : List ℕ). StopsAtMagic w bytes (take count xs)
+    → refusal_of w ((bytes ++ take count xs) ++ more) ≡ Some refusal)
+    (c.deref.ensures.value ∙ back) (c.take_piece.ensures.refused refusal
+    (cc) bytes more came.read.reading) stops)
+    (read_more name bytes into at count before (g.S.Shelf.outside c.args.shelf.now).given new
+    came.size fits c.if-count-eq0.false c.in_ok-count.ensures.given front)
+
 pub returns-in_err-take_piece-clause-found : goal.returns-in_err-take_piece-clause-found
 returns-in_err-take_piece-clause-found g c = λ refusal same.
     let bytes = c.requires.0 in
@@ -148,6 +203,10 @@ returns-clause-more g c = λ same bytes reached.
           refl
           (omega (arith, ap length back, lent, size, come.room));
       records = records;
+      front = λ before. read_more c.args.name.now bytes into c.self.inside.at count before
+          (g.S.Shelf.outside c.args.shelf.now).given (g.S.Shelf.outside c.fetch.new.shelf).given
+          come.size (omega (arith, c.in_ok-count.ensures.bound)) c.if-count-eq0.false
+          c.in_ok-count.ensures.given;
     }
 
 pub overflow_add-self : goal.overflow_add-self
