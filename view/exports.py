@@ -35,7 +35,14 @@ def instruction(view: View, addr: int) -> Record:
         "function": place.function if place else "",
         "file": place.file if place else "",
         "line": place.line if place else 0,
+        "panics": panics(view, addr),
     }
+
+
+def panics(view: View, addr: int) -> Record | None:
+    """The places of panics that tell an instruction without debug information, or none."""
+    near = view.naming.panics(addr)
+    return {"called": near.is_called, "places": [it._asdict() for it in near.places]} if near else None
 
 
 def site(view: View, it: Site) -> Record:

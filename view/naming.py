@@ -14,6 +14,7 @@ if TYPE_CHECKING:
     # (which are read where a program is named alone: they want pyelftools)
     from fields import Program
     from native import NativeProgram
+    from panics import Near
 
 
 class WordKind(NamedTuple):
@@ -114,6 +115,12 @@ class Naming:
         from_file = getattr(self.program, "library", None)
         return from_file(addr) if from_file else ""
 
+    def panics(self, addr: int) -> "Near | None":
+        """What panics tell of an instruction without a function and a line, or none; reports of native programs tell it."""
+        is_known = self.sources is not None and any(it.function or it.file for it in self.sources.frames(addr))
+        from_file = None if is_known else getattr(self.program, "near", None)
+        return from_file(addr) if from_file else None
+
     def called(self, site: Site) -> str:
         """The function of a call site, or where it has none its library."""
         return self.readable(site.name) if site.name != "-" else self.library(site.addr) or site.name
@@ -158,7 +165,8 @@ class Naming:
         names = [self.readable(it.function) for it in frames if it.function]
         near = sources.near(addr) if sources and place is None else None
         told = place.short() if place else f"near {near.short()}" if near else self.library(addr) or f"0x{addr:08x}"
-        return f"{told} ({' < '.join(names[:2])})" if names else told
+        panics = self.panics(addr) if not names else None
+        return f"{told} ({' < '.join(names[:2])})" if names else f"{told} ({panics.told()})" if panics else told
 
     def is_allocator(self, addr: int) -> bool:
         """Whether an instruction is of the C library's allocator."""
@@ -188,6 +196,15 @@ class Naming:
         own = [it for it in sites if it.name not in ALLOCATORS] or list(sites)
         return [self.names.lasting(it.name) for it in [it for it in own if it.name not in BEGINNINGS] or own[:1]]
 
+    def near_panics(self, chain: Sequence[Site]) -> tuple[int, str]:
+        """Of a block's call sites the first whose function panics tell, if need be by what calls the last one; and what they tell."""
+        found = [None if self.site(it) or it.name != "-" else self.panics(it.addr) for it in chain]
+        last = len(chain) - 1
+        told = (at for at, it in enumerate(found) if it and it.names_source() and (at == last or not it.is_called))
+        at = next(told, None)
+        near = found[at] if at is not None else None
+        return (at or 0, f" ({near.told()})") if near else (0, "")
+
     def block(self, sites: Sequence[Site]) -> str:
         if not sites:
             return "block without call sites"
@@ -195,11 +212,12 @@ class Naming:
             return "thread-local variables"
         chain = self.chain(sites)
         at = self.site(chain[0])
-        rest = [self.called(it) for it in chain[1:]]
+        near, told = self.near_panics(chain)
+        rest = [self.called(it) + (told if at == near else "") for at, it in enumerate(chain) if at > 0]
         name = self.called(chain[0])
         first = at or ("an unknown function" if name == "-" else name)
         # (a line says more with its function, unless that is named next anyway)
-        first += f" ({self.function(chain[0])})" if at and not rest and chain[0].name != "main" else ""
+        first += f" ({self.function(chain[0])})" if at and not rest and chain[0].name != "main" else told if near == 0 else ""
         return ("block made at " if at else "block made in ") + " < ".join(
             [first, *(rest or (["main"] if at and chain[0].name == "main" else []))]
         )

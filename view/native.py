@@ -14,6 +14,7 @@ from fields import Die, Program, Variable, chosen, last_name, sound
 from keys import OfFile, OfMemory, OfPlace, OfStack
 from mangled import demangled
 from naming import Memory
+from panics import Near, Panics
 from reports import Report
 from source_lines import Place, Sources, places
 
@@ -159,6 +160,7 @@ class NativeProgram:
 
     def __init__(self, back: Back) -> None:
         self.back, self.files = back, [File(*it) for it in back.maps]
+        self.panics: dict[str, Panics | None] = {}
         self.path = back.program
         own = next((it for it in self.files if os.path.realpath(it.path) == os.path.realpath(self.path)), None)
         self.main = own.program() if own else Program(self.path)
@@ -187,6 +189,25 @@ class NativeProgram:
         """The library that an address is in, and the place there; or an empty text."""
         found = self.file(addr)
         return f"{os.path.basename(found[0].path)}+{found[1]:#x}" if found else ""
+
+    @functools.cached_property
+    def ran(self) -> dict[str, list[int]]:
+        """The instructions that the table tells, by files."""
+        found: dict[str, list[int]] = {}
+        for file, at in filter(None, map(self.file, self.back.sites)):
+            found.setdefault(file.path, []).append(at)
+        return found
+
+    def near(self, addr: int) -> Near | None:
+        """What panics tell of an instruction, or none."""
+        found = self.file(addr)
+        if found is None:
+            return None
+        path, at = found[0].path, found[1]
+        if path not in self.panics:
+            self.panics[path] = sound(lambda: Panics(path, self.ran.get(path, ())), None)
+        panics = self.panics[path]
+        return sound(functools.partial(panics.near, at), None) if panics else None
 
     def type_named(self, text: str) -> Die:
         """A type of the program, or else of one of its libraries."""
