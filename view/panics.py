@@ -1,5 +1,6 @@
-"""Where stripped code of Rust may panic. A check in Rust hands its file and line to the panic (a `core::panic::Location`), and these stay in
-a program that keeps no symbols. So an instruction is told by the places where its function, as the table for unwinding has it, may panic."""
+"""Where stripped code of Rust may panic. A check in Rust hands its file and line to the panic (a `core::panic::Location`), and these stay
+in a program that keeps no symbols. So an instruction is told by the places where its function, as the table for unwinding has it, may
+panic."""
 
 import bisect
 import functools
@@ -27,8 +28,6 @@ MOVE = re.compile(rb"(?=[\xb8-\xbf](....))", re.DOTALL)
 CALL, THROUGH = re.compile(rb"(?=[\xe8\xe9](....))", re.DOTALL), re.compile(rb"(?=\xff[\x15\x25](....))", re.DOTALL)
 LOAD = re.compile(rb"(?=[\x48\x4c]\x8b[\x05\x0d\x15\x1d\x25\x2d\x35\x3d](....))", re.DOTALL)
 FAR, SHORT = re.compile(rb"(?=\x0f[\x80-\x8f](....))", re.DOTALL), re.compile(rb"(?=[\x70-\x7f](.))", re.DOTALL)
-# What ends a call that doesn't come back.
-TRAP = b"\x0f\x0b"
 # How tables for unwinding and their entries are written, as all linkers do.
 TABLE, LINK = b"\x01\x1b\x03\x3b", struct.Struct("<ii")
 PATH = re.compile(rb"[^\x00-\x1f\x7f]+\.rs")
@@ -199,13 +198,13 @@ class Panics:
             told += [(start + it.start(), int.from_bytes(it[1], "little")) for it in MOVE.finditer(code)]
         found = [(at, self.places[to]) for at, to in sorted(told) if to in self.places]
         own = [it for it in found if not it[1].is_library()] or found
-        jumps = [*jumped(code, start, FAR, 6), *jumped(code, start, SHORT, 2)] if own else []
-        made = []
+        jumps: dict[int, list[int]] = {}
+        for at, to in (*jumped(code, start, FAR, 6), *jumped(code, start, SHORT, 2)) if own else ():
+            jumps.setdefault(to, []).append(at)
+        blocks, made = [start - BLOCK - 1, *sorted(jumps)], []
         for at, place in own:
-            # (a place is loaded after the call before it, which doesn't come back)
-            before = code.rfind(TRAP, max(at - start - BLOCK, 0), at - start)
-            first = start + before + len(TRAP) if before >= 0 else at - BLOCK
-            made.append(Handed(at, place, [it for it, to in jumps if first <= to <= at]))
+            block = blocks[max(bisect.bisect_right(blocks, at) - 1, 0)]
+            made.append(Handed(at, place, jumps[block] if block >= at - BLOCK else ()))
         return made
 
     def nearest(self, addr: int, handed: Sequence[Handed], most: int) -> tuple[Panic, ...]:

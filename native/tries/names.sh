@@ -49,7 +49,31 @@ if command -v rustc >/dev/null; then
         has "Rust, $way" "names::pool::SLOTS[1].hits" "$said"
         same "Rust, $way: no hash" "" "$(grep -o "17h[0-9a-f]*E\|::h[0-9a-f]\{16\}" <<<"$said" | head -n 1)"
     done
+    # (without symbols: by the places of its panics, wherever else a function and a line stand)
+    rustc -O -C codegen-units=1 --remap-path-prefix "$here/tries=/r/registry/own-1.0.0/src" "$here/tries/panics.rs" -o panics.bare >rust.log 2>&1
+    strip panics.bare
+    "$run" --pcs --trace n -- ./panics.bare
+    said=$(view replay n --top 30 --json n.json --html n.html | tr -s '\n ' ' ')
+    own="near a panic at own-1.0.0/src/panics.rs:" line=$(grep -n "near\[at\]" "$here/tries/panics.rs" | cut -d: -f1)
+    has "stripped Rust: an instruction" "(${own}$line) takes the line from panics.bare+0x" "$said"
+    has "stripped Rust: what is called" "(called $own" "$said"
+    has "stripped Rust: a block" "(${own}$(grep -n "assert!" "$here/tries/panics.rs" | cut -d: -f1)) <" "$said"
+    has "stripped Rust: the page" "(${own}$line)" "$(cat n.html)"
+    same "stripped Rust: JSON" "called False, file '', line 0; called True, file '', line 0" "$(python3 - <<'END'
+import json
+
+objects = json.load(open("n.json"))["objects"]
+sides = [fight["taker"] for it in objects for fight in it["fights"] if fight["taker"]["panics"]]
+own = [it for it in sides if "/own-1.0.0/" in it["panics"]["places"][0]["file"]]
+print(*sorted({f"called {it['panics']['called']}, file {it['file']!r}, line {it['line']}" for it in own}), sep="; ")
+END
+)"
+    # (a trace without pcs tells of no call that it has run)
+    "$run" --trace n -- ./panics.bare
+    said=$(view replay n --top 30)
+    has "stripped Rust, without pcs: a block" "($own" "$said"
+    same "stripped Rust, without pcs: what is called" "" "$(grep -o "(called near[^)]*)" <<<"$said" | head -n 1)"
 else
     skip "names of Rust: there is no rustc"
 fi
-rm -f n n.json n.table m m.table
+rm -f n n.json n.html n.table m m.table

@@ -1,0 +1,288 @@
+"""Tests of how code without symbols is named by the places of its panics: over small programs in C that hand such records on as Rust does,
+and over one of Rust where the compiler is there."""
+
+import os
+import shutil
+import subprocess
+import sys
+import tempfile
+import unittest
+
+TOP = os.path.join(os.path.dirname(os.path.abspath(__file__)), "..", "..")
+sys.path.insert(0, os.path.join(TOP, "view"))
+
+from elftools.elf.elffile import ELFFile  # noqa: E402
+
+from naming import Naming  # noqa: E402
+from panics import Near, Panic, Panics, packed  # noqa: E402
+from reports import Site  # noqa: E402
+
+sys.path.insert(0, os.path.join(TOP, "native", "others"))
+from run import is_named  # noqa: E402
+
+# (a function of one file, one of two, one of the library's alone, and some that are called)
+SOURCE = r"""
+struct place { const char *file; unsigned long size; unsigned line, column; };
+#define PLACE(name, file, line, column) static const struct place name = {file, sizeof file - 1, line, column}
+PLACE(list7, "/r/registry/src/index-0/own-1.0.0/src/list.rs", 7, 5);
+PLACE(list9, "/r/registry/src/index-0/own-1.0.0/src/list.rs", 9, 5);
+PLACE(list70, "/r/registry/src/index-0/own-1.0.0/src/list.rs", 70, 5);
+PLACE(node8, "src/node.rs", 8, 1);
+PLACE(slice3, "/rustc/0123abc/library/core/src/slice/mod.rs", 3, 1);
+PLACE(no_source, "src/list.c", 7, 5);
+PLACE(no_column, "src/list.rs", 7, 0);
+PLACE(no_line, "src/list.rs", 0, 5);
+#define FUNCTION __attribute__((noinline))
+#define TAKES(it) __asm__ volatile("incl %0" : "+m"(*it))
+int sums[64];
+__attribute__((noreturn)) FUNCTION void panic_at(const struct place *it) { for (;;) __asm__ volatile("" : : "r"(it)); }
+FUNCTION void called(int *it) { TAKES(it); }
+FUNCTION void called_by_two(int *it) { TAKES(it); }
+FUNCTION void taken(int *it) { TAKES(it); }
+FUNCTION void in_table(int *it) { TAKES(it); }
+FUNCTION void plain(int *it) { TAKES(it); }
+void (*volatile table[])(int *) = {in_table};
+FUNCTION int one_file(int *it, unsigned at) {
+    if (at > 60) panic_at(&list7);
+    called(it); called_by_two(it); taken(it); in_table(it);
+    TAKES(it); TAKES(it); TAKES(it); TAKES(it); TAKES(it); TAKES(it); TAKES(it); TAKES(it); TAKES(it); TAKES(it); TAKES(it); TAKES(it);
+    if (at > 50) panic_at(&list70);
+    TAKES(it);
+    return it[at];
+}
+FUNCTION int two_files(int *it, unsigned at) {
+    if (at > 60) panic_at(&node8);
+    called_by_two(it);
+    if (at > 50) panic_at(&list7);
+    if (at > 40) panic_at(&list9);
+    if (at > 30) panic_at(&slice3);
+    return it[at];
+}
+FUNCTION int library(int *it, unsigned at) { if (at > 60) panic_at(&slice3); plain(it); return it[at]; }
+FUNCTION int nothing(int *it, unsigned at) {
+    if (at > 60) panic_at(&no_source);
+    if (at > 50) panic_at(&no_column);
+    if (at > 40) panic_at(&no_line);
+    return it[at];
+}
+int main(int argc, char **words) {
+    void (*volatile it)(int *) = taken;
+    it(sums), table[0](sums);
+    return one_file(sums, argc) + two_files(sums, argc) + library(sums, argc) + nothing(sums, argc) & 1;
+}
+"""
+LIST, NODE, SLICE = "/r/registry/src/index-0/own-1.0.0/src/list.rs", "src/node.rs", "/rustc/0123abc/library/core/src/slice/mod.rs"
+# How programs are linked: as one that is moved when it is loaded, the same with packed relocations, as one with a fixed place, and without
+# libraries, moved and not. (rustc has the table for unwinding always searchable, gcc not where it links statically.)
+WAYS = {
+    "pie": ["-fPIE", "-pie"],
+    "packed": ["-fPIE", "-pie", "-Wl,-z,pack-relative-relocs"],
+    "fixed": ["-fno-pie", "-no-pie"],
+    "static": ["-fno-pie", "-static", "-Wl,--eh-frame-hdr"],
+    "static-pie": ["-fPIE", "-static-pie"],
+}
+# (parts of a function that seldom run would stand apart)
+FLAGS = ["-O1", "-w", "-fno-reorder-blocks-and-partition", "-fcf-protection=none"]
+
+
+def functions(path):
+    """Where each function of a program begins and ends."""
+    with open(path, "rb") as file:
+        symbols = ELFFile(file).get_section_by_name(".symtab").iter_symbols()
+        found = {it.name: (it["st_value"], it["st_value"] + it["st_size"]) for it in symbols if it["st_info"]["type"] == "STT_FUNC"}
+    return found
+
+
+class Ways(unittest.TestCase):
+    def setUp(self):
+        folder = tempfile.TemporaryDirectory()
+        self.addCleanup(folder.cleanup)
+        self.folder = folder.name
+
+    def built(self, way, source=SOURCE):
+        """The stripped program, and where its functions are."""
+        path = os.path.join(self.folder, "whole")
+        words = ["gcc", *FLAGS, *WAYS[way], "-x", "c", "-", "-o", path]
+        if subprocess.run(words, input=source.encode(), stderr=subprocess.DEVNULL).returncode:
+            self.skipTest(f"gcc can't link here as {way}")
+        subprocess.run(["strip", "-o", path + ".bare", path], check=True)
+        return path + ".bare", functions(path)
+
+    def tells(self, way):
+        path, places = self.built(way)
+        panics = Panics(path, range(*sorted((places["panic_at"][0], places["main"][1]))))
+
+        def near(name, at=0):
+            begin, end = places[name]
+            return panics.near(end - 1 if at < 0 else begin + at)
+
+        self.assertEqual(near("one_file"), Near((Panic(LIST, 7),)))
+        self.assertEqual(near("one_file", 80), Near((Panic(LIST, 70),)))
+        self.assertEqual(near("two_files"), Near((Panic(LIST, 7), Panic(NODE, 8))))
+        self.assertEqual(near("library"), Near((Panic(SLICE, 3),)))
+        self.assertEqual(near("nothing"), None)
+        self.assertEqual(near("plain"), None)
+        self.assertEqual([it.file for it in near("called").places], [LIST])
+        self.assertTrue(near("called").is_called)
+        # (its callers' files are the same, and so it has a name)
+        self.assertEqual([it.file for it in near("called_by_two").places], [LIST])
+        for name in ("taken", "in_table", "main"):
+            self.assertIsNone(near(name), name)
+        self.assertIsNone(panics.near(0))
+        self.assertIsNone(panics.near(1 << 40))
+        return path, places
+
+    def test_each_way_to_link(self):
+        for way in WAYS:
+            with self.subTest(way):
+                self.tells(way)
+
+    def test_calls_that_did_not_run(self):
+        path, places = self.built("pie")
+        called, caller = places["called"], places["one_file"]
+        self.assertIsNone(Panics(path).near(called[0]))
+        self.assertIsNone(Panics(path, range(*called)).near(called[0]))
+        self.assertIsNone(Panics(path, range(*caller)).near(called[0]))
+        self.assertTrue(Panics(path, [*range(*called), *range(*caller)]).near(called[0]).is_called)
+        # (a call that two files make, of which one has run)
+        both, other = places["called_by_two"], places["two_files"]
+        self.assertTrue(Panics(path, [*range(*both), *range(*other)]).near(both[0]).is_called)
+
+    def test_callers_of_two_files(self):
+        source = SOURCE.replace("panic_at(&list9)", "panic_at(&node8)").replace('"src/node.rs", 8', '"src/a.rs", 8')
+        path, places = self.built("pie", source)
+        panics = Panics(path, range(places["panic_at"][0], places["main"][1]))
+        # (of as many places of each file the first by its name leads)
+        self.assertEqual([it.file for it in panics.near(places["two_files"][0]).places], [LIST, "src/a.rs"])
+        source = SOURCE.replace("panic_at(&list9)", "called(it)").replace("panic_at(&list7);\n    if (at > 40)", "called(it);")
+        path, places = self.built("pie", source)
+        panics = Panics(path, range(places["panic_at"][0], places["main"][1]))
+        self.assertEqual([it.file for it in panics.near(places["two_files"][0]).places], [NODE])
+        for name in ("called", "called_by_two"):
+            self.assertIsNone(panics.near(places[name][0]), name)
+
+    def test_others_have_no_places(self):
+        path, places = self.built("pie", SOURCE.replace(".rs", ".cc"))
+        self.assertEqual((Panics(path).places, Panics(path).near(places["one_file"][0])), ({}, None))
+        self.assertEqual(Panics("/bin/sh").places, {})
+        guest = os.path.join(TOP, "guest", "built", "counters.elf")
+        self.assertEqual(Panics(guest).places, {})
+
+
+class Texts(unittest.TestCase):
+    def test_files_from_their_crate_on(self):
+        for file, wanted in (
+            ("src/walk.rs", "src/walk.rs"),
+            ("/home/me/prog/src/walk.rs", "/home/me/prog/src/walk.rs"),
+            ("/usr/share/cargo/registry/regex-1.7.0/src/pool.rs", "regex-1.7.0/src/pool.rs"),
+            ("/root/.cargo/registry/src/index.crates.io-6f17d22bba15001f/regex-1.7.0/src/pool.rs", "regex-1.7.0/src/pool.rs"),
+            ("/root/.cargo/git/checkouts/regex-0123/4567/src/pool.rs", "regex-0123/4567/src/pool.rs"),
+            ("/build/prog/vendor/regex/src/pool.rs", "vendor/regex/src/pool.rs"),
+            ("library/std/src/thread/mod.rs", "library/std/src/thread/mod.rs"),
+            ("/rustc/4eb161250e340c8f48f66e2b929ef4a5bed7c181/library/std/src/io/mod.rs", "library/std/src/io/mod.rs"),
+            ("/usr/src/rustc-1.63.0/library/alloc/src/string.rs", "library/alloc/src/string.rs"),
+            ("/usr/src/rustc-1.63.0/vendor/hashbrown/src/raw/mod.rs", "library/vendor/hashbrown/src/raw/mod.rs"),
+            ("/rust/deps/hashbrown-0.15.2/src/raw.rs", "library/deps/hashbrown-0.15.2/src/raw.rs"),
+            ("/root/.rustup/toolchains/stable/lib/rustlib/src/rust/library/core/src/str/mod.rs", "library/core/src/str/mod.rs"),
+        ):
+            self.assertEqual(Panic(file, 7).short(), f"{wanted}:7")
+            self.assertEqual(Panic(file, 7).is_library(), wanted.startswith("library/"), file)
+
+    def test_what_is_said(self):
+        own, other, library = Panic("src/a.rs", 1), Panic("src/b.rs", 2), Panic("library/core/src/str/mod.rs", 3)
+        self.assertEqual(Near((own,)).told(), "near a panic at src/a.rs:1")
+        self.assertEqual(Near((own, other)).told(), "near panics at src/a.rs:1 and src/b.rs:2")
+        self.assertEqual(Near((own,), True).told(), "called near a panic at src/a.rs:1")
+        self.assertEqual([Near((it,)).names_source() for it in (own, library)], [True, False])
+
+    def test_packed_relocations(self):
+        self.assertEqual(list(packed([0x1000, 0b1011, 0x3000])), [0x1000, 0x1008, 0x1018, 0x3000])
+        self.assertEqual(list(packed([0x1000, 1 << 63 | 1, 0b11])), [0x1000, 0x1008 + 8 * 62, 0x1008 + 8 * 63])
+
+
+class Stripped:
+    """A program without symbols, in which panics tell what some instructions are near to."""
+
+    def __init__(self, **near):
+        self.found = {int(it[1:], 16): own for it, own in near.items()}
+
+    def library(self, addr):
+        return f"fd+{addr:#x}"
+
+    def near(self, addr):
+        return self.found.get(addr)
+
+
+class Names(unittest.TestCase):
+    def test_instructions(self):
+        naming = Naming(None, Stripped(x10=Near((Panic("src/a.rs", 7),)), x20=Near((Panic("/rustc/0a/library/core/src/str/mod.rs", 8),))))
+        self.assertEqual(naming.instruction(0x10), "fd+0x10 (near a panic at src/a.rs:7)")
+        self.assertEqual(naming.instruction(0x20), "fd+0x20 (near a panic at library/core/src/str/mod.rs:8)")
+        self.assertEqual(naming.instruction(0x30), "fd+0x30")
+        self.assertEqual(Naming(None).instruction(0x10), "0x00000010")
+
+    def test_blocks(self):
+        own, called, library = Near((Panic("src/a.rs", 7),)), Near((Panic("src/b.rs", 8),), True), Near((Panic("library/std/src/a.rs", 9),))
+        naming = Naming(None, Stripped(x10=own, x20=called, x30=library))
+
+        def block(*sites):
+            return naming.block([Site(at, name) for at, name in sites])
+
+        told, tells = " (near a panic at src/a.rs:7)", " (called near a panic at src/b.rs:8)"
+        for chain, wanted in (
+            # (the first call site that panics tell, and no more)
+            ([0x10, 0x40, 0x10], f"fd+0x10{told} < fd+0x40 < fd+0x10"),
+            ([0x40, 0x10, 0x50], f"fd+0x40 < fd+0x10{told} < fd+0x50"),
+            # (what calls the last one is told if nothing else is, and the chain itself has what calls the others)
+            ([0x40, 0x20], f"fd+0x40 < fd+0x20{tells}"),
+            ([0x20, 0x40], "fd+0x20 < fd+0x40"),
+            ([0x10, 0x20], f"fd+0x10{told} < fd+0x20"),
+            ([0x30, 0x40], "fd+0x30 < fd+0x40"),
+        ):
+            self.assertEqual(block(*((it, "-") for it in chain)), f"block made in {wanted}")
+        # (a call site that has a name needs no other)
+        self.assertEqual(block((0x10, "work"), (0x40, "-")), "block made in work < fd+0x40")
+        self.assertEqual(block((0x10, "work"), (0x20, "-"), (0x10, "-")), f"block made in work < fd+0x20 < fd+0x10{told}")
+
+    def test_what_counts_as_named(self):
+        made = "block made in fd+0x40 < fd+0x10"
+        for name, wanted in (
+            (made, False),
+            (f"{made} (near a panic at src/a.rs:7)", True),
+            (f"{made} (near panics at src/a.rs:7 and src/b.rs:8) < fd+0x50", True),
+            (f"{made} (called near a panic at src/a.rs:7)", True),
+            (f"{made} (near a panic at library/core/src/str/mod.rs:8)", False),
+            ("memory used at fd+0x10 (near a panic at library/core/src/str/mod.rs:8) and fd+0x20", False),
+            ("memory used at fd+0x10 (near a panic at library/core/src/str/mod.rs:8) and a.c:7 (work)", True),
+            ("memory used at fd+0x10 and fd+0x20 (near a panic at src/a.rs:7)", True),
+            ("memory used at a.c:7 (work < main) and fd+0x20", True),
+            ("memory at 0x00010000", False),
+            ("block made in work < fd+0x50", True),
+        ):
+            self.assertEqual(is_named(name), wanted, name)
+
+
+@unittest.skipUnless(shutil.which("rustc"), "there is no rustc")
+class OfRust(unittest.TestCase):
+    def test_a_stripped_program(self):
+        source = os.path.join(TOP, "native", "tries", "panics.rs")
+        with open(source, encoding="utf-8") as file:
+            lines = file.read().split("\n")
+        bump = next(at for at, it in enumerate(lines, 1) if it.startswith("fn bump"))
+        with tempfile.TemporaryDirectory() as folder:
+            path = os.path.join(folder, "panics")
+            words = ["-O", "-C", "codegen-units=1", f"--remap-path-prefix={os.path.dirname(source)}=/r/registry/own-1.0.0/src"]
+            subprocess.run(["rustc", *words, source, "-o", path], check=True, stderr=subprocess.DEVNULL)
+            places = {name: it for name, it in functions(path).items() if "6panics" in name}
+            subprocess.run(["strip", path], check=True)
+            panics = Panics(path, [at for it in places.values() for at in range(*it)])
+        for part, is_called in (("4bump", False), ("3add", True), ("4made", False)):
+            near = panics.near(next(it for name, it in places.items() if f"6panics{part}" in name)[0])
+            self.assertEqual([it.file for it in near.places], ["/r/registry/own-1.0.0/src/panics.rs"], part)
+            self.assertEqual(near.is_called, is_called, part)
+            if part == "4bump":
+                self.assertIn(near.places[0].line - bump, (1, 2))
+
+
+if __name__ == "__main__":
+    unittest.main()
