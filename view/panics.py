@@ -249,6 +249,7 @@ class Panics:
             found += own
         return found[0] if len({it.file for it in found}) == 1 else None
 
+    @functools.cache
     def near(self, addr: int) -> Near | None:
         """What panics tell of an instruction, or none."""
         function = self.function(addr) if self.places else None

@@ -50,7 +50,8 @@ if command -v rustc >/dev/null; then
         same "Rust, $way: no hash" "" "$(grep -o "17h[0-9a-f]*E\|::h[0-9a-f]\{16\}" <<<"$said" | head -n 1)"
     done
     # (without symbols: by the places of its panics, wherever else a function and a line stand)
-    rustc -O -C codegen-units=1 --remap-path-prefix "$here/tries=/r/registry/own-1.0.0/src" "$here/tries/panics.rs" -o panics.bare >rust.log 2>&1
+    rustc -O -C codegen-units=1 --remap-path-prefix "$here/tries=/r/registry/own-1.0.0/src" "$here/tries/panics.rs" -o panics.bare \
+        >rust.log 2>&1
     strip panics.bare
     "$run" --pcs --trace n -- ./panics.bare
     said=$(view replay n --top 30 --json n.json --html n.html | tr -s '\n ' ' ')
