@@ -215,8 +215,9 @@ class Panics:
 
     @functools.cached_property
     def calls(self) -> dict[int, list[int]]:
-        """From where each function is called. One whose address is taken otherwise, and so may be called from anywhere, isn't there."""
-        found: dict[int, list[int]] = {it: [] for it in self.starts}
+        """From where each function is called. One whose address is taken otherwise, and so may be called from anywhere, isn't there, as all
+        of a program that isn't moved: any number may be an address there."""
+        found: dict[int, list[int]] = {it: [] for it in self.starts if not self.image.is_fixed}
         words = {addr: to for addr, to in self.pointers.items() if to in found}
         called, taken = set[int](), set[int]()
         for begin, code in self.image.code if sum(len(code) for _, code in self.image.code) <= MOST else ():

@@ -20,7 +20,7 @@ from reports import Site  # noqa: E402
 sys.path.insert(0, os.path.join(TOP, "native", "others"))
 from run import is_named  # noqa: E402
 
-# (a function of one file, one of two, one of the library's alone, and some that are called)
+# (functions of one file, of two and of the library's alone, and some that are called from these)
 SOURCE = r"""
 struct place { const char *file; unsigned long size; unsigned line, column; };
 #define PLACE(name, file, line, column) static const struct place name = {file, sizeof file - 1, line, column}
@@ -41,24 +41,32 @@ FUNCTION void called_by_two(int *it) { TAKES(it); }
 FUNCTION void taken(int *it) { TAKES(it); }
 FUNCTION void in_table(int *it) { TAKES(it); }
 FUNCTION void plain(int *it) { TAKES(it); }
-void (*volatile table[])(int *) = {in_table};
+FUNCTION void jumped_to(int *it) { TAKES(it); }
+FUNCTION void called_through(int *it) { TAKES(it); }
+FUNCTION void loaded(int *it) { TAKES(it); }
+FUNCTION void called_by_library(int *it) { TAKES(it); }
+void (*table[])(int *) = {in_table, in_table}, (*through)(int *) = called_through, (*word)(int *) = loaded, (*volatile kept)(int *);
 FUNCTION int one_file(int *it, unsigned at) {
     if (at > 60) panic_at(&list7);
-    called(it); called_by_two(it); taken(it); in_table(it);
+    called(it); called_by_two(it); taken(it); in_table(it); called_by_library(it); through(it); word(it);
     TAKES(it); TAKES(it); TAKES(it); TAKES(it); TAKES(it); TAKES(it); TAKES(it); TAKES(it); TAKES(it); TAKES(it); TAKES(it); TAKES(it);
     if (at > 50) panic_at(&list70);
     TAKES(it);
     return it[at];
 }
+/* (code that no table has) */
+__asm__("bare: .fill 16, 1, 0x90");
+extern char bare[];
+FUNCTION int other_file(int *it, unsigned at) { if (at > 60) panic_at(&node8); called_by_two(it); return it[at]; }
+FUNCTION void jumps(int *it, unsigned at) { if (at > 60) panic_at(&list7); jumped_to(it + at); }
 FUNCTION int two_files(int *it, unsigned at) {
     if (at > 60) panic_at(&node8);
-    called_by_two(it);
     if (at > 50) panic_at(&list7);
     if (at > 40) panic_at(&list9);
     if (at > 30) panic_at(&slice3);
     return it[at];
 }
-FUNCTION int library(int *it, unsigned at) { if (at > 60) panic_at(&slice3); plain(it); return it[at]; }
+FUNCTION int library(int *it, unsigned at) { if (at > 60) panic_at(&slice3); plain(it); called_by_library(it); return it[at]; }
 FUNCTION int nothing(int *it, unsigned at) {
     if (at > 60) panic_at(&no_source);
     if (at > 50) panic_at(&no_column);
@@ -67,8 +75,8 @@ FUNCTION int nothing(int *it, unsigned at) {
 }
 int main(int argc, char **words) {
     void (*volatile it)(int *) = taken;
-    it(sums), table[0](sums);
-    return one_file(sums, argc) + two_files(sums, argc) + library(sums, argc) + nothing(sums, argc) & 1;
+    it(sums), table[argc & 1](sums), jumps(sums, argc), kept = word;
+    return bare[0] + one_file(sums, argc) + other_file(sums, argc) + two_files(sums, argc) + library(sums, argc) + nothing(sums, argc) & 1;
 }
 """
 LIST, NODE, SLICE = "/r/registry/src/index-0/own-1.0.0/src/list.rs", "src/node.rs", "/rustc/0123abc/library/core/src/slice/mod.rs"
@@ -82,15 +90,19 @@ WAYS = {
     "static-pie": ["-fPIE", "-static-pie"],
 }
 # (parts of a function that seldom run would stand apart)
-FLAGS = ["-O1", "-w", "-fno-reorder-blocks-and-partition", "-fcf-protection=none"]
+FLAGS = ["-O1", "-w", "-fno-reorder-blocks-and-partition", "-fno-toplevel-reorder", "-foptimize-sibling-calls", "-fcf-protection=none"]
 
 
 def functions(path):
     """Where each function of a program begins and ends."""
     with open(path, "rb") as file:
         symbols = ELFFile(file).get_section_by_name(".symtab").iter_symbols()
-        found = {it.name: (it["st_value"], it["st_value"] + it["st_size"]) for it in symbols if it["st_info"]["type"] == "STT_FUNC"}
-    return found
+        return {it.name: (it["st_value"], it["st_value"] + it["st_size"]) for it in symbols if it["st_size"] or it.name == "bare"}
+
+
+def code(places):
+    """All code of the source, as if it had run, but for a function that makes no access."""
+    return [*range(places["panic_at"][0], places["jumps"][0]), *range(places["jumps"][1], places["main"][1])]
 
 
 class Ways(unittest.TestCase):
@@ -110,27 +122,27 @@ class Ways(unittest.TestCase):
 
     def tells(self, way):
         path, places = self.built(way)
-        panics = Panics(path, range(*sorted((places["panic_at"][0], places["main"][1]))))
+        panics = Panics(path, code(places))
 
         def near(name, at=0):
-            begin, end = places[name]
-            return panics.near(end - 1 if at < 0 else begin + at)
+            return panics.near(places[name][0] + at)
 
         self.assertEqual(near("one_file"), Near((Panic(LIST, 7),)))
         self.assertEqual(near("one_file", 80), Near((Panic(LIST, 70),)))
         self.assertEqual(near("two_files"), Near((Panic(LIST, 7), Panic(NODE, 8))))
         self.assertEqual(near("library"), Near((Panic(SLICE, 3),)))
-        self.assertEqual(near("nothing"), None)
-        self.assertEqual(near("plain"), None)
-        self.assertEqual([it.file for it in near("called").places], [LIST])
-        self.assertTrue(near("called").is_called)
-        # (its callers' files are the same, and so it has a name)
-        self.assertEqual([it.file for it in near("called_by_two").places], [LIST])
-        for name in ("taken", "in_table", "main"):
+        # (where code has addresses as numbers, it isn't looked for who takes one)
+        for name in ("called", "called_through"):
+            if way in ("fixed", "static"):
+                self.assertIsNone(near(name), name)
+            else:
+                self.assertEqual(([it.file for it in near(name).places], near(name).is_called), ([LIST], True), name)
+        for name in ("called_by_two", "called_by_library", "taken", "in_table", "loaded", "jumped_to"):
+            self.assertIsNone(near(name), name)
+        for name in ("nothing", "plain", "bare", "main"):
             self.assertIsNone(near(name), name)
         self.assertIsNone(panics.near(0))
         self.assertIsNone(panics.near(1 << 40))
-        return path, places
 
     def test_each_way_to_link(self):
         for way in WAYS:
@@ -144,22 +156,18 @@ class Ways(unittest.TestCase):
         self.assertIsNone(Panics(path, range(*called)).near(called[0]))
         self.assertIsNone(Panics(path, range(*caller)).near(called[0]))
         self.assertTrue(Panics(path, [*range(*called), *range(*caller)]).near(called[0]).is_called)
-        # (a call that two files make, of which one has run)
-        both, other = places["called_by_two"], places["two_files"]
-        self.assertTrue(Panics(path, [*range(*both), *range(*other)]).near(both[0]).is_called)
+        # (of two files that call it the calls of one have run)
+        both = places["called_by_two"]
+        for name, file in (("one_file", LIST), ("other_file", NODE)):
+            near = Panics(path, [*range(*both), *range(*places[name])]).near(both[0])
+            self.assertEqual(([it.file for it in near.places], near.is_called), ([file], True))
 
-    def test_callers_of_two_files(self):
+    def test_files_in_order(self):
         source = SOURCE.replace("panic_at(&list9)", "panic_at(&node8)").replace('"src/node.rs", 8', '"src/a.rs", 8')
         path, places = self.built("pie", source)
-        panics = Panics(path, range(places["panic_at"][0], places["main"][1]))
+        panics = Panics(path, code(places))
         # (of as many places of each file the first by its name leads)
         self.assertEqual([it.file for it in panics.near(places["two_files"][0]).places], [LIST, "src/a.rs"])
-        source = SOURCE.replace("panic_at(&list9)", "called(it)").replace("panic_at(&list7);\n    if (at > 40)", "called(it);")
-        path, places = self.built("pie", source)
-        panics = Panics(path, range(places["panic_at"][0], places["main"][1]))
-        self.assertEqual([it.file for it in panics.near(places["two_files"][0]).places], [NODE])
-        for name in ("called", "called_by_two"):
-            self.assertIsNone(panics.near(places[name][0]), name)
 
     def test_others_have_no_places(self):
         path, places = self.built("pie", SOURCE.replace(".rs", ".cc"))
