@@ -67,6 +67,8 @@ def program_of(call: Call) -> "tuple[Program | NativeProgram | None, Sources | N
         return None, None
     if program.dwarf is None:
         how = "build it with -g" + (", or install its package of debug information (Debian: NAME-dbgsym)" if table else "")
+        if table and native.has_panics():
+            how += "; `near a panic at` is no place of the code itself, but one where its function may panic"
         say(f"{program.path} has no debug information, so fields and source lines are unknown: {how}")
     for it in call.options["type"]:
         program.type_named(it.partition("=")[2])

@@ -101,12 +101,14 @@ class File:
         self.found: dict[int, NativeVariable | None] = {}
         self.ranges: list[tuple[int, int]] = []
         self.names: dict[int, str] = {}
+        self.is_stripped = False
         with contextlib.suppress(Exception), open(path, "rb") as file:
             elf = ELFFile(file)
             self.ranges = [(it["p_vaddr"], it["p_memsz"]) for it in elf.iter_segments() if it["p_type"] == "PT_LOAD"]
             self.debug = self.debug_of(elf)
         with contextlib.suppress(Exception), open(self.debug, "rb") as file:
             tables = [it for it in ELFFile(file).iter_sections() if isinstance(it, SymbolTableSection)]
+            self.is_stripped = all(it.name != ".symtab" for it in tables)
             for it in (symbol for table in tables for symbol in table.iter_symbols() if symbol["st_info"]["type"] == "STT_OBJECT"):
                 self.names.setdefault(it["st_value"], it.name.partition("@")[0])
 
@@ -163,7 +165,7 @@ class NativeProgram:
         self.panics: dict[str, Panics | None] = {}
         self.path = back.program
         own = next((it for it in self.files if os.path.realpath(it.path) == os.path.realpath(self.path)), None)
-        self.main = own.program() if own else Program(self.path)
+        self.main, self.own = own.program() if own else Program(self.path), own
         self.dwarf, self.sha256 = self.main.dwarf, self.main.sha256
 
     def file(self, addr: int) -> tuple[File, int] | None:
@@ -198,16 +200,21 @@ class NativeProgram:
             found.setdefault(file.path, []).append(at)
         return found
 
+    def panics_of(self, path: str) -> Panics | None:
+        if path not in self.panics:
+            self.panics[path] = sound(lambda: Panics(path, self.ran.get(path, ())), None)
+        return self.panics[path]
+
     def near(self, addr: int) -> Near | None:
         """What panics tell of an instruction, or none."""
         found = self.file(addr)
-        if found is None:
-            return None
-        path, at = found[0].path, found[1]
-        if path not in self.panics:
-            self.panics[path] = sound(lambda: Panics(path, self.ran.get(path, ())), None)
-        panics = self.panics[path]
-        return sound(functools.partial(panics.near, at), None) if panics else None
+        panics = self.panics_of(found[0].path) if found else None
+        return sound(functools.partial(panics.near, found[1]), None) if found and panics else None
+
+    def has_panics(self) -> bool:
+        """Whether panics tell of the program's own code, which has no symbols."""
+        panics = self.panics_of(self.own.path) if self.own and self.own.is_stripped else None
+        return panics is not None and bool(panics.places)
 
     def type_named(self, text: str) -> Die:
         """A type of the program, or else of one of its libraries."""

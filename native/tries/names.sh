@@ -56,6 +56,7 @@ if command -v rustc >/dev/null; then
     "$run" --pcs --trace n -- ./panics.bare
     said=$(view replay n --top 30 --json n.json --html n.html | tr -s '\n ' ' ')
     own="near a panic at own-1.0.0/src/panics.rs:" line=$(grep -n "near\[at\]" "$here/tries/panics.rs" | cut -d: -f1)
+    has "stripped Rust: what its names are" "is no place of the code itself, but one where its function may panic" "$said"
     has "stripped Rust: an instruction" "(${own}$line) takes the line from panics.bare+0x" "$said"
     has "stripped Rust: what is called" "(called $own" "$said"
     has "stripped Rust: a block" "(${own}$(grep -n "assert!" "$here/tries/panics.rs" | cut -d: -f1)) <" "$said"
