@@ -105,6 +105,7 @@ def code(places):
     return [*range(places["panic_at"][0], places["jumps"][0]), *range(places["jumps"][1], places["main"][1])]
 
 
+@unittest.skipUnless(shutil.which("gcc") and shutil.which("strip"), "there is no gcc")
 class Ways(unittest.TestCase):
     def setUp(self):
         folder = tempfile.TemporaryDirectory()
