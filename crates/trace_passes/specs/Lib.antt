@@ -1,3 +1,4 @@
+pub mod Counters
 pub mod Cursors
 pub mod Laws
 pub mod Lives
