@@ -5,15 +5,15 @@ use Rattle.sharing_rules.specs.AccessLists.{AccessList}
 use Rattle.trace_format.specs.Rules.{touch_in, touches_in}
 use Rattle.trace_format.specs.declared.record.TraceRecord.{TraceRecord}
 use Rattle.trace_format.specs.declared.record.TraceRecord.TheVariants as records
-use Rattle.trace_passes.specs.Counters.{BeginsAt, CameBy, Counter}
+use Rattle.trace_passes.specs.Accounts.{Account, BeginsAt, CameBy}
 use Rattle.layout_sweep.specs.Standing.{StandsFor}
 use Rattle.layout_sweep.specs.Texts.{sweep_text}
 use Rattle.layout_sweep.specs.Windows.{IsFirstWrite}
 use Rattle.layout_sweep.specs.declared.sweep.Sweep.{Sweep}
 
--- how a sweep counts the accesses of a trace: under lines of a size
-abbrev pub sweep_counter : Counter Sweep Touch ℕ
-sweep_counter = record {
+-- how a sweep accounts for the accesses of a trace: under lines of a size
+abbrev pub sweep_account : Account Sweep Touch ℕ
+sweep_account = record {
   listed = touch_in;
   StandsFor = StandsFor;
   position = λ s. s.position;
@@ -22,11 +22,11 @@ sweep_counter = record {
 
 -- from what it was first, it came to what it is by these records
 abbrev pub HasSwept : Sweep → Sweep → List TraceRecord → Type 0
-HasSwept = CameBy sweep_counter
+HasSwept = CameBy sweep_account
 
 -- its first access has this position
 abbrev pub begins_at : Sweep → ℕ → Type 0
-begins_at = BeginsAt sweep_counter
+begins_at = BeginsAt sweep_account
 
 -- a record behind these accesses that may want memory under lines of n bytes: the first write of a
 -- line of some shift

@@ -6,7 +6,7 @@ use Rattle.sharing_rules.specs.AccessLists.{AccessList}
 use Rattle.trace_format.specs.Rules.{touch_in, touches_in}
 use Rattle.trace_format.specs.declared.record.TraceRecord.{TraceRecord}
 use Rattle.trace_format.specs.declared.record.TraceRecord.TheVariants as records
-use Rattle.trace_passes.specs.Counters.{BeginsAt, CameBy, Counter}
+use Rattle.trace_passes.specs.Accounts.{Account, BeginsAt, CameBy}
 use Rattle.layout_sweep.specs.Standing.{HasCounted}
 use Rattle.layout_sweep.specs.Windows.{BeginsLine}
 use Rattle.placement.specs.Plans.{Planned, moved, moved_list}
@@ -63,9 +63,9 @@ WantsMemory n p t _ = ⊥
 abbrev pub NeedsNone : Recount → TraceRecord → Type 0
 NeedsNone r item = (t : AccessList) × RecountsFor t r × (WantsMemory r.size r.plan t item → ⊥)
 
--- how a recount counts the accesses of a trace: under lines of a size, as its plan moves them
-abbrev pub recount_counter : Counter Recount Touch (ℕ × Planned)
-recount_counter = record {
+-- how a recount accounts for the accesses of a trace: under lines of a size, as its plan moves them
+abbrev pub recount_account : Account Recount Touch (ℕ × Planned)
+recount_account = record {
   listed = touch_in;
   StandsFor = RecountsFor;
   position = λ r. r.position;
@@ -74,8 +74,8 @@ recount_counter = record {
 
 -- from what it was first, it came to what it is by these records
 abbrev pub HasRecounted : Recount → Recount → List TraceRecord → Type 0
-HasRecounted = CameBy recount_counter
+HasRecounted = CameBy recount_account
 
 -- its first access has this position
 abbrev pub begins_at : Recount → ℕ → Type 0
-begins_at = BeginsAt recount_counter
+begins_at = BeginsAt recount_account

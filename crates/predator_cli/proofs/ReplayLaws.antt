@@ -51,9 +51,8 @@ module _ (harts : ℕ) (s : Sighted) (w : Watch) (o : Objects) (all first second
     seen_state g v items seen spelled =
         both ∙ ap (λ (b : List ℕ). b ++ second) spelled
         ∙ ap (λ (b : List ℕ). state_of_list w.grid w.levels harts (touches_in items) ++ b) objects
-        ∙ ap (λ (x : Grid). state_of_list x w.levels harts (touches_in items) ++ spell_objects o)
-        (ap (λ (x : Watch). x.grid) watch_is ∙ seen.grid)
-        ∙ ap (λ (x : Levels). state_of_list g x harts (touches_in items) ++ spell_objects o)
-        (ap (λ (x : Watch). x.levels) watch_is ∙ seen.levels)
+        ∙ ap (λ (x : Grid × Levels). state_of_list x.0 x.1 harts (touches_in items)
+        ++ spell_objects o)
+        (ap (λ (x : Watch). (x.grid, x.levels)) watch_is ∙ seen.accesses.setting)
         ∙ ap (λ (x : Objects). state_of_list g v harts (touches_in items) ++ spell_objects x)
         (objects_are ∙ seen.objects)

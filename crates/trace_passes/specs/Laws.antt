@@ -1,5 +1,5 @@
 -- The laws of the definitions, by what they are about.
-pub mod Counters
+pub mod Accounts
 pub mod Lives
 pub mod Noting
 pub mod Passes

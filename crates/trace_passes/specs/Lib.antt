@@ -1,4 +1,4 @@
-pub mod Counters
+pub mod Accounts
 pub mod Cursors
 pub mod Laws
 pub mod Lives

@@ -1,7 +1,7 @@
 -- An access is noted, and any other record changes nothing.
 use Rattle.std.proofs.Common.{◌≡◌, [], ◌∷◌, ◌++◌, subst, sym}
 use Rattle.trace_format.specs.Rules.{touches_in}
-use Rattle.trace_passes.specs.Laws.Counters.{no_touch}
+use Rattle.trace_passes.specs.Laws.Accounts.{no_touch}
 use Rattle.placement.specs.Laws.Passing.{owned-quiet, owns-next}
 use Rattle.placement.specs.Words.{owned_of}
 use Rattle.placement.proofs.observer.note_record.Goals as goal
