@@ -1,25 +1,30 @@
 -- What caches have seen of the records of a trace.
-use Rattle.std.specs.Prelude.{◌≡◌, ℕ, ◌+◌, Bool, false, List, ◌++◌, length}
-use Rattle.sharing_rules.specs.AccessLists.{AccessList}
-use Rattle.trace_format.specs.Rules.{touches_in}
+use Rattle.std.specs.Prelude.{ℕ, Bool, false, List}
+use Rattle.base.specs.Touch.{Touch}
+use Rattle.trace_format.specs.Rules.{touch_in, touches_in}
 use Rattle.trace_format.specs.declared.record.TraceRecord.{TraceRecord}
 use Rattle.trace_format.specs.declared.record.TraceRecord.TheVariants as records
+use Rattle.trace_passes.specs.Accounts.{Account, BeginsAt, CameBy}
 use Rattle.base.specs.Shapes.{CacheShape}
 use Rattle.finite_cache.specs.Kept.{Kept, StandsFor, wants_memory}
 use Rattle.finite_cache.specs.Texts.{caches_text}
 
+-- how they account for the accesses of a trace: with a shape
+abbrev pub cache_account : Account Kept Touch CacheShape
+cache_account = record {
+  listed = touch_in;
+  StandsFor = StandsFor;
+  position = λ k. k.position;
+  setting = λ k. k.shape;
+}
+
 -- from what was kept first, what is kept now came by these records
-pub record HasSeen (begun now : Kept) (items : List TraceRecord) : Type 0 where
-  -- for each list that it stood for, it stands for the list with their accesses
-  pub stands : (t : AccessList) → StandsFor t begun → StandsFor (t ++ touches_in items) now
-  -- each access moved it on by one
-  pub position : now.position ≡ begun.position + length (touches_in items)
-  -- the shape is the same
-  pub shape : now.shape ≡ begun.shape
+abbrev pub HasSeen : Kept → Kept → List TraceRecord → Type 0
+HasSeen = CameBy cache_account
 
 -- its first access has this position
 abbrev pub begins_at : Kept → ℕ → Type 0
-begins_at begun first = begun.position ≡ first
+begins_at = BeginsAt cache_account
 
 -- whether a record may want memory: an access that may
 abbrev pub record_wants_memory : Kept → TraceRecord → Bool

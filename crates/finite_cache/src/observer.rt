@@ -2,8 +2,8 @@
 ghost use Rattle.std.specs.Prelude.{◌≤◌, IsFalse, IsOk, OnOk};
 ghost use Rattle.trace_format.specs.Reading.{counted_after};
 ghost use Rattle.trace_format.specs.Rules.{last_position};
-ghost use Rattle.finite_cache.specs.Laws.Seen.{SeesNext};
-ghost use Rattle.finite_cache.specs.Seen.{record_wants_memory};
+ghost use Rattle.trace_passes.specs.Rooms.{GivenNext};
+ghost use Rattle.finite_cache.specs.Seen.{HasSeen, record_wants_memory};
 
 use crate::caches::Caches;
 use base::NoMemory;
@@ -14,15 +14,12 @@ use trace_passes::Observer;
 #[inline]
 fn see(caches: &mut Caches, item: &TraceRecord) -> Result<(), NoMemory>
     requires { counted_after caches.old.position item.now ≤ last_position }
-    ensures next { OnOk result (SeesNext caches.old caches.new item.now) }
+    ensures next { OnOk result (GivenNext HasSeen caches.old caches.new item.now) }
     ensures known { IsFalse (record_wants_memory caches.old item.now) → IsOk result }
 {
     match item {
         TraceRecord::Touch(access, _) => caches.on_access(access),
-        TraceRecord::Alloc { .. } => Ok(()),
-        TraceRecord::Free { .. } => Ok(()),
-        TraceRecord::Symbol { .. } => Ok(()),
-        TraceRecord::End(_) => Ok(()),
+        _ => Ok(()),
     }
 }
 

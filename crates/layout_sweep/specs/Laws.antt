@@ -4,7 +4,6 @@ pub mod Counts
 pub mod Least
 pub mod Lines
 pub mod Listed
-pub mod Seen
 pub mod Standing
 pub mod Totals
 pub mod WindowFields

@@ -1,31 +1,32 @@
 -- What a sweep has seen of the records of a trace.
-use Rattle.std.specs.Prelude.{◌≡◌, ℕ, ◌+◌, List, [], ◌∷◌, ◌++◌, length}
+use Rattle.std.specs.Prelude.{ℕ, List}
+use Rattle.base.specs.Touch.{Touch}
 use Rattle.sharing_rules.specs.AccessLists.{AccessList}
-use Rattle.trace_format.specs.Rules.{touches_in}
+use Rattle.trace_format.specs.Rules.{touch_in, touches_in}
 use Rattle.trace_format.specs.declared.record.TraceRecord.{TraceRecord}
 use Rattle.trace_format.specs.declared.record.TraceRecord.TheVariants as records
+use Rattle.trace_passes.specs.Accounts.{Account, BeginsAt, CameBy}
 use Rattle.layout_sweep.specs.Standing.{StandsFor}
 use Rattle.layout_sweep.specs.Texts.{sweep_text}
 use Rattle.layout_sweep.specs.Windows.{IsFirstWrite}
 use Rattle.layout_sweep.specs.declared.sweep.Sweep.{Sweep}
 
+-- how a sweep accounts for the accesses of a trace: under lines of a size
+abbrev pub sweep_account : Account Sweep Touch ℕ
+sweep_account = record {
+  listed = touch_in;
+  StandsFor = StandsFor;
+  position = λ s. s.position;
+  setting = λ s. s.size;
+}
+
 -- from what it was first, it came to what it is by these records
-pub record HasSwept (begun now : Sweep) (items : List TraceRecord) : Type 0 where
-  -- for each list that it stood for, it stands for the list with their accesses
-  pub stands : (t : AccessList) → StandsFor t begun → StandsFor (t ++ touches_in items) now
-  -- each access moved it on by one
-  pub position : now.position ≡ begun.position + length (touches_in items)
-  pub size : now.size ≡ begun.size
+abbrev pub HasSwept : Sweep → Sweep → List TraceRecord → Type 0
+HasSwept = CameBy sweep_account
 
 -- its first access has this position
 abbrev pub begins_at : Sweep → ℕ → Type 0
-begins_at begun first = begun.position ≡ first
-
--- whatever records came before, this one came after them
-abbrev pub SweepsNext : Sweep → Sweep → TraceRecord → Type 0
-SweepsNext old new item =
-    (begun : Sweep) (items : List TraceRecord)
-    → HasSwept begun old items → HasSwept begun new (items ++ item ∷ [])
+begins_at = BeginsAt sweep_account
 
 -- a record behind these accesses that may want memory under lines of n bytes: the first write of a
 -- line of some shift

@@ -3,7 +3,8 @@ ghost use Rattle.std.specs.Prelude.{◌≤◌, OnErr, OnOk};
 ghost use Rattle.sharing_rules.specs.AccessLists.{AccessList};
 ghost use Rattle.trace_format.specs.Reading.{counted_after};
 ghost use Rattle.trace_format.specs.Rules.{last_position};
-ghost use Rattle.layout_sweep.specs.Seen.{SweepsNext, WantsMemory};
+ghost use Rattle.trace_passes.specs.Rooms.{GivenNext};
+ghost use Rattle.layout_sweep.specs.Seen.{HasSwept, WantsMemory};
 ghost use Rattle.layout_sweep.specs.Standing.{StandsFor};
 
 use crate::one_access::see;
@@ -16,7 +17,7 @@ use trace_passes::Observer;
 #[inline]
 fn note_record(sweep: &mut Sweep, item: &TraceRecord) -> Result<(), NoMemory>
     requires { counted_after sweep.old.position item.now ≤ last_position }
-    ensures next { OnOk result (SweepsNext sweep.old sweep.new item.now) }
+    ensures next { OnOk result (GivenNext HasSwept sweep.old sweep.new item.now) }
     ensures known { (t : AccessList) → StandsFor t sweep.old
         → OnErr result (WantsMemory sweep.old.size t item.now) }
 {

@@ -1,12 +1,12 @@
 -- What is seen of misses, with one record more.
-use Rattle.std.proofs.Common.{◌≡◌, ℕ, ◌+◌, ◌≤◌, List, [], ◌∷◌, ◌++◌, length, map, refl, sym, ap, ◌∙◌}
+use Rattle.std.proofs.Common.{◌≡◌, ◌≤◌, List, [], ◌∷◌, ◌++◌, length, map, refl, sym, ap, ◌∙◌}
 use Rattle.std.proofs.Common.{Result, Ok, Err}
 use Rattle.std.proofs.lemmas.Result.{on_ok_weaker}
 use Rattle.std.specs.Prelude.{OnOk}
 use Rattle.std.proofs.lemmas.List.{append-nil}
 use Rattle.base.specs.Lines.{Grid}
 use Rattle.base.specs.TextLines.{text_of}
-use Rattle.misses.specs.Kept.{Kept, StandsFor, kept_of}
+use Rattle.misses.specs.Kept.{Kept, StandsFor}
 use Rattle.misses.specs.Laws.Totals.{rows-stand}
 use Rattle.misses.specs.Rows.{all_costs, row_of, rows_of}
 use Rattle.misses.specs.declared.all_lines.Row.{Row}
@@ -17,16 +17,17 @@ use Rattle.trace_format.specs.Reading.{counted_after}
 use Rattle.trace_format.specs.Rules.{last_position, touches_in}
 use Rattle.trace_format.specs.declared.record.TraceRecord.{TraceRecord}
 use Rattle.trace_format.specs.declared.record.TraceRecord.TheVariants as records
-use Rattle.trace_passes.specs.Rooms.{HasRoom}
+use Rattle.trace_passes.specs.Accounts.{CameBy}
+use Rattle.trace_passes.specs.Rooms.{GivenNext, HasRoom}
 use Rattle.trace_passes.specs.Lives.{objects_after}
-use Rattle.misses.specs.Seen.{HasMissed, MissesNext, missed, misses_begin_at}
+use Rattle.misses.specs.Seen.{HasMissed, miss_account, missed, misses_begin_at}
 use Rattle.misses.specs.Seen.{misses_noted, nothing_missed}
 use Rattle.misses.specs.Texts.{misses_lines, misses_of_records, told_rows}
 use Rattle.trace_passes.specs.Lives.{objects_noted}
 use Rattle.misses.specs.declared.observer.MissSightings.{MissSightings}
-use Rattle.trace_format.specs.Laws.Touches.{counted-one, position-next, room-next, stands-next}
-use Rattle.trace_format.specs.Laws.Touches.{stands-none}
-use Rattle.trace_passes.specs.Laws.Noting.{none_left, objects_next, same_objects}
+use Rattle.trace_format.specs.Laws.Touches.{counted-one, room-next}
+use Rattle.trace_passes.specs.Laws.Accounts.{came-none, came-on, objects-beside}
+use Rattle.trace_passes.specs.Laws.Noting.{none_left, same_objects}
 
 -- ---- one record more
 
@@ -45,43 +46,22 @@ noted_grid k (records.Free addr) = refl
 noted_grid k (records.Symbol kind addr size name) = refl
 noted_grid k (records.End e) = refl
 
-module _ (old new : MissSightings) (x : TraceRecord) (is : new ≡ missed old x)
-    (stands : (t : AccessList) → StandsFor t old.misses
+pub misses_next : (old new : MissSightings) (x : TraceRecord) → new ≡ missed old x
+    → ((t : AccessList) → StandsFor t old.misses
     → StandsFor (t ++ touches_in (x ∷ [])) new.misses)
-    (begun : MissSightings) (xs : List TraceRecord) (so_far : HasMissed begun old xs)
-  where
-    next_stands : (t : AccessList) → StandsFor t begun.misses
-        → StandsFor (t ++ touches_in (xs ++ x ∷ [])) new.misses
-    next_stands t stood =
-        stands-next StandsFor new.misses t xs x
-        (stands (t ++ touches_in xs) (so_far.stands t stood))
-
-    next_position : new.misses.position
-        ≡ begun.misses.position + length (touches_in (xs ++ x ∷ []))
-    next_position =
-        position-next begun.misses.position old.misses.position xs x so_far.position
-        new.misses.position (ap (λ (s : MissSightings). s.misses.position) is
-        ∙ noted_position old.misses x ∙ counted-one old.misses.position x)
-
-    next_objects : new.objects ≡ objects_after begun.objects begun.misses.position (xs ++ x ∷ [])
-    next_objects =
-        let p : ℕ = begun.misses.position in
-        ap (λ (s : MissSightings). s.objects) is
-        ∙ ap (λ (o : Objects). objects_noted o x old.misses.position) so_far.objects
-        ∙ ap (objects_noted (objects_after begun.objects p xs) x) so_far.position
-        ∙ objects_next begun.objects p xs x
-
-    pub misses_next : HasMissed begun new (xs ++ x ∷ [])
-    misses_next = record {
-      stands = next_stands;
-      position = next_position;
-      objects = next_objects;
-      grid = ap (λ (s : MissSightings). s.misses.grid) is ∙ noted_grid old.misses x ∙ so_far.grid;
+    → GivenNext HasMissed old new x
+misses_next old new x is stands begun xs so_far =
+    let one : CameBy miss_account old new (x ∷ []) = record {
+      stands = stands;
+      position = ap (λ (s : MissSightings). s.misses.position) is
+          ∙ noted_position old.misses x ∙ counted-one old.misses.position x;
+      setting = ap (λ (s : MissSightings). s.misses.grid) is ∙ noted_grid old.misses x;
+    } in
+    record {
+      accesses = came-on miss_account begun old new xs (x ∷ []) so_far.accesses one;
+      objects = objects-beside miss_account (λ s. s.objects) begun old new xs x so_far.accesses
+          so_far.objects (ap (λ (s : MissSightings). s.objects) is);
     }
-
--- where no access came, the list is as it was
-pub same_list : (k : Kept) (t : AccessList) → StandsFor t k → StandsFor (t ++ []) k
-same_list k t = stands-none StandsFor k t
 
 -- both parts with one record more
 module _ {T E : Type 0} (r : Result T E) (old : MissSightings) (k : Kept) (o : Objects)
@@ -101,10 +81,9 @@ module _ {T E : Type 0} (r : Result T E) (old : MissSightings) (k : Kept) (o : O
 
     pub both_seen : ((t : AccessList) → StandsFor t old.misses
         → StandsFor (t ++ touches_in (x ∷ [])) k)
-        → OnOk r (MissesNext old now x)
-    both_seen stands = on_ok_weaker r
-        (λ is begun xs so_far. misses_next old now x (noted_both is) stands begun xs so_far)
-        objects
+        → OnOk r (GivenNext HasMissed old now x)
+    both_seen stands =
+        on_ok_weaker r (λ is. misses_next old now x (noted_both is) stands) objects
 
 pub ok_always : {T E P : Type 0} (r : Result T E) → P → OnOk r P
 ok_always (Ok x) p = p
@@ -114,11 +93,9 @@ ok_always (Err e) p = tt
 
 pub nothing_missed_yet : (g : Grid) → HasMissed (nothing_missed g) (nothing_missed g) []
 nothing_missed_yet g = record {
-  stands = stands-none StandsFor (kept_of g []);
-  position = refl;
+  accesses = came-none miss_account (nothing_missed g);
   objects = same_objects no_objects (objects_after no_objects 0 []) refl
       (sym (append-nil _ ∙ none_left 0 []));
-  grid = refl;
 }
 
 pub room_for_miss : (now : MissSightings) (x : TraceRecord)
@@ -126,7 +103,7 @@ pub room_for_miss : (now : MissSightings) (x : TraceRecord)
     → counted_after now.misses.position x ≤ last_position
 room_for_miss now x room =
     room-next room.begun.misses.position now.misses.position room.seen x
-    room.given_so_far.position room.first room.begins_there room.room
+    room.given_so_far.accesses.position room.first room.begins_there room.room
 
 -- ---- the text
 pub missed_text : (g : Grid) (now : MissSightings) (items : List TraceRecord) (total : Costs)
@@ -138,13 +115,13 @@ unfolding misses_of_records
 missed_text g now items total so_far costs =
     let t : AccessList = touches_in items in
     let k : Kept = now.misses in
-    let stands : StandsFor t k = so_far.stands [] refl in
+    let stands : StandsFor t k = so_far.accesses.stands [] refl in
     ap (λ (rs : List Row). text_of (misses_lines k.grid k.position now.objects (told_rows rs) total))
     (rows-stand k t stands)
     ∙ ap (λ (c : Costs). text_of (misses_lines k.grid k.position now.objects
     (told_rows (rows_of k.grid t)) c)) (costs t stands)
     ∙ ap (λ (q : Grid). text_of (misses_lines q k.position now.objects (told_rows (rows_of q t))
-    (all_costs q t))) so_far.grid
+    (all_costs q t))) so_far.accesses.setting
     ∙ ap (λ p. text_of (misses_lines g p now.objects (told_rows (rows_of g t)) (all_costs g t)))
     (ap (λ (x : Kept). x.position) stands)
     ∙ ap (λ (o : Objects). text_of (misses_lines g (length t) o (told_rows (rows_of g t))

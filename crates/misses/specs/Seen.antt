@@ -1,12 +1,13 @@
 -- What trace records show of the misses of each line, and what stands in memory.
-use Rattle.std.specs.Prelude.{◌≡◌, ℕ, ◌+◌, Bool, false, not, ◌||◌, List, [], ◌∷◌, ◌++◌, length}
+use Rattle.std.specs.Prelude.{◌≡◌, ℕ, Bool, false, not, ◌||◌, List, []}
 use Rattle.base.specs.Lines.{Grid, line_number}
+use Rattle.base.specs.Touch.{Touch}
 use Rattle.misses.specs.Kept.{Kept, StandsFor, has_come_to, kept_of, note_access}
 use Rattle.objects.specs.Objects.{no_objects}
-use Rattle.sharing_rules.specs.AccessLists.{AccessList}
-use Rattle.trace_format.specs.Rules.{touches_in}
+use Rattle.trace_format.specs.Rules.{touch_in}
 use Rattle.trace_format.specs.declared.record.TraceRecord.{TraceRecord}
 use Rattle.trace_format.specs.declared.record.TraceRecord.TheVariants as records
+use Rattle.trace_passes.specs.Accounts.{Account, BeginsAt, CameBy}
 use Rattle.trace_passes.specs.Lives.{objects_after, objects_noted, objects_want_memory}
 use Rattle.misses.specs.declared.observer.MissSightings.{MissSightings}
 
@@ -36,24 +37,22 @@ misses_want_memory k _ = false
 abbrev pub wants_memory : MissSightings → TraceRecord → Bool
 wants_memory s item = misses_want_memory s.misses item || objects_want_memory s.objects item
 
+-- how it accounts for the accesses of a trace: under a layout
+abbrev pub miss_account : Account MissSightings Touch Grid
+miss_account = record {
+  listed = touch_in;
+  StandsFor = λ t s. StandsFor t s.misses;
+  position = λ s. s.misses.position;
+  setting = λ s. s.misses.grid;
+}
+
 -- from what was seen first, what is seen now came by these records
 pub record HasMissed (begun now : MissSightings) (items : List TraceRecord) : Type 0 where
-  -- for each list whose misses it had, it has those of the list with their accesses
-  pub stands : (t : AccessList) → StandsFor t begun.misses
-      → StandsFor (t ++ touches_in items) now.misses
-  -- each access moved it on by one
-  pub position : now.misses.position ≡ begun.misses.position + length (touches_in items)
+  -- by their accesses
+  pub accesses : CameBy miss_account begun now items
   -- the objects that stood there before, and those of the records
   pub objects : now.objects ≡ objects_after begun.objects begun.misses.position items
-  -- under the same layout
-  pub grid : now.misses.grid ≡ begun.misses.grid
 
 -- its first access has this position
 abbrev pub misses_begin_at : MissSightings → ℕ → Type 0
-misses_begin_at begun first = begun.misses.position ≡ first
-
--- whatever records came before, this one came after them
-abbrev pub MissesNext : MissSightings → MissSightings → TraceRecord → Type 0
-MissesNext old new item =
-    (begun : MissSightings) (items : List TraceRecord)
-    → HasMissed begun old items → HasMissed begun new (items ++ item ∷ [])
+misses_begin_at = BeginsAt miss_account

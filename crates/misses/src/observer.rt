@@ -4,9 +4,10 @@ ghost use Rattle.std.specs.Prelude.{◌≡◌, ◌∷◌, ◌++◌, ◌≤◌, [
 ghost use Rattle.base.specs.Lines.{Grid};
 ghost use Rattle.misses.specs.Kept.{StandsFor};
 ghost use Rattle.sharing_rules.specs.AccessLists.{AccessList};
-ghost use Rattle.misses.specs.Seen.{HasMissed, MissesNext, missed, misses_noted};
+ghost use Rattle.misses.specs.Seen.{HasMissed, missed, misses_noted};
 ghost use Rattle.misses.specs.Seen.{misses_want_memory, nothing_missed, wants_memory};
 ghost use Rattle.misses.specs.Texts.{misses_of_records};
+ghost use Rattle.trace_passes.specs.Rooms.{GivenNext};
 ghost use Rattle.trace_format.specs.Reading.{counted_after};
 ghost use Rattle.trace_format.specs.Rules.{last_position, touches_in};
 ghost use Rattle.trace_format.specs.declared.record.TraceRecord.{TraceRecord as Record};
@@ -68,7 +69,7 @@ impl MissSightings {
         // for each list whose misses it had, it has those of the list with the record's access
         ensures stands { (t : AccessList) → StandsFor t self.old.misses
             → OnOk result (StandsFor (t ++ touches_in (item.now ∷ [])) self.new.misses) }
-        ensures seen { OnOk result (MissesNext self.old self.new item.now) }
+        ensures seen { OnOk result (GivenNext HasMissed self.old self.new item.now) }
         // what takes none: an access by a hart that came to its line before, a free, a symbol that
         // is dropped, an end
         ensures known { IsFalse (wants_memory self.old item.now) → IsOk result }

@@ -1,11 +1,12 @@
 -- What is known of an object after records of a trace, by each pass over it.
-use Rattle.std.specs.Prelude.{◌≡◌, ℕ, ◌+◌, ◌⊎◌, nat_lt, List, [], ◌∷◌, ◌++◌, length, Option, slice_get}
+use Rattle.std.specs.Prelude.{◌≡◌, ℕ, ◌⊎◌, nat_lt, List, [], ◌++◌, length, Option, slice_get}
 use Rattle.std.specs.Option.{option_map_or}
 use Rattle.base.specs.Touch.{Touch}
 use Rattle.sharing_rules.specs.AccessLists.{AccessList}
-use Rattle.trace_format.specs.Rules.{touches_in}
+use Rattle.trace_format.specs.Rules.{touch_in, touches_in}
 use Rattle.trace_format.specs.declared.record.TraceRecord.{TraceRecord}
 use Rattle.trace_format.specs.declared.record.TraceRecord.TheVariants as records
+use Rattle.trace_passes.specs.Accounts.{Account, BeginsAt, CameBy}
 use Rattle.layout_sweep.specs.Standing.{HasCounted}
 use Rattle.layout_sweep.specs.Windows.{BeginsLine}
 use Rattle.placement.specs.Plans.{Planned, moved, moved_list}
@@ -62,31 +63,19 @@ WantsMemory n p t _ = ⊥
 abbrev pub NeedsNone : Recount → TraceRecord → Type 0
 NeedsNone r item = (t : AccessList) × RecountsFor t r × (WantsMemory r.size r.plan t item → ⊥)
 
+-- how a recount accounts for the accesses of a trace: under lines of a size, as its plan moves them
+abbrev pub recount_account : Account Recount Touch (ℕ × Planned)
+recount_account = record {
+  listed = touch_in;
+  StandsFor = RecountsFor;
+  position = λ r. r.position;
+  setting = λ r. (r.size, r.plan);
+}
+
 -- from what it was first, it came to what it is by these records
-pub record HasRecounted (begun now : Recount) (items : List TraceRecord) : Type 0 where
-  -- for each list that it had counted, it has counted the list with their accesses
-  pub stands : (t : AccessList) → RecountsFor t begun → RecountsFor (t ++ touches_in items) now
-  -- each access moved it on by one
-  pub position : now.position ≡ begun.position + length (touches_in items)
-  pub size : now.size ≡ begun.size
-  pub plan : now.plan ≡ begun.plan
+abbrev pub HasRecounted : Recount → Recount → List TraceRecord → Type 0
+HasRecounted = CameBy recount_account
 
 -- its first access has this position
 abbrev pub begins_at : Recount → ℕ → Type 0
-begins_at begun first = begun.position ≡ first
-
--- whatever records came before, this one came after them
-abbrev pub SeeksNext : Finder → Finder → TraceRecord → Type 0
-SeeksNext old new item =
-    (begun : Finder) (items : List TraceRecord)
-    → HasSought begun old items → HasSought begun new (items ++ item ∷ [])
-
-abbrev pub OwnsNext : Owned → Owned → TraceRecord → Type 0
-OwnsNext old new item =
-    (begun : Owned) (items : List TraceRecord)
-    → HasOwned begun old items → HasOwned begun new (items ++ item ∷ [])
-
-abbrev pub RecountsNext : Recount → Recount → TraceRecord → Type 0
-RecountsNext old new item =
-    (begun : Recount) (items : List TraceRecord)
-    → HasRecounted begun old items → HasRecounted begun new (items ++ item ∷ [])
+begins_at = BeginsAt recount_account

@@ -90,7 +90,8 @@ fn of_some(extent: Extent) -> Option<Extent>
 }
 
 impl Finder {
-    ghost use Rattle.placement.specs.Passing.{Seeks, SeeksNext};
+    ghost use Rattle.trace_passes.specs.Rooms.{GivenNext};
+    ghost use Rattle.placement.specs.Passing.{HasSought, Seeks};
 
     /// Nothing seen yet. It takes memory for the name.
     pub fn new(alloc: Global, name: &str, at: Option<u32>) -> Result<Finder, NoMemory>
@@ -139,7 +140,7 @@ impl Finder {
     // One record more.
     fn note_item(&mut self, item: &TraceRecord)
         requires { IsWritable item.now }
-        ensures { SeeksNext self.old self.new item.now }
+        ensures { GivenNext HasSought self.old self.new item.now }
     {
         self.note_symbol(item);
         self.note_block(item);

@@ -3,7 +3,8 @@ ghost use Rattle.std.specs.Prelude.{◌≤◌, OnErr, OnOk};
 ghost use Rattle.sharing_rules.specs.AccessLists.{AccessList};
 ghost use Rattle.trace_format.specs.Reading.{counted_after};
 ghost use Rattle.trace_format.specs.Rules.{last_position};
-ghost use Rattle.placement.specs.Passing.{OwnsNext, RecountsFor, RecountsNext, WantsMemory};
+ghost use Rattle.trace_passes.specs.Rooms.{GivenNext};
+ghost use Rattle.placement.specs.Passing.{HasOwned, HasRecounted, RecountsFor, WantsMemory};
 
 use crate::owners::Owners;
 use crate::recount::Recount;
@@ -14,14 +15,11 @@ use trace_passes::Observer;
 // One record more. All but accesses change nothing.
 #[inline]
 fn note_record(owners: &mut Owners, item: &TraceRecord)
-    ensures { OwnsNext owners.old owners.new item.now }
+    ensures { GivenNext HasOwned owners.old owners.new item.now }
 {
     match item {
         TraceRecord::Touch(access, _) => owners.note(*access),
-        TraceRecord::Alloc { .. } => (),
-        TraceRecord::Free { .. } => (),
-        TraceRecord::Symbol { .. } => (),
-        TraceRecord::End(_) => (),
+        _ => (),
     }
 }
 
@@ -43,7 +41,7 @@ impl Observer for Owners {
 #[inline]
 fn recount_record(recount: &mut Recount, item: &TraceRecord) -> Result<(), NoMemory>
     requires { counted_after recount.old.position item.now ≤ last_position }
-    ensures next { OnOk result (RecountsNext recount.old recount.new item.now) }
+    ensures next { OnOk result (GivenNext HasRecounted recount.old recount.new item.now) }
     ensures known { (t : AccessList) → RecountsFor t recount.old
         → OnErr result (WantsMemory recount.old.size recount.old.plan t item.now) }
 {

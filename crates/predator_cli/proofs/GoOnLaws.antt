@@ -110,21 +110,22 @@ module _ (g : Grid) (v : Levels) (harts : ℕ) (before items : List TraceRecord)
     pub stands_now : StandsFor (touches_in (before ++ items)) now.watch
     stands_now =
         subst (λ (t : AccessList). StandsFor t now.watch)
-        (sym (filter_map-append touch_in before items)) (seen.stands (touches_in before) stood)
+        (sym (filter_map-append touch_in before items)) (seen.accesses.stands (touches_in before) stood)
 
     objects_now : now.objects ≡ objects_of (before ++ items)
     objects_now = seen.objects ∙ behind
 
     pub notable_now : IsNotable (begun_of g v harts before).sightings
         → NoTwoAlike (objects_of (before ++ items)).symbols → IsNotable now
-    notable_now begun apart = record {
-      layout = subst (λ (x : Grid). IsTrue (is_layout x.size x.offset))
-          (sym seen.grid) begun.layout;
-      native = subst (λ (x : Grid). IsTrue (may_predict x now.watch.levels)) (sym seen.grid)
-          (subst (λ (x : Levels). IsTrue (may_predict g x)) (sym seen.levels) begun.native);
-      some = subst (λ (x : Levels). 0 < x.tracking) (sym seen.levels) begun.some;
-      apart = subst (λ (o : Objects). NoTwoAlike o.symbols) (sym objects_now) apart;
-    }
+    notable_now begun apart =
+        let same = sym seen.accesses.setting in
+        record {
+          layout = subst (λ (x : Grid × Levels). IsTrue (is_layout x.0.size x.0.offset)) same
+              begun.layout;
+          native = subst (λ (x : Grid × Levels). IsTrue (may_predict x.0 x.1)) same begun.native;
+          some = subst (λ (x : Grid × Levels). 0 < x.1.tracking) same begun.some;
+          apart = subst (λ (o : Objects). NoTwoAlike o.symbols) (sym objects_now) apart;
+        }
 
     -- the report is that of all records
     pub text_now : (ending : Ending) → report_of_sighted (ended_at now.watch.position ending) now
@@ -136,8 +137,8 @@ module _ (g : Grid) (v : Levels) (harts : ℕ) (before items : List TraceRecord)
     unfolding report_of_records
     text_now ending report =
         report
-        ∙ λ i. report_of (ended_at (stands_now.position i) ending) (seen.grid i) (seen.levels i)
-        (objects_now i) (touches_in (before ++ items))
+        ∙ λ i. report_of (ended_at (stands_now.position i) ending) (seen.accesses.setting i).0
+        (seen.accesses.setting i).1 (objects_now i) (touches_in (before ++ items))
 
     -- and so is the state
     pub state_now : spell_state (state_of harts now.watch) ≡ state_of_list now.watch.grid
@@ -146,8 +147,8 @@ module _ (g : Grid) (v : Levels) (harts : ℕ) (before items : List TraceRecord)
     unfolding state_of_sighted state_of_records
     state_now saved =
         ap (λ (b : List ℕ). b ++ spell_objects now.objects) saved
-        ∙ λ i. state_of_list (seen.grid i) (seen.levels i) harts (touches_in (before ++ items))
-        ++ spell_objects (objects_now i)
+        ∙ λ i. state_of_list (seen.accesses.setting i).0 (seen.accesses.setting i).1 harts
+        (touches_in (before ++ items)) ++ spell_objects (objects_now i)
 
 -- by what is known of records that are noted, and of what stands for a list
 module _ (seen : (begun : Sighted) (items : List TraceRecord) → IsNotable begun

@@ -49,11 +49,10 @@ module _ (harts : ℕ) (s : Sighted) (w : Watch) (o : Objects) (all first second
         ≡ state_of_records g v harts items
     unfolding state_of_records
     seen_state g v items seen spelled =
+        let setting_of : Watch → Grid × Levels = λ x. (x.grid, x.levels) in
         both ∙ ap (λ (b : List ℕ). b ++ second) spelled
         ∙ ap (λ (b : List ℕ). state_of_list w.grid w.levels harts (touches_in items) ++ b) objects
-        ∙ ap (λ (x : Grid). state_of_list x w.levels harts (touches_in items) ++ spell_objects o)
-        (ap (λ (x : Watch). x.grid) watch_is ∙ seen.grid)
-        ∙ ap (λ (x : Levels). state_of_list g x harts (touches_in items) ++ spell_objects o)
-        (ap (λ (x : Watch). x.levels) watch_is ∙ seen.levels)
+        ∙ ap (λ (x : Grid × Levels). state_of_list x.0 x.1 harts (touches_in items)
+        ++ spell_objects o) (ap setting_of watch_is ∙ seen.accesses.setting)
         ∙ ap (λ (x : Objects). state_of_list g v harts (touches_in items) ++ spell_objects x)
         (objects_are ∙ seen.objects)

@@ -2,4 +2,3 @@ pub mod NextLaws
 pub mod NotedLaws
 pub mod ObjectLaws
 pub mod OriginLaws
-pub mod Records

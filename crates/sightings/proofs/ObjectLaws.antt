@@ -11,7 +11,7 @@ use Rattle.trace_format.specs.declared.record.TraceRecord.{TraceRecord}
 use Rattle.trace_passes.specs.Laws.Lives.{blocks_behind, blocks_behind-push, ended, position_after}
 use Rattle.trace_passes.specs.Lives.{lived, made_by, objects_after, objects_of, symbol_in, symbols_in}
 use Rattle.trace_passes.specs.Laws.Noting.{none_left, same_objects}
-use Rattle.sightings.proofs.Records.{by_records}
+use Rattle.sharing_rules.specs.Laws.Lists.{by_push}
 
 module _ (bs : List Block) (p : ℕ) (before : List TraceRecord) where
   abbrev there : List Block
@@ -50,7 +50,7 @@ module _ (bs : List Block) (p : ℕ) (before : List TraceRecord) where
   pub blocks_on : (items : List TraceRecord)
       → blocks_behind (blocks_behind bs p before) (position_after p before) items
       ≡ blocks_behind bs p (before ++ items)
-  blocks_on items = by_records IsOn one_more none items
+  blocks_on items = by_push IsOn none one_more items
 
 module _ (before items : List TraceRecord) where
   blocks_of : (objects_after (objects_of before) (length (touches_in before)) items).blocks

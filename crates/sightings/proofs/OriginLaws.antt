@@ -27,7 +27,7 @@ use Rattle.trace_passes.specs.Lives.{ends_at, made_by, made_in, objects_of, symb
 use Rattle.sightings.specs.Origins.{IsBlockOf, IsSymbolOf}
 use Rattle.trace_passes.specs.Lives.{objects_noted}
 use Rattle.trace_passes.specs.Laws.Noting.{blocks_noted}
-use Rattle.sightings.proofs.Records.{by_records}
+use Rattle.sharing_rules.specs.Laws.Lists.{by_push}
 
 -- ---- no two blocks live at one address
 
@@ -83,8 +83,8 @@ lone_noted o (records.Symbol kind addr size name) q lone = lone
 lone_noted o (records.End e) q lone = lone
 
 pub lone_list : (items : List TraceRecord) → NoTwoLive (objects_of items).blocks
-lone_list items = by_records (λ done. NoTwoLive (objects_of done).blocks) one_more
-    (λ i j d before within. absurd (omega arith)) items
+lone_list items = by_push (λ done. NoTwoLive (objects_of done).blocks)
+    (λ i j d before within. absurd (omega arith)) one_more items
   where
     one_more : (done : List TraceRecord) (x : TraceRecord) → NoTwoLive (objects_of done).blocks
         → NoTwoLive (objects_of (done ++ x ∷ [])).blocks
@@ -141,8 +141,8 @@ blocks_made done (records.Symbol kind addr size name) =
 blocks_made done (records.End e) = All-nil (IsBlockOf (done ++ records.End e ∷ []))
 
 pub blocks_of_list : (items : List TraceRecord) → All (IsBlockOf items) (objects_of items).blocks
-blocks_of_list items = by_records (λ done. All (IsBlockOf done) (objects_of done).blocks) one_more
-    (All-nil (IsBlockOf [])) items
+blocks_of_list items = by_push (λ done. All (IsBlockOf done) (objects_of done).blocks)
+    (All-nil (IsBlockOf [])) one_more items
   where
     one_more : (done : List TraceRecord) (x : TraceRecord)
         → All (IsBlockOf done) (objects_of done).blocks

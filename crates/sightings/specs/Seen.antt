@@ -1,42 +1,40 @@
 -- What a list of trace records has shown, and its report.
-use Rattle.std.specs.Prelude.{◌≡◌, ℕ, ◌+◌, ◌<◌, List, [], ◌∷◌, ◌++◌, length, IsTrue}
+use Rattle.std.specs.Prelude.{◌≡◌, ℕ, ◌<◌, List, IsTrue}
 use Rattle.base.specs.Levels.{Levels}
 use Rattle.base.specs.Lines.{Grid, is_layout}
+use Rattle.base.specs.Touch.{Touch}
 use Rattle.base.specs.declared.ending.Ending.{Ending}
 use Rattle.objects.specs.Symbols.{NoTwoAlike}
-use Rattle.sharing_rules.specs.AccessLists.{AccessList}
 use Rattle.sharing_rules.specs.Listed.{may_predict}
 use Rattle.detector.specs.Standing.{StandsFor}
 use Rattle.report.specs.OfLists.{report_of}
-use Rattle.trace_format.specs.Rules.{touches_in}
+use Rattle.trace_format.specs.Rules.{touch_in, touches_in}
 use Rattle.trace_format.specs.declared.record.TraceRecord.{TraceRecord}
+use Rattle.trace_passes.specs.Accounts.{Account, BeginsAt, CameBy}
 use Rattle.trace_passes.specs.Lives.{objects_after, objects_of}
 use Rattle.sightings.specs.Sights.{Sighted, sighted_after}
+
+-- how it accounts for the accesses of a trace: under a layout and thresholds
+abbrev pub watch_account : Account Sighted Touch (Grid × Levels)
+watch_account = record {
+  listed = touch_in;
+  StandsFor = λ t s. StandsFor t s.watch;
+  position = λ s. s.watch.position;
+  setting = λ s. (s.watch.grid, s.watch.levels);
+}
 
 -- from what was seen first, what is seen now came by these records
 pub record HasSeen (begun now : Sighted) (items : List TraceRecord) : Type 0 where
   -- each of them was noted, in order
   pub value : now ≡ sighted_after begun items
-  -- for each list that it stood for, it stands for the list with their accesses
-  pub stands : (t : AccessList) → StandsFor t begun.watch
-      → StandsFor (t ++ touches_in items) now.watch
-  -- each access moved it on by one
-  pub position : now.watch.position ≡ begun.watch.position + length (touches_in items)
+  -- by their accesses
+  pub accesses : CameBy watch_account begun now items
   -- the objects that stood there before, and those of the records
   pub objects : now.objects ≡ objects_after begun.objects begun.watch.position items
-  -- under the same layout and thresholds
-  pub grid : now.watch.grid ≡ begun.watch.grid
-  pub levels : now.watch.levels ≡ begun.watch.levels
 
 -- its first access has this position
 abbrev pub begins_at : Sighted → ℕ → Type 0
-begins_at begun first = begun.watch.position ≡ first
-
--- whatever records came before, this one came after them
-abbrev pub SeesNext : Sighted → Sighted → TraceRecord → Type 0
-SeesNext old new item =
-    (begun : Sighted) (items : List TraceRecord)
-    → HasSeen begun old items → HasSeen begun new (items ++ item ∷ [])
+begins_at = BeginsAt watch_account
 
 -- under a layout and thresholds as a detector has them, with no two symbols alike
 pub record IsNotable (s : Sighted) : Type 0 where

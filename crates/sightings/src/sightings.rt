@@ -10,8 +10,9 @@ ghost use Rattle.sharing_rules.specs.Listed.{may_predict};
 ghost use Rattle.trace_format.specs.Reading.{counted_after};
 ghost use Rattle.trace_format.specs.Rules.{last_position, touches_in};
 ghost use Rattle.trace_format.specs.declared.record.TraceRecord.{TraceRecord as Record};
+ghost use Rattle.trace_passes.specs.Rooms.{GivenNext};
 ghost use Rattle.sightings.specs.Sights.{noted, nothing_sighted, report_of_sighted, wants_memory};
-ghost use Rattle.sightings.specs.Seen.{HasSeen, SeesNext, report_of_records};
+ghost use Rattle.sightings.specs.Seen.{HasSeen, report_of_records};
 
 use base::{Access, Ending, Layout, NoMemory, Thresholds};
 use detector::{Detector, PagedIndex, see};
@@ -78,7 +79,7 @@ impl Sightings {
         ensures noted { (pc : Option ℕ) → OnOk result (self.new
             ≡ noted self.old (TraceRecord.Touch access pc)) }
         ensures same { OnErr result (self.new ≡ self.old) }
-        ensures seen { (pc : Option ℕ) → OnOk result (SeesNext self.old self.new
+        ensures seen { (pc : Option ℕ) → OnOk result (GivenNext HasSeen self.old self.new
             (TraceRecord.Touch access pc)) }
         ensures known { (pc : Option ℕ) → IsFalse (wants_memory self.old
             (TraceRecord.Touch access pc)) → IsOk result }
@@ -93,7 +94,7 @@ impl Sightings {
         ensures noted { OnOk result (self.new
             ≡ noted self.old (TraceRecord.Alloc addr size sites)) }
         ensures same { OnErr result (self.new ≡ self.old) }
-        ensures seen { OnOk result (SeesNext self.old self.new
+        ensures seen { OnOk result (GivenNext HasSeen self.old self.new
             (TraceRecord.Alloc addr size sites)) }
     {
         self.objects
@@ -104,7 +105,7 @@ impl Sightings {
     /// block there, nothing changes.
     pub fn note_free(&mut self, addr: u32)
         ensures noted { self.new ≡ noted self.old (TraceRecord.Free addr) }
-        ensures seen { SeesNext self.old self.new (TraceRecord.Free addr) }
+        ensures seen { GivenNext HasSeen self.old self.new (TraceRecord.Free addr) }
     {
         self.objects.note_free(self.detector.position(), addr);
     }
@@ -121,7 +122,7 @@ impl Sightings {
         ensures noted { OnOk result (self.new
             ≡ noted self.old (TraceRecord.Symbol kind addr size name.now)) }
         ensures same { OnErr result (self.new ≡ self.old) }
-        ensures seen { OnOk result (SeesNext self.old self.new
+        ensures seen { OnOk result (GivenNext HasSeen self.old self.new
             (TraceRecord.Symbol kind addr size name.now)) }
         // for a symbol that is dropped it needs no memory
         ensures known { IsFalse (wants_memory self.old
@@ -137,7 +138,7 @@ impl Sightings {
         requires { counted_after self.old.watch.position item.now ≤ last_position }
         ensures noted { OnOk result (self.new ≡ noted self.old item.now) }
         ensures same { OnErr result (self.new ≡ self.old) }
-        ensures seen { OnOk result (SeesNext self.old self.new item.now) }
+        ensures seen { OnOk result (GivenNext HasSeen self.old self.new item.now) }
         // what takes none: most accesses, a free, a symbol that is dropped, an end
         ensures known { IsFalse (wants_memory self.old item.now) → IsOk result }
     {

@@ -1,17 +1,16 @@
 -- One line and one row more of what is gathered for the text, and texts put together.
-use Rattle.std.proofs.Common.{◌≡◌, ℕ, ◌+◌, ◌<◌, Bool, true, false, eqb, List, [], ◌∷◌, ◌++◌, length}
-use Rattle.std.proofs.Common.{Option, Some, refl, sym, ap, ◌∙◌, subst, arith, inl, inr, map, filter, take}
-use Rattle.std.proofs.Common.{option_to_list, slice_get}
+use Rattle.std.proofs.Common.{◌≡◌, ℕ, ◌+◌, true, false, eqb, List, [], ◌∷◌, ◌++◌}
+use Rattle.std.proofs.Common.{Some, refl, sym, ap, ◌∙◌, subst, inl, inr, take}
+use Rattle.std.proofs.Common.{slice_get}
 use Rattle.std.proofs.Common.{append_assoc, codes}
 use Rattle.std.proofs.Common.{Result, Ok, Err}
 use Rattle.std.proofs.lemmas.Bool.{cases_Bool, eqb-true, false≢true}
 use Rattle.std.proofs.lemmas.Grind.{flat_map-append}
-use Rattle.std.proofs.lemmas.List.{map-append, take_more}
-use Rattle.std.proofs.lemmas.List.Elements.{filter-append}
-use Rattle.std.proofs.lemmas.Option.{get_or_from_slice_get, slice_get_cases, slice_get_within}
+use Rattle.std.proofs.lemmas.List.{take_more}
+use Rattle.std.proofs.lemmas.Option.{get_or_from_slice_get, slice_get_within}
 use Rattle.std.specs.List.{position}
 use Rattle.std.specs.Map.{keys_of, lookup, values_of}
-use Rattle.std.specs.Prelude.{IfSome, OnOk, if◌then◌else◌, is_some, nat_eq, option_map}
+use Rattle.std.specs.Prelude.{IfSome, OnOk, if◌then◌else◌, is_some, nat_eq}
 use Rattle.indexmap.specs.IndexMap.{insert_entry, set_value_at}
 use Rattle.base.specs.TextLines.{line_text, text_of}
 use Rattle.report.specs.Lines.{TextLine}
@@ -23,24 +22,6 @@ use Rattle.takings.specs.BlameKept.{rows_in}
 use Rattle.takings.specs.BlameRows.{gathered_at}
 use Rattle.takings.specs.Laws.BlameFits.{insert_entry-at}
 use Rattle.takings.specs.Laws.BlameText.{put-gathered}
-
--- of a list that takes those of some elements that pass a test: one element more
-pub told_more : {X Y : Type 0} (f : X → Y) (p : Y → Bool) (xs : List X) (i : ℕ) (o : Option Y)
-    (before after : List Y) → i < length xs → o ≡ option_map f (slice_get xs i)
-    → before ≡ filter p (map f (take i xs)) → after ≡ before ++ filter p (option_to_list o)
-    → after ≡ filter p (map f (take (i + 1) xs))
-told_more f p xs i o before after within at_i known pushed =
-    elim (slice_get_cases xs i).1 [
-      | inl (x, lt, got, read) ↦
-          pushed ∙ ap (λ t. t ++ filter p (option_to_list o)) known
-          ∙ ap (λ q. filter p (map f (take i xs)) ++ filter p (option_to_list q))
-          (at_i ∙ ap (option_map f) got)
-          ∙ sym (ap (λ ys. filter p (map f ys)) (take_more xs i x within
-          ∙ ap (λ y. take i xs ++ y ∷ []) (get_or_from_slice_get xs i x x got))
-          ∙ ap (filter p) (map-append f (take i xs) (x ∷ []))
-          ∙ filter-append p (map f (take i xs)) (f x ∷ []))
-      | inr (past, got) ↦ absurd (omega arith)
-    ]
 
 rows_in-push : (r : ℕ) (es : List (InLine × Taken)) (e : InLine × Taken)
     → rows_in r (es ++ e ∷ [])

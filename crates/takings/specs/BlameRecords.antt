@@ -1,12 +1,12 @@
 -- What the records of a trace show of the takings of all lines.
-use Rattle.std.specs.Prelude.{◌≡◌, ℕ, ◌+◌, Bool, false, List, [], ◌∷◌, ◌++◌, length, Option, Some, None}
+use Rattle.std.specs.Prelude.{ℕ, Bool, false, List, Option, Some, None}
 use Rattle.std.specs.List.{filter_map}
 use Rattle.std.specs.Option.{unwrap_or}
 use Rattle.base.specs.Lines.{Grid}
 use Rattle.base.specs.Touch.{Touch}
-use Rattle.trace_format.specs.Rules.{touches_in}
 use Rattle.trace_format.specs.declared.record.TraceRecord.{TraceRecord}
 use Rattle.trace_format.specs.declared.record.TraceRecord.TheVariants as records
+use Rattle.trace_passes.specs.Accounts.{Account, BeginsAt, CameBy}
 use Rattle.takings.specs.declared.sited.Sited.{Sited}
 use Rattle.takings.specs.BlameKept.{Blamed, StandsFor, wants_memory}
 use Rattle.takings.specs.BlameText.{blame_text}
@@ -23,24 +23,22 @@ sited_item _ = None
 abbrev pub sited_in : List TraceRecord → List Sited
 sited_in items = filter_map sited_item items
 
+-- how it accounts for the accesses of a trace: with their pcs, under a layout
+abbrev pub blame_account : Account Blamed Sited Grid
+blame_account = record {
+  listed = sited_item;
+  StandsFor = StandsFor;
+  position = λ k. k.position;
+  setting = λ k. k.grid;
+}
+
 -- from what was kept first, what is kept now came by these records
-pub record HasBlamed (begun now : Blamed) (items : List TraceRecord) : Type 0 where
-  -- for each list that it stood for, it stands for the list with their accesses
-  pub stands : (u : List Sited) → StandsFor u begun → StandsFor (u ++ sited_in items) now
-  -- each access moved it on by one
-  pub position : now.position ≡ begun.position + length (touches_in items)
-  -- the layout is the same
-  pub grid : now.grid ≡ begun.grid
+abbrev pub HasBlamed : Blamed → Blamed → List TraceRecord → Type 0
+HasBlamed = CameBy blame_account
 
 -- its first access has this position
 abbrev pub blame_begins_at : Blamed → ℕ → Type 0
-blame_begins_at begun first = begun.position ≡ first
-
--- whatever records came before, this one came after them
-abbrev pub BlamesNext : Blamed → Blamed → TraceRecord → Type 0
-BlamesNext old new item =
-    (begun : Blamed) (items : List TraceRecord)
-    → HasBlamed begun old items → HasBlamed begun new (items ++ item ∷ [])
+blame_begins_at = BeginsAt blame_account
 
 -- whether a record may want memory: an access that may
 abbrev pub record_wants_memory : Blamed → TraceRecord → Bool

@@ -1,8 +1,9 @@
 // The takings of all lines, as the records of a trace show them one after the other.
 ghost use Rattle.std.specs.Prelude.{◌≤◌, IsFalse, IsOk, OnOk};
-ghost use Rattle.takings.specs.BlameRecords.{BlamesNext, record_wants_memory};
+ghost use Rattle.takings.specs.BlameRecords.{HasBlamed, record_wants_memory};
 ghost use Rattle.trace_format.specs.Reading.{counted_after};
 ghost use Rattle.trace_format.specs.Rules.{last_position};
+ghost use Rattle.trace_passes.specs.Rooms.{GivenNext};
 
 use crate::blame::Blame;
 use base::NoMemory;
@@ -13,7 +14,7 @@ use trace_passes::Observer;
 #[inline]
 fn see(blame: &mut Blame, item: &TraceRecord) -> Result<(), NoMemory>
     requires { counted_after blame.old.position item.now ≤ last_position }
-    ensures next { OnOk result (BlamesNext blame.old blame.new item.now) }
+    ensures next { OnOk result (GivenNext HasBlamed blame.old blame.new item.now) }
     ensures known { IsFalse (record_wants_memory blame.old item.now) → IsOk result }
 {
     match item {

@@ -5,7 +5,6 @@ use Rattle.std.proofs.Common.{cond, Option, Some, None, refl, sym, ap, ◌∙◌
 use Rattle.std.specs.Prelude.{◌||◌, if◌then◌else◌}
 use Rattle.std.specs.List.{list_any}
 use Rattle.std.proofs.lemmas.List.{map-append, length-append}
-use Rattle.std.proofs.lemmas.List.Elements.{filter_map-append}
 use Rattle.std.proofs.lemmas.List.Folds.{list_any-append}
 use Rattle.std.proofs.lemmas.List.Sums.{count_by-le-length, sum_by-append}
 use Rattle.base.specs.Touch.{Touch}
@@ -18,9 +17,10 @@ use Rattle.trace_format.specs.declared.record.Header.{Header}
 use Rattle.trace_format.specs.declared.record.TraceRecord.{TraceRecord}
 use Rattle.trace_format.specs.declared.record.TraceRecord.TheVariants as records
 use Rattle.trace_format.specs.declared.record.Version.{Version}
-use Rattle.trace_format.specs.Rules.{touch_in, touches_in}
+use Rattle.trace_format.specs.Rules.{touches_in}
 use Rattle.trace_format.specs.Spelling.{before_after, nothing_before, spell_record}
 use Rattle.trace_format.specs.Writing.{Writing, before_behind, begin_writing, begun_with}
+use Rattle.trace_format.specs.Laws.Touches.{touches-push}
 use Rattle.trace_format.specs.Laws.Writing.{begun-more, writer-more}
 use Rattle.trace_files.specs.declared.move_row.Move.{Move}
 use Rattle.trace_files.specs.declared.mover.Mover.{Mover}
@@ -35,10 +35,6 @@ moved_more : (table : List Move) (seen : List TraceRecord) (item : TraceRecord)
     → moved_items table (seen ++ item ∷ []) ≡ moved_items table seen ++ moved_item table item ∷ []
 moved_more table seen item = map-append (moved_item table) seen (item ∷ [])
 
-touches_more : (seen : List TraceRecord) (item : TraceRecord)
-    → touches_in (seen ++ item ∷ []) ≡ touches_in seen ++ touches_in (item ∷ [])
-touches_more seen item = filter_map-append touch_in seen (item ∷ [])
-
 one_more : (b : Bool) → (if b then 1 else 0) ≡ 0 + cond b 1 0
 one_more true = refl
 one_more false = refl
@@ -47,7 +43,7 @@ count_more : (table : List Move) (seen : List TraceRecord) (item : TraceRecord)
     → count_moved table (touches_in (seen ++ item ∷ []))
     ≡ count_moved table (touches_in seen) + count_moved table (touches_in (item ∷ []))
 count_more table seen item =
-    ap (count_moved table) (touches_more seen item)
+    ap (count_moved table) (touches-push seen item)
     ∙ sum_by-append (λ (a : Touch). cond (is_moved table a.addr) 1 0) (touches_in seen)
     (touches_in (item ∷ []))
 
@@ -115,7 +111,7 @@ pub may_count : (table : List Move) (m : Mover) (item : TraceRecord) (now : Outs
 may_count table m item now may =
     let seen = may.seen in
     let few = few_moved table (touches_in seen) in
-    let more = ap length (touches_more seen item) in
+    let more = ap length (touches-push seen item) in
     let long = length-append (touches_in seen) (touches_in (item ∷ [])) in
     omega (arith, few, may.has.moved, may.room, more, long)
 

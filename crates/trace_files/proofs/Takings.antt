@@ -1,13 +1,12 @@
 -- The records of a piece, on their way to the file of a moved trace.
-use Rattle.std.proofs.Common.{◌≡◌, ℕ, ◌+◌, ◌<◌, ◌≤◌, Bool, true, false, not, List, [], ◌∷◌}
+use Rattle.std.proofs.Common.{◌≡◌, ℕ, ◌+◌, ◌<◌, Bool, true, false, not, List, [], ◌∷◌}
 use Rattle.std.proofs.Common.{◌++◌, length, cond, take, drop, get_or, Option, Some, None, refl, sym, ap}
 use Rattle.std.proofs.Common.{◌∙◌, subst, arith, append-nil, append_assoc, find, inl, inr}
 use Rattle.std.proofs.lemmas.Bool.{cases_Bool}
 use Rattle.std.specs.Prelude.{◌||◌, if◌then◌else◌, is_some}
 use Rattle.std.specs.List.{list_any, take_while}
 use Rattle.std.specs.Option.{option_map, option_or}
-use Rattle.std.proofs.lemmas.List.{length-append, take-append-drop}
-use Rattle.std.proofs.lemmas.List.Elements.{filter_map-append}
+use Rattle.std.proofs.lemmas.List.{take-append-drop}
 use Rattle.std.proofs.lemmas.List.Folds.{find-append}
 use Rattle.std.proofs.lemmas.List.Sums.{take_while-cons}
 use Rattle.shelf.specs.Shelf.{Outside}
@@ -17,7 +16,8 @@ use Rattle.shelf.specs.Files.{AreCut, AreWritten}
 use Rattle.trace_format.specs.declared.record.Header.{Header}
 use Rattle.trace_format.specs.declared.record.TraceRecord.{TraceRecord}
 use Rattle.trace_format.specs.declared.record.Version.{Version}
-use Rattle.trace_format.specs.Rules.{touch_in, touches_in}
+use Rattle.trace_format.specs.Laws.Counts.{touches_in-front}
+use Rattle.trace_format.specs.Rules.{touches_in}
 use Rattle.trace_files.specs.declared.move_fault.MoveFault.{MoveFault}
 use Rattle.trace_files.specs.declared.move_fault.MoveFault.TheVariants as faults
 use Rattle.trace_files.specs.declared.move_row.Move.{Move}
@@ -246,13 +246,6 @@ pub named_so : (table : List Move) (name : List ℕ) (m : Mover) (head : Option 
 named_so table name m head seen before now has =
     subst (λ (n : List ℕ). HasMoved table n m head seen before now) (sym has.named) has
 
-fewer : (xs ys : List TraceRecord)
-    → length (touches_in xs) ≤ length (touches_in (xs ++ ys))
-fewer xs ys =
-    let more = ap length (filter_map-append touch_in xs ys) in
-    let long = length-append (touches_in xs) (touches_in ys) in
-    omega (arith, more, long)
-
 module _ (table : List Move) (items : List TraceRecord) (i : ℕ) (first now : Mover)
     (old new : Outside) (to : MovedTo table items i first now old new)
     (item : TraceRecord) (inside : i < length items) (is : item ≡ get_or items i item)
@@ -269,7 +262,7 @@ module _ (table : List Move) (items : List TraceRecord) (i : ℕ) (first now : M
     pub may_put : MayPut table first items old → MayPut table now (item ∷ []) new
     may_put may =
         let all = may.seen ++ take i items in
-        let few = fewer (all ++ item ∷ []) (drop (i + 1) items) in
+        let few = touches_in-front (all ++ item ∷ []) (drop (i + 1) items) in
         let same = ap (λ (l : List TraceRecord). length (touches_in l)) (whole may.seen) in
         record {
           name = first.name.now;

@@ -1,3 +1,4 @@
+pub mod Accounts
 pub mod Cursors
 pub mod Laws
 pub mod Lives

@@ -5,13 +5,14 @@ use Rattle.std.proofs.lemmas.Bool.{cases_Bool, cases_eq, eq-eqb, false≢true, n
 use Rattle.std.proofs.lemmas.List.Folds.{list_any-append}
 use Rattle.std.proofs.lemmas.List.Sums.{sum_by-cons, sum_by_push}
 use Rattle.std.specs.Cmp.{nat_eq_equiv}
-use Rattle.std.specs.List.{AllByRecursion, IsDistinct, cons_option, list_any}
+use Rattle.std.specs.List.{IsDistinct, cons_option, list_any}
 use Rattle.std.specs.Prelude.{if◌then◌else◌, filter, filter_map, option_map, sum_by}
 use Rattle.base.specs.Touch.{Touch}
 use Rattle.sharing_rules.specs.Laws.Arrivals.{each_once-distinct}
 use Rattle.sharing_rules.specs.Laws.Lists.{slice_cases}
 use Rattle.sharing_rules.specs.Laws.Observed.{observed_written, written_lines-any}
 use Rattle.sharing_rules.specs.Laws.Starts.{observed_start-one}
+use Rattle.sharing_rules.specs.Laws.Sums.{none-of}
 use Rattle.sharing_rules.specs.Lines.{Line, is_inside, native_grid, native_line}
 use Rattle.sharing_rules.specs.Listed.{Finding, found, observed_line}
 use Rattle.sharing_rules.specs.Observed.{first_write_from, observed_start, written_lines}
@@ -94,11 +95,6 @@ sum_split f k (suc m) less =
           omega (arith, rest, last, whole, part)
     ]
 
-none_of : (k : ℕ) (ks : List ℕ) → AllByRecursion (λ j. eqb k j ≡ false) ks
-    → list_any (eqb k) ks ≡ false
-none_of k [] all = refl
-none_of k (j ∷ ks) all = rw (all.0, none_of k ks all.1) refl
-
 -- above all numbers of a list
 abbrev pub bound_of : List ℕ → ℕ
 bound_of [] = 0
@@ -119,7 +115,7 @@ sum_spread (k ∷ ks) f m distinct le nothing =
           rw other (nothing j (rw (swapped, none) refl))
     ] in
     let rest = sum_spread ks (without f k) m distinct.1 (omega (arith, le)) others in
-    let same = sum_without f k ks (none_of k ks distinct.0) in
+    let same = sum_without f k ks (none-of k ks distinct.0) in
     let split = sum_split f k m less in
     omega (arith, rest, same, split, sum_by-cons f k ks)
 

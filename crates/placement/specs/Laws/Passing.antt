@@ -4,15 +4,17 @@ use Rattle.std.proofs.Common.{Option, None, Some, length, refl, sym, ap, ◌∙�
 use Rattle.std.proofs.lemmas.Bool.Decides.{nat_tests}
 use Rattle.std.proofs.lemmas.List.{append-nil}
 use Rattle.std.proofs.lemmas.List.Elements.{filter_map-append}
+use Rattle.std.specs.List.{cons_option}
 use Rattle.std.specs.Option.{option_or}
 use Rattle.std.specs.Prelude.{if◌then◌else◌, is_some, option_and_then, option_to_list}
 use Rattle.std.specs.Prelude.{slice_get}
 use Rattle.base.specs.Touch.{Touch}
 use Rattle.sharing_rules.specs.Laws.Lists.{cons_option-nil}
 use Rattle.trace_format.specs.Laws.Touches.{touches-push}
-use Rattle.trace_format.specs.Rules.{touches_in}
+use Rattle.trace_format.specs.Rules.{touch_in, touches_in}
 use Rattle.trace_format.specs.declared.record.TraceRecord.{TraceRecord}
-use Rattle.placement.specs.Passing.{HasOwned, HasSought, OwnsNext, Seeks, SeeksNext, blocks_meant}
+use Rattle.trace_passes.specs.Rooms.{GivenNext}
+use Rattle.placement.specs.Passing.{HasOwned, HasSought, Seeks, blocks_meant}
 use Rattle.placement.specs.Sought.{block_made_at, blocks_made_at, object_of, symbol_named}
 use Rattle.placement.specs.Sought.{symbols_named, the_only, with_bytes}
 use Rattle.placement.specs.Words.{Owned, owned_of}
@@ -93,16 +95,11 @@ seeks-push name at old new seen x noted was =
           ∙ ap (λ (es : List Extent). ltb 1 (length es)) (sym (blocks-push at seen x));
     }
 
-pub seeks-next : (old new : Finder) (x : TraceRecord) → IsNoted old new x → SeeksNext old new x
+pub seeks-next : (old new : Finder) (x : TraceRecord) → IsNoted old new x → GivenNext HasSought old new x
 seeks-next old new x noted begun items so_far = record {
   sought = λ name at seen was.
       subst (Seeks name at new) (append_assoc seen items (x ∷ []))
       (seeks-push name at old new (seen ++ items) x noted (so_far.sought name at seen was));
-}
-
-pub sought-nothing : (f : Finder) → HasSought f f []
-sought-nothing f = record {
-  sought = λ name at seen was. subst (Seeks name at f) (sym (append-nil seen)) was;
 }
 
 -- what was seen of the blocks is the one that stands alone
@@ -137,7 +134,7 @@ object-found name at f items is =
 
 pub owns-next : (old new : Owned) (x : TraceRecord) → ((t : List Touch)
     → old ≡ owned_of old.extent t → new ≡ owned_of old.extent (t ++ touches_in (x ∷ [])))
-    → OwnsNext old new x
+    → GivenNext HasOwned old new x
 owns-next old new x noted begun items so_far = record {
   owned = λ t was.
       let is = so_far.owned t was in
@@ -149,11 +146,8 @@ owns-next old new x noted begun items so_far = record {
       ∙ ap (λ u. t ++ u) (sym (touches-push items x)));
 }
 
-pub owned-nothing : (o : Owned) → HasOwned o o []
-owned-nothing o = record { owned = λ t was. was ∙ ap (owned_of o.extent) (sym (append-nil t)) }
-
 -- a record that is no access
-pub owned-quiet : (o : Owned) (x : TraceRecord) → touches_in (x ∷ []) ≡ [] → OwnsNext o o x
+pub owned-quiet : (o : Owned) (x : TraceRecord) → touch_in x ≡ None → GivenNext HasOwned o o x
 owned-quiet o x none =
     owns-next o o x (λ t was. was ∙ ap (owned_of o.extent) (sym (append-nil t))
-    ∙ ap (λ u. owned_of o.extent (t ++ u)) (sym none))
+    ∙ ap (λ (u : Option Touch). owned_of o.extent (t ++ cons_option u [])) (sym none))

@@ -1,30 +1,19 @@
 -- What one access more makes of a recount.
-use Rattle.std.proofs.Common.{◌≡◌, ℕ, ◌+◌, ◌*◌, ◌%◌, ◌<◌, ◌≤◌, ◌&&◌, Bool, true, false, List, [], ◌∷◌}
-use Rattle.std.proofs.Common.{◌++◌, Option, None, Some, length, refl, sym, ap, ◌∙◌, subst, arith}
-use Rattle.std.proofs.Common.{Result, Ok, Err}
+use Rattle.std.proofs.Common.{◌≡◌, ℕ, ◌+◌, ◌*◌, ◌%◌, ◌<◌, ◌&&◌, Bool, true, false, List, [], ◌∷◌}
+use Rattle.std.proofs.Common.{◌++◌, Option, None, Some, refl, sym, ap, ◌∙◌, arith}
 use Rattle.std.proofs.Math.Nat.{add-zero}
 use Rattle.std.proofs.lemmas.Int.{ints}
 use Rattle.std.proofs.lemmas.List.{map-append}
 use Rattle.std.specs.Option.{option_map_or}
-use Rattle.std.specs.Prelude.{OnOk, if◌then◌else◌, int_le, pos, ℤ, ◌+ℤ◌, ◌-ℤ◌}
+use Rattle.std.specs.Prelude.{if◌then◌else◌, int_le, pos, ℤ, ◌+ℤ◌, ◌-ℤ◌}
 use Rattle.base.specs.Lines.{line_number}
 use Rattle.base.specs.Touch.{Touch}
 use Rattle.base.specs.declared.layout.Range.{Range}
-use Rattle.sharing_rules.specs.AccessLists.{AccessList}
 use Rattle.sharing_rules.specs.Lines.{line_at, native_grid}
-use Rattle.trace_format.specs.Reading.{counted_after}
-use Rattle.trace_format.specs.Rules.{last_position, touches_in}
-use Rattle.trace_format.specs.declared.record.TraceRecord.{TraceRecord}
-use Rattle.trace_format.specs.declared.record.TraceRecord.TheVariants as records
-use Rattle.trace_format.specs.Laws.Touches.{position-next, position-quiet, room-next}
-use Rattle.trace_format.specs.Laws.Touches.{stands-next, stands-none, stands-quiet}
-use Rattle.trace_passes.specs.Rooms.{HasRoom}
 use Rattle.layout_sweep.specs.Laws.Totals.{part-push}
 use Rattle.layout_sweep.specs.Windows.{takes, window_of}
-use Rattle.placement.specs.Passing.{HasRecounted, RecountsFor, RecountsNext, begins_at}
 use Rattle.placement.specs.Plans.{Planned, moved, moved_list}
 use Rattle.placement.specs.Recounts.{is_line_in, is_of_many, many_count, total_in}
-use Rattle.placement.specs.declared.recount.Recount.{Recount}
 
 -- a line by the address at which it ends
 pub line-ends : (n k end : ℕ) (r : Range) → end ≡ k * n
@@ -68,74 +57,3 @@ many-push n many p t a b taken some whole was there is =
     part-in n many p.many (moved_list p t) b taken some whole was is
     ∙ ap (λ (c : Touch). option_map_or (λ r. total_in n r (moved_list p t ++ c ∷ [])) p.many 0) there
     ∙ ap (λ (u : List Touch). option_map_or (λ r. total_in n r u) p.many 0) (sym (moved-push p t a))
-
--- ---- the records
-
--- there is room for one record more
-pub recount-room : (now : Recount) (x : TraceRecord) → HasRoom begins_at HasRecounted now (x ∷ [])
-    → counted_after now.position x ≤ last_position
-recount-room now x r =
-    room-next r.begun.position now.position r.seen x r.given_so_far.position r.first
-    r.begins_there r.room
-
--- what one record changes
-record IsNext (old new : Recount) (x : TraceRecord) : Type 0 where
-  stands : (t : AccessList) → RecountsFor t old → RecountsFor (t ++ touches_in (x ∷ [])) new
-  position : new.position ≡ old.position + length (touches_in (x ∷ []))
-  size : new.size ≡ old.size
-  plan : new.plan ≡ old.plan
-
-recounts-next : (old new : Recount) (x : TraceRecord) → IsNext old new x → RecountsNext old new x
-recounts-next old new x one begun xs so_far =
-    record {
-      stands = λ t stood. stands-next RecountsFor new t xs x
-          (one.stands (t ++ touches_in xs) (so_far.stands t stood));
-      position = position-next begun.position old.position xs x so_far.position new.position
-          one.position;
-      size = one.size ∙ so_far.size;
-      plan = one.plan ∙ so_far.plan;
-    }
-
--- a record that is no access
-quiet-next : (r : Recount) (x : TraceRecord) → touches_in (x ∷ []) ≡ [] → RecountsNext r r x
-quiet-next r x none = recounts-next r r x (record {
-  stands = λ t. stands-quiet RecountsFor r t x none;
-  position = position-quiet r.position x none;
-  size = refl;
-  plan = refl;
-})
-
--- a recount that has seen nothing
-pub recounted-nothing : (r : Recount) → HasRecounted r r []
-recounted-nothing r = record {
-  stands = stands-none RecountsFor r;
-  position = sym (add-zero r.position);
-  size = refl;
-  plan = refl;
-}
-
--- an access
-pub touch-recounted : {A E : Type 0} (r : Result A E) (old new : Recount) (a : Touch)
-    (pc : Option ℕ) (x : TraceRecord) → x ≡ records.Touch a pc
-    → ((t : AccessList) → RecountsFor t old → OnOk r (RecountsFor (t ++ a ∷ []) new))
-    → OnOk r (new.position ≡ old.position + 1) → new.size ≡ old.size → new.plan ≡ old.plan
-    → OnOk r (RecountsNext old new x)
-touch-recounted (Ok u) old new a pc x is stands next size plan =
-    recounts-next old new x (record {
-      stands = λ t stood. subst (λ z. RecountsFor (t ++ touches_in (z ∷ [])) new) (sym is)
-          (stands t stood);
-      position = next ∙ ap (λ z. old.position + length (touches_in (z ∷ []))) (sym is);
-      size = size;
-      plan = plan;
-    })
-touch-recounted (Err e) old new a pc x is stands next size plan = tt
-
--- a record that is none
-pub other-recounted : (r : Recount) (x : TraceRecord) → ((a : Touch) (pc : Option ℕ)
-    → x ≡ records.Touch a pc → ⊥)
-    → RecountsNext r r x
-other-recounted r (records.Touch a pc) other = absurd (other a pc refl)
-other-recounted r (records.Alloc addr size sites) other = quiet-next r _ refl
-other-recounted r (records.Free addr) other = quiet-next r _ refl
-other-recounted r (records.Symbol kind addr size name) other = quiet-next r _ refl
-other-recounted r (records.End e) other = quiet-next r _ refl

@@ -29,7 +29,8 @@ pub text-of_records : (name : List ℕ) (o : Owned) (begun now : Recount) (sums 
     ≡ place_text begun.size name o.extent (touches_in items)
 text-of_records name o begun now sums items owned fresh planned seen summed =
     let t : AccessList = touches_in items in
+    let size : now.size ≡ begun.size = ap (λ (s : ℕ × Planned). s.0) seen.setting in
+    let plan : now.plan ≡ begun.plan = ap (λ (s : ℕ × Planned). s.1) seen.setting in
     text-of_list now.size name o now.plan sums t owned
-    (seen.plan ∙ planned ∙ ap (λ (n : ℕ). plan_of n o) (sym seen.size))
-    (summed t (seen.stands [] fresh))
-    ∙ ap (λ (n : ℕ). place_text n name o.extent t) seen.size
+    (plan ∙ planned ∙ ap (λ (n : ℕ). plan_of n o) (sym size)) (summed t (seen.stands [] fresh))
+    ∙ ap (λ (n : ℕ). place_text n name o.extent t) size

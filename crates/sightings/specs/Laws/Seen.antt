@@ -61,11 +61,12 @@ module _ (items : List TraceRecord) (e : Ending) where
       → HasSeen begun now items
   HasSeen-end begun now seen = record {
     value = seen.value ∙ sighted_after-push begun items (records.End e);
-    stands = λ t stood. subst (λ (list : AccessList). StandsFor (t ++ list) now.watch) touches-end
-        (seen.stands t stood);
-    position = seen.position ∙ ap (λ (list : AccessList). begun.watch.position + length list)
-        touches-end;
+    accesses = record {
+      stands = λ t stood. subst (λ (list : AccessList). StandsFor (t ++ list) now.watch) touches-end
+          (seen.accesses.stands t stood);
+      position = seen.accesses.position
+          ∙ ap (λ (list : AccessList). begun.watch.position + length list) touches-end;
+      setting = seen.accesses.setting;
+    };
     objects = seen.objects ∙ objects_after-end begun.objects begun.watch.position;
-    grid = seen.grid;
-    levels = seen.levels;
   }

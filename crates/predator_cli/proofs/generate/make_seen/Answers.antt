@@ -11,13 +11,10 @@ pub returns-in-Ok-summary_of_seen-clause-text : goal.returns-in-Ok-summary_of_se
 returns-in-Ok-summary_of_seen-clause-text g c =
     let seen = c.in-Ok.ensures.made in
     let count = c.args.count in
-    let begun = c.args.sightings.now.watch in
-    let watch = c.make_trace.new.observer.watch in
-    c.in-Ok-summary_of_seen.ensures (made_accesses count) (seen.stands [] c.requires.stands)
-    ∙ ap (λ (x : Grid). summary_text count (totals_of x watch.levels (made_accesses count)))
-    seen.grid
-    ∙ ap (λ (v : Levels). summary_text count (totals_of begun.grid v (made_accesses count)))
-    seen.levels
+    c.in-Ok-summary_of_seen.ensures (made_accesses count)
+    (seen.accesses.stands [] c.requires.stands)
+    ∙ ap (λ (x : Grid × Levels). summary_text count (totals_of x.0 x.1 (made_accesses count)))
+    seen.accesses.setting
 
 pub returns-in-Err-summary_of_seen-clause-cut : goal.returns-in-Err-summary_of_seen-clause-cut
 returns-in-Err-summary_of_seen-clause-cut g c =

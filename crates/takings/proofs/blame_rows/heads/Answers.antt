@@ -1,5 +1,5 @@
+use Rattle.misses.specs.Laws.Told.{told_more}
 use Rattle.takings.specs.BlameRows.{has_takings, head_of}
-use Rattle.takings.proofs.BlameLaws.{told_more}
 use Rattle.takings.proofs.blame_rows.heads.Goals as goal
 
 pub loop-i-preserved : goal.loop-i-preserved

@@ -1,14 +1,26 @@
-use Rattle.takings.specs.Laws.BlameRecords.{blames-access, blames-none}
+use Rattle.std.proofs.Common.{ℕ, Some, ap, sym}
+use Rattle.std.proofs.lemmas.Result.{on_ok_weaker}
+use Rattle.trace_passes.specs.Laws.Accounts.{other-next, touch-next}
+use Rattle.takings.specs.BlameKept.{Blamed}
+use Rattle.takings.specs.BlameRecords.{blame_account}
+use Rattle.takings.specs.Laws.BlameRecords.{no_site}
+use Rattle.takings.specs.declared.sited.Sited.{Sited}
 use Rattle.takings.proofs.blamed_records.see.Goals as goal
 
 pub returns-in-Touch-clause-next : goal.returns-in-Touch-clause-next
 returns-in-Touch-clause-next c =
-    blames-access c.on_access.result c.args.blame.now c.on_access.new.self c.args.item.now
-    c.in-Touch.access c.in-Touch.pc c.unwrap_or.result c.in-Touch.is c.unwrap_or.ensures
-    c.on_access.ensures.noted c.on_access.ensures.stands
+    let a = c.in-Touch.access in
+    let sited : ℕ → Sited = λ pc. record { access = a; pc = pc } in
+    touch-next blame_account c.on_access.result c.args.blame.now c.on_access.new.self
+    c.args.item.now a c.in-Touch.pc (sited c.unwrap_or.result) c.in-Touch.is
+    (ap (λ (pc : ℕ). Some (sited pc)) (sym c.unwrap_or.ensures)) c.on_access.ensures.stands
+    (on_ok_weaker c.on_access.result
+    (λ noted. (ap (λ (k : Blamed). k.position) noted, ap (λ (k : Blamed). k.grid) noted))
+    c.on_access.ensures.noted)
 
 pub returns-in_default-clause-next : goal.returns-in_default-clause-next
-returns-in_default-clause-next c = blames-none c.args.blame.now c.args.item.now c.in_default.not-Touch
+returns-in_default-clause-next c =
+    other-next blame_account no_site c.args.blame.now c.args.item.now c.in_default.not-Touch
 
 pub returns-in-Touch-clause-known : goal.returns-in-Touch-clause-known
 returns-in-Touch-clause-known c =

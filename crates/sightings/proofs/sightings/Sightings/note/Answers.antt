@@ -1,8 +1,13 @@
-use Rattle.sightings.proofs.NextLaws.{next_end}
+use Rattle.std.proofs.Common.{refl}
+use Rattle.trace_format.specs.declared.record.TraceRecord.TheVariants as records
+use Rattle.sightings.proofs.NextLaws.{next_other}
 use Rattle.sightings.proofs.sightings.Sightings.note.Goals as goal
 
 pub returns-in-End-clause-seen : goal.returns-in-End-clause-seen
-returns-in-End-clause-seen c = rw c.in-End.is (next_end c.args.self.now c.in-End.field-0)
+returns-in-End-clause-seen c =
+    let now = c.args.self.now in
+    rw c.in-End.is
+    (next_other now.watch now.objects now.objects (records.End c.in-End.field-0) refl refl refl)
 
 pub returns-in-Touch-clause-noted : goal.returns-in-Touch-clause-noted
 returns-in-Touch-clause-noted c =

@@ -1,15 +1,13 @@
-use Rattle.objects.specs.Symbols.{kept_symbol}
-use Rattle.sightings.proofs.NextLaws.{next_symbol, on_both, whole_ok}
+use Rattle.std.proofs.Common.{refl}
+use Rattle.std.proofs.lemmas.Result.{on_ok_weaker}
+use Rattle.trace_format.specs.declared.record.TraceRecord.TheVariants as records
+use Rattle.sightings.proofs.NextLaws.{next_other}
 use Rattle.sightings.proofs.sightings.Sightings.note_symbol.Goals as goal
 
 pub returns-clause-seen : goal.returns-clause-seen
 returns-clause-seen c =
-    let one = kept_symbol c.args.kind c.args.addr c.args.size c.args.name.now in
-    let old = c.self.inside.objects.symbols in
     rw (← c.self.view_is)
-    (on_both c.note_symbol.result
-    (next_symbol c.self.inside.detector c.self.inside.objects c.note_symbol.new.self c.args.kind
-    c.args.addr c.args.size c.args.name.now)
-    c.note_symbol.ensures.noted
-    (whole_ok c.note_symbol.result old c.note_symbol.new.self.symbols one
-    c.note_symbol.ensures.whole))
+    (on_ok_weaker c.note_symbol.result
+    (next_other c.self.inside.detector c.self.inside.objects c.note_symbol.new.self
+    (records.Symbol c.args.kind c.args.addr c.args.size c.args.name.now) refl refl)
+    c.note_symbol.ensures.noted)

@@ -1,7 +1,8 @@
 use Rattle.std.proofs.Common.{[]}
+use Rattle.trace_passes.specs.Laws.Accounts.{came-none}
 use Rattle.takings.specs.BlameKept.{nothing_blamed}
+use Rattle.takings.specs.BlameRecords.{blame_account}
 use Rattle.takings.specs.Laws.BlameKept.{stands-empty}
-use Rattle.takings.specs.Laws.BlameRecords.{nothing-seen}
 use Rattle.takings.proofs.blame.Blame.new.Goals as goal
 
 pub invariant_of-result : goal.invariant_of-result
@@ -19,4 +20,4 @@ returns-clause-stands c =
 pub returns-clause-begun : goal.returns-clause-begun
 returns-clause-begun c =
     rw (c.new.ensures.empty, c.new-2.ensures.empty, c.new-3.ensures.empty)
-    (nothing-seen (nothing_blamed c.args.layout))
+    (came-none blame_account (nothing_blamed c.args.layout))
