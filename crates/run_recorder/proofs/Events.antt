@@ -7,11 +7,13 @@ use Rattle.shelf.specs.Shelf.{Outside}
 use Rattle.shelf.specs.declared.shelf.ShelfError.{ShelfError}
 use Rattle.shelf.specs.Files.{Output as AnOutput, AreCut, GoOn}
 use Rattle.shelf.specs.OneFile.{Waiting}
-use Rattle.shelf.specs.Laws.Files.{AreCut-longer}
+use Rattle.shelf.specs.declared.shelf.ShelfError.TheVariants.{NoMemory}
+use Rattle.shelf.specs.Laws.Files.{AreCut-longer, IsOutputs-cut}
 use Rattle.trace_format.specs.declared.record.TraceRecord.{TraceRecord}
 use Rattle.trace_format.specs.declared.record.TraceRecord.TheVariants as records
 use Rattle.trace_format.specs.declared.record.Version.{Version}
 use Rattle.trace_format.specs.declared.record.Header.{Header}
+use Rattle.trace_format.specs.declared.before.Before.{Before}
 use Rattle.trace_format.specs.Spelling.{before_after, nothing_before, spell_records}
 use Rattle.trace_format.specs.Writing.{Writing, before_behind, begun_with}
 use Rattle.trace_format.specs.Laws.Writing.{begun-all, begun-append, begun-more, writer-more}
@@ -22,6 +24,7 @@ use Rattle.run_recorder.specs.declared.run_file.RunFile.{RunFile}
 use Rattle.run_recorder.specs.Recorded.{bytes_of, outputs_for, outputs_of, records_of}
 use Rattle.run_recorder.specs.Recording.{AreCutAfter, AreNoted, behind_records, bytes_so_far}
 use Rattle.run_recorder.specs.Recording.{has_trace, is_trace, output_part, record_part}
+use Rattle.run_recorder.specs.Recording.{records_part}
 use Rattle.run_recorder.proofs.Putting.{longer, more_on}
 
 abbrev head : ℕ → Header
@@ -103,6 +106,61 @@ pub writer_on : (v : Version) (files : List RunFile) (items : List TraceRecord) 
 writer_on v files items w later item behind next traced =
     next traced ∙ writer-more v w items item (behind traced)
 
+-- ---- several records at once
+
+-- nothing more is put where there is no trace
+pub untraced_all : (files : List RunFile) (bytes : Content → List ℕ) (w : Writing)
+    (more : List TraceRecord) → has_trace files ≡ false
+    → outputs_of files bytes ≡ outputs_of files (longer bytes (records_part w more))
+untraced_all files bytes w more none =
+    untraced_as files bytes (longer bytes (records_part w more)) none (sym (append-nil (bytes
+    Output)))
+
+records_bytes : (v : Version) (harts : ℕ) (items more : List TraceRecord) (put : List ℕ)
+    (content : Content)
+    → longer (bytes_so_far v harts items put) (records_part (behind_records v items) more) content
+    ≡ bytes_so_far v harts (items ++ more) put content
+records_bytes v harts items more put Trace = sym (begun-append v (head harts) items more)
+records_bytes v harts items more put Output = append-nil put
+
+-- records more, where the writer of the traces has spelled those before
+pub records_put : (v : Version) (harts : ℕ) (files : List RunFile) (items more : List TraceRecord)
+    (put : List ℕ) (w : Writing) → (has_trace files ≡ true → w ≡ behind_records v items)
+    → outputs_of files (longer (bytes_so_far v harts items put) (records_part w more))
+    ≡ outputs_of files (bytes_so_far v harts (items ++ more) put)
+records_put v harts files items more put w behind =
+    elim (cases_Bool (has_trace files)) [
+      | inl traced ↦
+          ap (λ (x : Writing). outputs_of files
+          (longer (bytes_so_far v harts items put) (records_part x more))) (behind traced)
+          ∙ outputs_as files
+          (longer (bytes_so_far v harts items put) (records_part (behind_records v items) more))
+          (bytes_so_far v harts (items ++ more) put) (records_bytes v harts items more put)
+      | inr none ↦
+          sym (untraced_all files (bytes_so_far v harts items put) w more none)
+          ∙ untraced_as files (bytes_so_far v harts items put)
+          (bytes_so_far v harts (items ++ more) put) none refl
+    ]
+
+before_append : (before : Before) (xs ys : List TraceRecord)
+    → before_behind before (xs ++ ys) ≡ before_behind (before_behind before xs) ys
+before_append before [] ys = refl
+before_append before (x ∷ xs) ys = before_append (before_after before x) xs ys
+
+-- and the writer has spelled them too
+pub writer_behind : (v : Version) (files : List RunFile) (items more : List TraceRecord)
+    (w later : Writing) → (has_trace files ≡ true → w ≡ behind_records v items)
+    → (has_trace files ≡ true → later ≡ record w { before = before_behind w.before more })
+    → has_trace files ≡ true → later ≡ behind_records v (items ++ more)
+writer_behind v files items more w later behind next traced =
+    next traced
+    ∙ ap (λ (x : Writing). let y : Writing =
+    record { version = x.version; before = before_behind x.before more } in y) (behind traced)
+    ∙ ap (λ (b : Before). let y : Writing = record { version = v; before = b } in y)
+    (sym (before_append nothing_before items more))
+
+-- ---- bytes that are put out
+
 output_bytes : (v : Version) (harts : ℕ) (items : List TraceRecord) (put bytes : List ℕ) (content :
     Content)
     → longer (bytes_so_far v harts items put) (output_part bytes) content
@@ -110,7 +168,6 @@ output_bytes : (v : Version) (harts : ℕ) (items : List TraceRecord) (put bytes
 output_bytes v harts items put bytes Trace = append-nil (begun_with v (head harts) items)
 output_bytes v harts items put bytes Output = refl
 
--- bytes that are put out
 pub output_put : (v : Version) (harts : ℕ) (files : List RunFile) (items : List TraceRecord)
     (put bytes : List ℕ)
     → outputs_of files (longer (bytes_so_far v harts items put) (output_part bytes))
@@ -239,6 +296,16 @@ cut_records v harts files items more put before now e cut =
     AreCut-longer (outputs_of files (bytes_so_far v harts items put))
     (outputs_of files (bytes_so_far v harts (items ++ more) put))
     before now e (records_on v harts files items more put) cut
+
+-- what was noted is cut of more records too, where none of them is put and memory is refused
+pub cut_unput : (v : Version) (harts : ℕ) (items more : List TraceRecord) (put : List ℕ)
+    (files : List RunFile) (waiting : List Waiting) (w : Writing) (before now : Outside)
+    → AreNoted v harts items put files waiting w before now
+    → AreCutAfter v harts (items ++ more) put files before now NoMemory
+cut_unput v harts items more put files waiting w before now on =
+    cut_records v harts files items more put before now NoMemory
+    (IsOutputs-cut waiting (outputs_of files (bytes_so_far v harts items put)) before now NoMemory
+    (λ e. cc) on.outputs)
 
 -- ---- answers
 

@@ -4,6 +4,7 @@ pub mod Following
 pub mod Kept
 pub mod Putting
 pub mod Records
+pub mod Spelled
 pub mod Symbols
 pub mod Touching
 pub mod Traced

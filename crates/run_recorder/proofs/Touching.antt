@@ -25,7 +25,7 @@ use Rattle.guest.specs.declared.turn.Touched.{Touched}
 use Rattle.run_recorder.specs.declared.run_file.RunFile.{RunFile}
 use Rattle.run_recorder.specs.Recorded.{outputs_for, pc_for, record_in, records_in}
 use Rattle.run_recorder.specs.Recording.{AreCutAfter, AreNoted, touch_records}
-use Rattle.run_recorder.proofs.Events.{cut_on, cut_records}
+use Rattle.run_recorder.proofs.Events.{cut_on}
 use Rattle.run_recorder.proofs.Following.{Follows, IsGivenOn, cut_seen, follows_more, given_more}
 use Rattle.run_recorder.proofs.Records.{output-append, output-more, records-append, records-more}
 use Rattle.run_recorder.proofs.Records.{touches-among, touches-append, touches-in}
@@ -159,36 +159,22 @@ room_rest begins given now later xs ys r on = record {
       (sym (append_assoc r.seen xs ys)) r.room;
 }
 
--- ---- the first so many are noted
+-- ---- the first so many are seen
 
-pub record TouchesNoted {A : Type 0} (given : A → A → List TraceRecord → Type 0) (v : Version)
-    (touches : List Touched) (place : ℕ) (first now : A) (files : List RunFile)
-    (one two : List Waiting) (w later : Writing) (old new : Outside) : Type 0 where
+pub record TouchesSeen {A : Type 0} (given : A → A → List TraceRecord → Type 0) (v : Version)
+    (touches : List Touched) (place : ℕ) (first now : A) : Type 0 where
   pub given_on : IsGivenOn given first now (touch_records v (take place touches))
   pub good : (harts : ℕ) → AreOfHarts harts touches
       → All (IsGoodRecord v harts) (touch_records v (take place touches))
-  pub noted : (harts : ℕ) (items : List TraceRecord) (put : List ℕ) (before : Outside)
-      → AreNoted v harts items put files one w before old
-      → AreNoted v harts (items ++ touch_records v (take place touches)) put files two later before
-      new
-  pub count : length two ≡ length one
-  pub begun : AreBegun (waiting_names two) new
 
 pub no_touches : {A : Type 0} (given : A → A → List TraceRecord → Type 0) (v : Version)
-    (touches : List Touched) (first : A) (files : List RunFile) (one : List Waiting) (w : Writing)
-    (old : Outside) → AreBegun (waiting_names one) old
-    → TouchesNoted given v touches 0 first first files one one w w old old
-no_touches given v touches first files one w old begun = record {
+    (touches : List Touched) (first : A) → TouchesSeen given v touches 0 first first
+no_touches given v touches first = record {
   given_on = λ b earlier so. subst (given b first) (sym (append-nil earlier)) so;
   good = λ harts theirs. All-nil (IsGoodRecord v harts);
-  noted = λ harts items put before on.
-      subst (λ (l : List TraceRecord). AreNoted v harts l put files one w before old)
-      (sym (append-nil items)) on;
-  count = refl;
-  begun = begun;
 }
 
-one_more : (v : Version) (touches : List Touched) (i : ℕ) (t : Touched) (item : TraceRecord)
+pub one_more : (v : Version) (touches : List Touched) (i : ℕ) (t : Touched) (item : TraceRecord)
     → i < length touches → t ≡ get_or touches i t → item ≡ touch_record v t
     → touch_records v (take i touches) ++ item ∷ [] ≡ touch_records v (take (i + 1) touches)
 one_more v touches i t item below is told =
@@ -199,19 +185,11 @@ one_more v touches i t item below is told =
 
 pub touches_more : {A : Type 0} (given : A → A → List TraceRecord → Type 0) (v : Version)
     (touches : List Touched) (i : ℕ) (t : Touched) (item : TraceRecord) (first now later : A)
-    (files : List RunFile) (one two three : List Waiting) (w1 w2 w3 : Writing)
-    (old mid new : Outside)
     → i < length touches → t ≡ get_or touches i t → item ≡ touch_record v t
     → ((harts : ℕ) → t.access.hart < harts → IsGoodRecord v harts item)
-    → TouchesNoted given v touches i first now files one two w1 w2 old mid
-    → IsGivenOn given now later (item ∷ [])
-    → ((x : Version) (harts : ℕ) (items : List TraceRecord) (put : List ℕ) (before : Outside)
-    → AreNoted x harts items put files two w2 before mid
-    → AreNoted x harts (items ++ item ∷ []) put files three w3 before new)
-    → length three ≡ length two → AreBegun (waiting_names three) new
-    → TouchesNoted given v touches (i + 1) first later files one three w1 w3 old new
-touches_more given v touches i t item first now later files one two three w1 w2 w3 old mid new
-    below is told its so given_on noted_on count begun =
+    → TouchesSeen given v touches i first now → IsGivenOn given now later (item ∷ [])
+    → TouchesSeen given v touches (i + 1) first later
+touches_more given v touches i t item first now later below is told its so given_on =
     let more = one_more v touches i t item below is told in
     record {
       given_on = subst (IsGivenOn given first later) more
@@ -224,14 +202,6 @@ touches_more given v touches i t item first now later files one two three w1 w2 
           subst (All P) more
           (All-append P (touch_records v (take i touches)) (item ∷ []) (so.good harts theirs)
           (All-cons P item [] (its harts (subst Q (sym is) at)) (All-nil P)));
-      noted = λ harts items put before on.
-          subst (λ (l : List TraceRecord). AreNoted v harts l put files three w3 before new)
-          (append_assoc items (touch_records v (take i touches)) (item ∷ [])
-          ∙ ap (λ (l : List TraceRecord). items ++ l) more)
-          (noted_on v harts (items ++ touch_records v (take i touches)) put before
-          (so.noted harts items put before on));
-      count = count ∙ so.count;
-      begun = begun;
     }
 
 -- there is room for one more
@@ -256,45 +226,17 @@ touch_room begins given v touches i t item first now below is told r on =
     all)
     on
 
--- what is cut at one is cut of them all
-pub touches_cut : (v : Version) (harts : ℕ) (touches : List Touched) (i : ℕ) (t : Touched)
-    (item : TraceRecord) (files : List RunFile) (items : List TraceRecord) (put : List ℕ)
-    (before now : Outside) (e : ShelfError) → i < length touches → t ≡ get_or touches i t
-    → item ≡ touch_record v t
-    → AreCutAfter v harts ((items ++ touch_records v (take i touches)) ++ item ∷ []) put files
-    before now e
-    → AreCutAfter v harts (items ++ touch_records v touches) put files before now e
-touches_cut v harts touches i t item files items put before now e below is told cut =
-    let front = touch_records v (take i touches) in
-    let back = touch_records v (drop (i + 1) touches) in
-    let more = one_more v touches i t item below is told in
-    subst (λ (l : List TraceRecord). AreCutAfter v harts l put files before now e)
-    (append_assoc items (touch_records v (take (i + 1) touches)) back
-    ∙ ap (λ (l : List TraceRecord). items ++ l)
-    (sym (map-append (touch_record v) (take (i + 1) touches) (drop (i + 1) touches))
-    ∙ ap (touch_records v) (take-append-drop (i + 1) touches)))
-    (cut_records v harts files (items ++ touch_records v (take (i + 1) touches)) back put before
-    now e
-    (subst (λ (l : List TraceRecord). AreCutAfter v harts l put files before now e)
-    (append_assoc items front (item ∷ []) ∙ ap (λ (l : List TraceRecord). items ++ l) more) cut))
-
--- all of them are noted
-pub record AllNoted {A : Type 0} (given : A → A → List TraceRecord → Type 0) (v : Version)
-    (touches : List Touched) (first now : A) (files : List RunFile)
-    (one two : List Waiting) (w later : Writing) (old new : Outside) : Type 0 where
+-- all of them are seen
+pub record AllSeen {A : Type 0} (given : A → A → List TraceRecord → Type 0) (v : Version)
+    (touches : List Touched) (first now : A) : Type 0 where
   pub given_on : IsGivenOn given first now (touch_records v touches)
   pub good : (harts : ℕ) → AreOfHarts harts touches
       → All (IsGoodRecord v harts) (touch_records v touches)
-  pub noted : (harts : ℕ) (items : List TraceRecord) (put : List ℕ) (before : Outside)
-      → AreNoted v harts items put files one w before old
-      → AreNoted v harts (items ++ touch_records v touches) put files two later before new
 
-pub touches_noted : {A : Type 0} (given : A → A → List TraceRecord → Type 0) (v : Version)
-    (touches : List Touched) (place : ℕ) (first now : A) (files : List RunFile)
-    (one two : List Waiting) (w later : Writing) (old new : Outside) → length touches ≤ place
-    → TouchesNoted given v touches place first now files one two w later old new
-    → AllNoted given v touches first now files one two w later old new
-touches_noted given v touches place first now files one two w later old new all so =
+pub touches_seen : {A : Type 0} (given : A → A → List TraceRecord → Type 0) (v : Version)
+    (touches : List Touched) (place : ℕ) (first now : A) → length touches ≤ place
+    → TouchesSeen given v touches place first now → AllSeen given v touches first now
+touches_seen given v touches place first now all so =
     let whole = take_all place touches all in
     record {
       given_on = subst (λ (ts : List Touched). IsGivenOn given first now (touch_records v ts))
@@ -302,13 +244,9 @@ touches_noted given v touches place first now files one two w later old new all 
       good = λ harts theirs.
           subst (λ (ts : List Touched). All (IsGoodRecord v harts) (touch_records v ts)) whole
           (so.good harts theirs);
-      noted = λ harts items put before on.
-          subst (λ (ts : List Touched). AreNoted v harts (items ++ touch_records v ts) put files
-          two later before new) whole
-          (so.noted harts items put before on);
     }
 
--- and what is noted behind them
+-- what is noted behind them
 
 pub noted_behind : (v : Version) (harts : ℕ) (files : List RunFile) (waiting : List Waiting)
     (w : Writing) (items xs ys : List TraceRecord) (put : List ℕ) (before now : Outside)

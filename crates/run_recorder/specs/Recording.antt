@@ -9,7 +9,7 @@ use Rattle.trace_format.specs.declared.record.TraceRecord.{TraceRecord}
 use Rattle.trace_format.specs.declared.record.TraceRecord.TheVariants as records
 use Rattle.trace_format.specs.declared.record.Version.{Version}
 use Rattle.trace_format.specs.Rules.{touches_in}
-use Rattle.trace_format.specs.Spelling.{nothing_before, spell_record}
+use Rattle.trace_format.specs.Spelling.{nothing_before, spell_record, spell_records}
 use Rattle.trace_format.specs.Writing.{Writing, before_behind, begun_with}
 use Rattle.guest.specs.Configs.{Config}
 use Rattle.guest.specs.SeenTurns.{IsSeen, seen}
@@ -32,6 +32,10 @@ trace_part bytes content.Output = []
 -- of a record, as the writer spells it that comes to it
 abbrev pub record_part : Writing → TraceRecord → Content → List ℕ
 record_part w item = trace_part (spell_record w.version w.before item)
+
+-- of several records, each spelled against those before it
+abbrev pub records_part : Writing → List TraceRecord → Content → List ℕ
+records_part w items = trace_part (spell_records w.version w.before items)
 
 -- of bytes that the guest puts out
 abbrev pub output_part : List ℕ → Content → List ℕ

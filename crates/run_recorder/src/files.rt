@@ -1,4 +1,4 @@
-// The files of a run, on their way, and how the records of a trace are spelled.
+// The files of a run, on their way.
 ghost use Rattle.std.specs.Prelude.{◌≡◌, ◌<◌, ◌≤◌, ◌++◌, ◌∷◌, List, ℕ, [], length, IfErr, OnOk};
 ghost use Rattle.std.specs.Prelude.{true};
 ghost use Rattle.shelf.specs.Shelf.{Outside};
@@ -6,51 +6,21 @@ ghost use Rattle.shelf.specs.Files.{Output, AreCut};
 ghost use Rattle.shelf.specs.OnTheirWay.{AreApart, AreBegun, IsNew, IsOutputs, outputs_with};
 ghost use Rattle.shelf.specs.OnTheirWay.{names_of as waiting_names};
 ghost use Rattle.trace_format.specs.Rules.{IsWritable};
-ghost use Rattle.trace_format.specs.Spelling.{before_after, spell_record as spelled};
-ghost use Rattle.trace_format.specs.Writing.{begin_writing};
+ghost use Rattle.trace_format.specs.Spelling.{before_after};
+ghost use Rattle.trace_format.specs.Writing.{before_behind};
 ghost use Rattle.run_recorder.specs.declared.run_file.Content.{Content as AContent};
 ghost use Rattle.run_recorder.specs.Recorded.{names_of, outputs_of};
 ghost use Rattle.run_recorder.specs.Recording.{AreCutAfter, bytes_so_far, has_trace};
-ghost use Rattle.run_recorder.specs.Recording.{output_part, record_part, trace_part};
+ghost use Rattle.run_recorder.specs.Recording.{output_part, record_part, records_part};
+ghost use Rattle.run_recorder.specs.Recording.{touch_records, trace_part};
 
 use crate::run_file::{Content, RunFile};
-use base::NoMemory;
+use crate::speller::Speller;
+use guest::Touched;
 use shelf::{Shelf, ShelfError};
 use std::alloc::Global;
 use trace_files::TraceOutputs;
-use trace_format::{Header, TraceRecord, TraceWriter, Version};
-
-// Spells the records of a run's trace, one after the other.
-#[derive(Drop)]
-pub(crate) struct Speller {
-    pub(crate) writer: TraceWriter,
-    // the bytes of one record
-    bytes: Vec<u8>,
-}
-
-impl Speller {
-    // Before the first record of a trace of a version.
-    pub(crate) fn new(alloc: Global, version: Version) -> Speller
-        ensures { result.writer ≡ begin_writing version }
-    {
-        Speller {
-            writer: TraceWriter::new(version),
-            bytes: Vec::new(alloc),
-        }
-    }
-
-    // Spells the next record.
-    fn spell(&mut self, item: &TraceRecord) -> Result<(), NoMemory>
-        requires { IsWritable item.now }
-        ensures bytes { OnOk result (self.new.bytes.items
-            ≡ spelled self.old.writer.version self.old.writer.before item.now) }
-        ensures next { OnOk result (self.new.writer
-            ≡ record self.old.writer { before = before_after self.old.writer.before item.now }) }
-    {
-        self.bytes.clear();
-        self.writer.item(item, &mut self.bytes)
-    }
-}
+use trace_format::{Header, TraceRecord, Version};
 
 // Begins a file behind the others, as its content begins.
 fn begin_one<'a, S: Shelf>(
@@ -136,7 +106,7 @@ fn has_trace(files: &[RunFile<'_>]) -> bool
     false
 }
 
-// Puts the bytes of a record into the file at a place, if that is a trace.
+// Puts the bytes of records into the file at a place, if that is a trace.
 fn put_spelled_into<S: Shelf>(
     shelf: &mut S,
     place: usize,
@@ -163,7 +133,7 @@ fn put_spelled_into<S: Shelf>(
     }
 }
 
-// Puts the bytes of a record into each trace.
+// Puts the bytes of records into each trace.
 fn put_spelled<S: Shelf>(
     shelf: &mut S,
     files: &[RunFile<'_>],
@@ -257,6 +227,74 @@ pub(crate) fn put_record<S: Shelf>(
 {
     if has_trace(files) {
         spell_record(shelf, files, outputs, speller, item)
+    } else {
+        Ok(())
+    }
+}
+
+// Spells the accesses, and puts all of them into each trace at once.
+#[inline(never)]
+fn spell_touches<S: Shelf>(
+    shelf: &mut S,
+    files: &[RunFile<'_>],
+    outputs: &mut TraceOutputs<'_>,
+    speller: &mut Speller,
+    version: Version,
+    touches: &[Touched],
+) -> Result<(), ShelfError>
+    requires paired { length outputs.old ≡ length files.now }
+    requires begun { AreBegun (waiting_names outputs.old) (S.outside shelf.old) }
+    ensures count { length outputs.new ≡ length outputs.old }
+    ensures begun { OnOk result (AreBegun (waiting_names outputs.new) (S.outside shelf.new)) }
+    ensures writer { OnOk result (speller.new.writer ≡ record speller.old.writer
+        { before = before_behind speller.old.writer.before (touch_records version touches.now) }) }
+    ensures outputs { OnOk result ((bytes : AContent → List ℕ) (before : Outside)
+        → IsOutputs outputs.old (outputs_of files.now bytes) before (S.outside shelf.old)
+        → IsOutputs outputs.new (outputs_of files.now (λ content. bytes content
+        ++ records_part speller.old.writer (touch_records version touches.now) content))
+        before (S.outside shelf.new)) }
+    ensures cut { IfErr result (λ error. (bytes : AContent → List ℕ) (before : Outside)
+        → IsOutputs outputs.old (outputs_of files.now bytes) before (S.outside shelf.old)
+        → AreCut (outputs_of files.now (λ content. bytes content
+        ++ records_part speller.old.writer (touch_records version touches.now) content))
+        before (S.outside shelf.new) error) }
+{
+    match speller.spell_touches(version, touches) {
+        Ok(()) => put_spelled(shelf, files, outputs, &speller.bytes),
+        Err(_) => Err(ShelfError::NoMemory),
+    }
+}
+
+// Puts the records of accesses into each trace: none is spelled where there is no trace.
+#[inline(always)]
+pub(crate) fn put_touches<S: Shelf>(
+    shelf: &mut S,
+    files: &[RunFile<'_>],
+    outputs: &mut TraceOutputs<'_>,
+    speller: &mut Speller,
+    version: Version,
+    touches: &[Touched],
+) -> Result<(), ShelfError>
+    requires paired { length outputs.old ≡ length files.now }
+    requires begun { AreBegun (waiting_names outputs.old) (S.outside shelf.old) }
+    ensures count { length outputs.new ≡ length outputs.old }
+    ensures begun { OnOk result (AreBegun (waiting_names outputs.new) (S.outside shelf.new)) }
+    ensures writer { OnOk result (has_trace files.now ≡ true
+        → speller.new.writer ≡ record speller.old.writer
+        { before = before_behind speller.old.writer.before (touch_records version touches.now) }) }
+    ensures outputs { OnOk result ((bytes : AContent → List ℕ) (before : Outside)
+        → IsOutputs outputs.old (outputs_of files.now bytes) before (S.outside shelf.old)
+        → IsOutputs outputs.new (outputs_of files.now (λ content. bytes content
+        ++ records_part speller.old.writer (touch_records version touches.now) content))
+        before (S.outside shelf.new)) }
+    ensures cut { IfErr result (λ error. (bytes : AContent → List ℕ) (before : Outside)
+        → IsOutputs outputs.old (outputs_of files.now bytes) before (S.outside shelf.old)
+        → AreCut (outputs_of files.now (λ content. bytes content
+        ++ records_part speller.old.writer (touch_records version touches.now) content))
+        before (S.outside shelf.new) error) }
+{
+    if has_trace(files) {
+        spell_touches(shelf, files, outputs, speller, version, touches)
     } else {
         Ok(())
     }

@@ -10,6 +10,8 @@ mod files;
 mod laws;
 mod notes;
 mod run_file;
+mod speller;
+mod telling;
 mod touches;
 mod whole_run;
 

@@ -7,16 +7,15 @@ ghost use Rattle.shelf.specs.OnTheirWay.{AreBegun, names_of as waiting_names};
 ghost use Rattle.trace_format.specs.declared.record.Version.{Version as AVersion};
 ghost use Rattle.trace_format.specs.Rules.{IsGoodRecord, IsWritable};
 ghost use Rattle.trace_format.specs.declared.record.TraceRecord.{TraceRecord as ARecord};
-ghost use Rattle.trace_format.specs.declared.record.TraceRecord.TheVariants as records;
 ghost use Rattle.trace_format.specs.Writing.{Writing};
 ghost use Rattle.trace_passes.specs.Rooms.{HasRoom};
-ghost use Rattle.run_recorder.specs.Recorded.{pc_for};
 ghost use Rattle.run_recorder.specs.Recording.{AreCutAfter, AreNoted, IsTold, bytes_told};
 ghost use Rattle.run_recorder.specs.Recording.{records_told};
 
-use crate::files::{Speller, put_output, put_record};
+use crate::files::{put_output, put_record};
 use crate::run_file::{Content, RunFile};
-use base::Access;
+use crate::speller::Speller;
+use crate::telling::{alloc_record, free_record, touch_record};
 use guest::{Event, Guest};
 use shelf::{RunShown, Shelf, ShelfError};
 use trace_files::TraceOutputs;
@@ -59,43 +58,6 @@ pub(crate) fn note_record<S: Shelf, O: Observer>(
         Ok(()) => put_record(shelf, files, outputs, speller, item),
         Err(_) => Err(ShelfError::NoMemory),
     }
-}
-
-// The pc that a record of a version has of an access.
-#[inline(always)]
-fn pc_for(version: Version, pc: u32) -> Option<u32>
-    ensures { result ≡ pc_for version pc }
-{
-    match version {
-        Version::Three => Some(pc),
-        Version::One | Version::Two => None,
-    }
-}
-
-// The record of an access by the instruction at `pc`. The access is of an allowed size and place,
-// as its hart says.
-#[inline(always)]
-pub(crate) fn touch_record(version: Version, access: Access, pc: u32) -> TraceRecord
-    ensures value { result ≡ records.Touch access (pc_for version pc) }
-    ensures good { (harts : ℕ) → access.hart < harts → IsGoodRecord version harts result }
-{
-    let _hart = access.hart();
-    TraceRecord::Touch(access, pc_for(version, pc))
-}
-
-// The record of a block.
-fn alloc_record(addr: u32, size: u32, sites: [u32; 4]) -> TraceRecord
-    ensures value { result ≡ records.Alloc addr size sites }
-    ensures good { (v : AVersion) (harts : ℕ) → IsGoodRecord v harts result }
-{
-    TraceRecord::Alloc { addr, size, sites }
-}
-
-fn free_record(addr: u32) -> TraceRecord
-    ensures value { result ≡ records.Free addr }
-    ensures good { (v : AVersion) (harts : ℕ) → IsGoodRecord v harts result }
-{
-    TraceRecord::Free { addr }
 }
 
 // Lets the shelf show bytes that the guest puts out, where no file gets them.

@@ -11,16 +11,44 @@ ghost use Rattle.guest.specs.SeenTurns.{AreOfHarts};
 ghost use Rattle.run_recorder.specs.Recording.{AreCutAfter, AreNoted, IsTold, bytes_told};
 ghost use Rattle.run_recorder.specs.Recording.{records_told, touch_records};
 
-use crate::files::Speller;
-use crate::notes::{note_event, note_record, touch_record};
+use crate::files::put_touches;
+use crate::notes::note_event;
 use crate::run_file::RunFile;
+use crate::speller::Speller;
+use crate::telling::touch_record;
+use base::NoMemory;
 use guest::{Event, Guest, Touched};
 use shelf::{Shelf, ShelfError};
 use trace_files::TraceOutputs;
 use trace_format::Version;
 use trace_passes::Observer;
 
-// The accesses: the observer sees each, and the files get it.
+// The accesses: the observer sees each.
+#[inline(always)]
+fn see_touches<O: Observer>(
+    observer: &mut O,
+    version: Version,
+    touches: &[Touched],
+) -> Result<(), NoMemory>
+    requires room { HasRoom O.begins O.given observer.old (touch_records version touches.now) }
+    ensures given { OnOk result ((begun : O) (earlier : List ARecord)
+        → O.given begun observer.old earlier → O.given begun observer.new
+        (earlier ++ touch_records version touches.now)) }
+    ensures good { OnOk result ((harts : ℕ) → AreOfHarts harts touches.now
+        → All (IsGoodRecord version harts) (touch_records version touches.now)) }
+{
+    for place in 0..touches.len() {
+        let touched = touches[place];
+        let item = touch_record(version, touched.access, touched.pc);
+        match observer.note(&item) {
+            Ok(()) => {}
+            Err(refused) => return Err(refused),
+        }
+    }
+    Ok(())
+}
+
+// The accesses: the observer sees each, and then the files get them.
 #[inline(always)]
 pub(crate) fn note_touches<S: Shelf, O: Observer>(
     shelf: &mut S,
@@ -54,15 +82,10 @@ pub(crate) fn note_touches<S: Shelf, O: Observer>(
     ensures begun { OnOk result (AreBegun (waiting_names outputs.new) (S.outside shelf.new)) }
     ensures count { length outputs.new ≡ length outputs.old }
 {
-    for place in 0..touches.len() {
-        let touched = touches[place];
-        let item = touch_record(version, touched.access, touched.pc);
-        match note_record(shelf, files, outputs, speller, observer, &item) {
-            Ok(()) => {}
-            Err(error) => return Err(error),
-        }
+    match see_touches(observer, version, touches) {
+        Ok(()) => put_touches(shelf, files, outputs, speller, version, touches),
+        Err(_) => Err(ShelfError::NoMemory),
     }
-    Ok(())
 }
 
 // The accesses, and then what is seen of a step of the guest behind them.

@@ -19,9 +19,10 @@ ghost use Rattle.run_recorder.specs.Recorded.{IsKept, IsSymbolRecord, names_of, 
 ghost use Rattle.run_recorder.specs.Recorded.{outputs_of, records_in, trace_for};
 ghost use Rattle.run_recorder.specs.Recording.{AreCutAfter, AreNoted, HasStarted, bytes_so_far};
 
-use crate::files::{Speller, begin};
+use crate::files::begin;
 use crate::notes::note_record;
 use crate::run_file::RunFile;
+use crate::speller::Speller;
 use crate::touches::{note_touches, note_turn};
 use base::{Ending, Outcome};
 use guest::{Guest, Touches, Turn};

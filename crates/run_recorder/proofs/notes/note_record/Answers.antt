@@ -1,16 +1,14 @@
 use Rattle.std.proofs.Common.{◌∷◌, ◌++◌, [], ℕ, List, subst}
 use Rattle.std.proofs.lemmas.Result.{IfErr-weaker}
 use Rattle.shelf.specs.Shelf.{Outside}
-use Rattle.shelf.specs.declared.shelf.ShelfError.TheVariants.{NoMemory}
 use Rattle.shelf.specs.Files.{Output as AnOutput, AreCut}
 use Rattle.shelf.specs.OnTheirWay.{IsOutputs}
-use Rattle.shelf.specs.Laws.Files.{AreCut-longer, IsOutputs-cut}
 use Rattle.trace_format.specs.declared.record.TraceRecord.{TraceRecord}
 use Rattle.trace_format.specs.declared.record.Version.{Version}
 use Rattle.run_recorder.specs.declared.run_file.Content.{Content}
 use Rattle.run_recorder.specs.Recorded.{outputs_of}
 use Rattle.run_recorder.specs.Recording.{AreCutAfter, AreNoted, bytes_so_far, record_part}
-use Rattle.run_recorder.proofs.Events.{both_at_ok, record_put, records_on, writer_on}
+use Rattle.run_recorder.proofs.Events.{both_at_ok, cut_unput, record_put, writer_on}
 use Rattle.run_recorder.proofs.Putting.{longer}
 use Rattle.run_recorder.proofs.notes.note_record.Goals as goal
 
@@ -49,10 +47,5 @@ returns-in-Ok-clause-cut g c =
 -- where the observer finds no memory, what was put stands but for what waits
 pub returns-in-Err-clause-cut : goal.returns-in-Err-clause-cut
 returns-in-Err-clause-cut g c = λ v harts items put before on.
-    let files = c.args.files.now in
-    let old = g.S.Shelf.outside c.args.shelf.now in
-    AreCut-longer (outputs_of files (bytes_so_far v harts items put))
-    (outputs_of files (bytes_so_far v harts (items ++ c.args.item.now ∷ []) put)) before old
-    NoMemory (records_on v harts files items (c.args.item.now ∷ []) put)
-    (IsOutputs-cut c.args.outputs.now (outputs_of files (bytes_so_far v harts items put)) before old
-    NoMemory (λ e. cc) on.outputs)
+    cut_unput v harts items (c.args.item.now ∷ []) put c.args.files.now c.args.outputs.now
+    c.args.speller.now.writer before (g.S.Shelf.outside c.args.shelf.now) on

@@ -1,70 +1,61 @@
-use Rattle.std.proofs.Common.{arith}
-use Rattle.run_recorder.proofs.Touching.{no_touches, touch_room, touches_cut}
-use Rattle.run_recorder.proofs.Touching.{touches_more, touches_noted}
+use Rattle.std.proofs.Common.{◌++◌, ℕ, List, subst}
+use Rattle.std.proofs.lemmas.Result.{IfErr-weaker, on_ok_weaker}
+use Rattle.shelf.specs.Shelf.{Outside}
+use Rattle.shelf.specs.Files.{Output as AnOutput, AreCut}
+use Rattle.shelf.specs.OnTheirWay.{IsOutputs}
+use Rattle.trace_format.specs.declared.record.TraceRecord.{TraceRecord}
+use Rattle.run_recorder.specs.declared.run_file.Content.{Content}
+use Rattle.run_recorder.specs.Recorded.{outputs_of}
+use Rattle.run_recorder.specs.Recording.{AreCutAfter, AreNoted, bytes_so_far, records_part}
+use Rattle.run_recorder.specs.Recording.{touch_records}
+use Rattle.run_recorder.proofs.Events.{both_at_ok, cut_unput, records_put, writer_behind}
+use Rattle.run_recorder.proofs.Putting.{longer}
 use Rattle.run_recorder.proofs.touches.note_touches.Goals as goal
 
-pub loop-place-init : goal.loop-place-init
-loop-place-init g c =
-    no_touches g.O.Observer.given c.args.version c.args.touches.now c.args.observer.now
-    c.args.files.now
-    c.args.outputs.now c.args.speller.now.writer (g.S.Shelf.outside c.args.shelf.now)
-    c.requires.begun
+pub returns-in-Ok-clause-given : goal.returns-in-Ok-clause-given
+returns-in-Ok-clause-given g c =
+    on_ok_weaker c.put_touches.result (λ f. c.in-Ok.ensures.given) c.put_touches.ensures.outputs
 
-pub note_record-requires-clause-room : goal.note_record-requires-clause-room
-note_record-requires-clause-room g c =
-    touch_room g.O.Observer.begins g.O.Observer.given c.args.version c.args.touches.now
-    c.loop-place.place
-    c.index-touches-place.result c.touch_record-item.result c.args.observer.now
-    c.loop-place.observer c.loop-place-test.true c.index-touches-place.is
-    c.touch_record-item.ensures.value c.requires.room c.loop-place.invariant.given_on
+pub returns-in-Ok-clause-good : goal.returns-in-Ok-clause-good
+returns-in-Ok-clause-good g c =
+    on_ok_weaker c.put_touches.result (λ f. c.in-Ok.ensures.good) c.put_touches.ensures.outputs
 
+pub returns-in-Ok-clause-noted : goal.returns-in-Ok-clause-noted
+returns-in-Ok-clause-noted g c =
+    let files = c.args.files.now in
+    let more = touch_records c.args.version c.args.touches.now in
+    let w = c.args.speller.now.writer in
+    let new = g.S.Shelf.outside c.put_touches.new.shelf in
+    both_at_ok c.put_touches.result
+    (λ f next harts items put before on. record {
+      outputs = subst (λ (l : List AnOutput). IsOutputs c.put_touches.new.outputs l before new)
+          (records_put c.args.version harts files items more put w on.writer)
+          (f (bytes_so_far c.args.version harts items put) before on.outputs);
+      writer = writer_behind c.args.version files items more w c.put_touches.new.speller.writer
+          on.writer next;
+    }) c.put_touches.ensures.outputs c.put_touches.ensures.writer
+
+pub returns-in-Ok-clause-cut : goal.returns-in-Ok-clause-cut
+returns-in-Ok-clause-cut g c =
+    let files = c.args.files.now in
+    let more = touch_records c.args.version c.args.touches.now in
+    let w = c.args.speller.now.writer in
+    let old = g.S.Shelf.outside c.args.shelf.now in
+    let new = g.S.Shelf.outside c.put_touches.new.shelf in
+    IfErr-weaker c.put_touches.result (λ e. (bytes : Content → List ℕ) (before : Outside)
+    → IsOutputs c.args.outputs.now (outputs_of files bytes) before old
+    → AreCut (outputs_of files (longer bytes (records_part w more))) before new e)
+    (λ e. (harts : ℕ) (items : List TraceRecord) (put : List ℕ) (before : Outside)
+    → AreNoted c.args.version harts items put files c.args.outputs.now w before old
+    → AreCutAfter c.args.version harts (items ++ more) put files before new e)
+    (λ e cut harts items put before on. subst (λ (l : List AnOutput). AreCut l before new e)
+    (records_put c.args.version harts files items more put w on.writer)
+    (cut (bytes_so_far c.args.version harts items put) before on.outputs))
+    c.put_touches.ensures.cut
+
+-- where the observer finds no memory, what was put stands but for what waits
 pub returns-in-Err-clause-cut : goal.returns-in-Err-clause-cut
 returns-in-Err-clause-cut g c = λ harts items put before on.
-    touches_cut c.args.version harts c.args.touches.now c.loop-place.place
-    c.index-touches-place.result
-    c.touch_record-item.result c.args.files.now items put before
-    (g.S.Shelf.outside c.note_record.new.shelf) c.in-Err.error c.loop-place-test.true
-    c.index-touches-place.is c.touch_record-item.ensures.value
-    (c.in-Err.ensures.cut c.args.version harts _ put before (c.loop-place.invariant.noted harts
-    items put before
-    on))
-
-pub loop-place-preserved : goal.loop-place-preserved
-loop-place-preserved g c =
-    touches_more g.O.Observer.given c.args.version c.args.touches.now c.loop-place.place
-    c.index-touches-place.result c.touch_record-item.result c.args.observer.now
-    c.loop-place.observer c.note_record.new.observer c.args.files.now c.args.outputs.now
-    c.loop-place.outputs c.note_record.new.outputs c.args.speller.now.writer
-    c.loop-place.speller.writer c.note_record.new.speller.writer (g.S.Shelf.outside
-    c.args.shelf.now)
-    (g.S.Shelf.outside c.loop-place.shelf) (g.S.Shelf.outside c.note_record.new.shelf)
-    c.loop-place-test.true c.index-touches-place.is c.touch_record-item.ensures.value
-    c.touch_record-item.ensures.good c.loop-place.invariant c.in-Ok.ensures.given
-    c.in-Ok.ensures.noted c.note_record.ensures.count c.in-Ok.ensures.begun
-
-pub returns-clause-given : goal.returns-clause-given
-returns-clause-given g c =
-    (touches_noted g.O.Observer.given c.args.version c.args.touches.now c.loop-place.place
-    c.args.observer.now
-    c.loop-place.observer c.args.files.now c.args.outputs.now c.loop-place.outputs
-    c.args.speller.now.writer c.loop-place.speller.writer
-    (g.S.Shelf.outside c.args.shelf.now) (g.S.Shelf.outside c.loop-place.shelf)
-    (omega (arith, c.loop-place-test.false)) c.loop-place.invariant).given_on
-
-pub returns-clause-good : goal.returns-clause-good
-returns-clause-good g c =
-    (touches_noted g.O.Observer.given c.args.version c.args.touches.now c.loop-place.place
-    c.args.observer.now
-    c.loop-place.observer c.args.files.now c.args.outputs.now c.loop-place.outputs
-    c.args.speller.now.writer c.loop-place.speller.writer
-    (g.S.Shelf.outside c.args.shelf.now) (g.S.Shelf.outside c.loop-place.shelf)
-    (omega (arith, c.loop-place-test.false)) c.loop-place.invariant).good
-
-pub returns-clause-noted : goal.returns-clause-noted
-returns-clause-noted g c =
-    (touches_noted g.O.Observer.given c.args.version c.args.touches.now c.loop-place.place
-    c.args.observer.now
-    c.loop-place.observer c.args.files.now c.args.outputs.now c.loop-place.outputs
-    c.args.speller.now.writer c.loop-place.speller.writer
-    (g.S.Shelf.outside c.args.shelf.now) (g.S.Shelf.outside c.loop-place.shelf)
-    (omega (arith, c.loop-place-test.false)) c.loop-place.invariant).noted
+    cut_unput c.args.version harts items (touch_records c.args.version c.args.touches.now) put
+    c.args.files.now c.args.outputs.now c.args.speller.now.writer before
+    (g.S.Shelf.outside c.args.shelf.now) on
