@@ -483,8 +483,9 @@ void trace_access(UInt hart, Bool writes, Addr addr, UInt size, UInt pc)
     if (libraries_came)
         read_libraries();
     UInt near = addr / PAGE % 1024;
-    if (near_pages[near].last == (addr | (PAGE - 1)) && size <= 8 && (size & (size - 1)) == 0 && (addr & ((size < 4 ? size : 4) - 1)) == 0 &&
-        addr % PAGE + size <= PAGE && trace.count + 2 * LONGEST_ACCESS <= PIECE && trace_most == 0)
+    Bool is_whole = size <= 8 && (size & (size - 1)) == 0 && (addr & ((size < 4 ? size : 4) - 1)) == 0 && addr % PAGE + size <= PAGE;
+    Bool goes_on = trace_records && (trace_most == 0 || trace_accesses + 2 < trace_most) && trace.count + 2 * LONGEST_ACCESS <= PIECE;
+    if (is_whole && goes_on && near_pages[near].last == (addr | (PAGE - 1)))
         put_whole(hart, writes, near_pages[near].place + addr % PAGE, size, pc);
     else
         put_pieces(hart, writes, addr, size, pc);
