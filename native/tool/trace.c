@@ -376,7 +376,30 @@ void trace_resume(void)
     tell_untold();
 }
 
-static void put_plain(UInt hart, Bool writes, UInt addr, UInt size)
+/* ---- Accesses ---- */
+
+/* The pages that were touched last, each by its last address, with their first address in the trace. */
+static struct { Addr last; UInt place; } near_pages[1024];
+
+/* What the address is in the trace, or 0 where it gets no place. */
+static __attribute__((noinline)) UInt place_anew(Addr addr)
+{
+    UInt near = addr / PAGE % 1024;
+    Int index = region_of(addr, True);
+    if (index < 0)
+        return 0;
+    near_pages[near].place = folded(index, addr) - addr % PAGE;
+    near_pages[near].last = addr | (PAGE - 1);
+    return near_pages[near].place + addr % PAGE;
+}
+
+static inline UInt place_of(Addr addr)
+{
+    UInt near = addr / PAGE % 1024;
+    return near_pages[near].last == (addr | (PAGE - 1)) ? near_pages[near].place + addr % PAGE : place_anew(addr);
+}
+
+static inline void put_plain(UInt hart, Bool writes, UInt addr, UInt size)
 {
     ULong record = (writes ? 2 : 1) | (ULong)hart << 8 | (ULong)addr << 24 | (ULong)size << 56;
     /* (records of blocks have odd sizes) */
@@ -385,7 +408,7 @@ static void put_plain(UInt hart, Bool writes, UInt addr, UInt size)
 }
 
 /* Spells a number that stands for the one before it, in groups of seven bits. */
-static UChar *put_step(UChar *at, UInt number, UInt *before)
+static inline UChar *put_step(UChar *at, UInt number, UInt *before)
 {
     UInt step = number - *before, rest = step << 1 ^ (UInt)((Int)step >> 31);
     *before = number;
@@ -397,9 +420,10 @@ static UChar *put_step(UChar *at, UInt number, UInt *before)
     return at;
 }
 
-static void put_sited(UInt hart, Bool writes, UInt addr, UInt size, UInt pc)
+static UInt last_addr, last_pc[MOST_HARTS];
+
+static inline void put_sited(UInt hart, Bool writes, UInt addr, UInt size, UInt pc)
 {
-    static UInt last_addr, last_pc[MOST_HARTS];
     UChar *at = trace.bytes + trace.count;
     *at++ = (writes ? 0x20 : 0x10) | size;
     *at++ = hart;
@@ -408,20 +432,33 @@ static void put_sited(UInt hart, Bool writes, UInt addr, UInt size, UInt pc)
     trace.count = at - trace.bytes;
 }
 
-void trace_access(UInt hart, Bool writes, Addr addr, UInt size, UInt pc)
+/* One of 1, 2, 4 or 8 bytes that lies whole in a place, which is most of them. That of 8 is two: what is put behind one that isn't, doesn't
+   count. */
+static inline void put_whole(UInt hart, Bool writes, UInt place, UInt size, UInt pc)
 {
-    if (hart >= MOST_HARTS) {
-        trace_stop("more than 256 threads live at a time");
-        return;
+    Bool two = size == 8;
+    UInt piece = two ? 4 : size;
+    if (trace_pcs) {
+        put_sited(hart, writes, place, piece, pc);
+        UInt other = (writes ? 0x24 : 0x14) | hart << 8 | 8 << 16; /* 4 bytes farther, by the same instruction */
+        __builtin_memcpy(trace.bytes + trace.count, &other, sizeof other);
+        last_addr += two ? 4 : 0;
+        trace.count += two ? 4 : 0;
+    } else {
+        put_plain(hart, writes, place, piece);
+        put_plain(hart, writes, place + 4, 4);
+        trace.count -= two ? 0 : 8;
     }
+    trace_accesses += 1 + two;
+}
+
+static __attribute__((noinline)) void put_pieces(UInt hart, Bool writes, Addr addr, UInt size, UInt pc)
+{
     while (size > 0) {
         UInt piece = addr % 4 == 0 && size >= 4 ? 4 : addr % 2 == 0 && size >= 2 ? 2 : 1;
-        if (libraries_came)
-            read_libraries();
-        Int index = region_of(addr, True);
-        if (index < 0 || !trace_records)
+        UInt place = place_of(addr);
+        if (place == 0 || !trace_records)
             return;
-        UInt place = folded(index, addr);
         if (trace.count + LONGEST_ACCESS > PIECE)
             trace_flush();
         if (trace.fd < 0)
@@ -435,4 +472,21 @@ void trace_access(UInt hart, Bool writes, Addr addr, UInt size, UInt pc)
         addr += piece;
         size -= piece;
     }
+}
+
+void trace_access(UInt hart, Bool writes, Addr addr, UInt size, UInt pc)
+{
+    if (hart >= MOST_HARTS) {
+        trace_stop("more than 256 threads live at a time");
+        return;
+    }
+    if (libraries_came)
+        read_libraries();
+    UInt near = addr / PAGE % 1024;
+    Bool is_whole = size <= 8 && (size & (size - 1)) == 0 && (addr & ((size < 4 ? size : 4) - 1)) == 0 && addr % PAGE + size <= PAGE;
+    Bool goes_on = trace_records && (trace_most == 0 || trace_accesses + 2 < trace_most) && trace.count + 2 * LONGEST_ACCESS <= PIECE;
+    if (is_whole && goes_on && near_pages[near].last == (addr | (PAGE - 1)))
+        put_whole(hart, writes, near_pages[near].place + addr % PAGE, size, pc);
+    else
+        put_pieces(hart, writes, addr, size, pc);
 }
