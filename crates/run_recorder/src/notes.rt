@@ -1,6 +1,6 @@
 // What is noted while a run goes on: an observer sees each record, and each file gets what its
 // content says.
-ghost use Rattle.std.specs.Prelude.{◌≡◌, ◌<◌, ◌++◌, ◌∷◌, [], List, ℕ, IfErr, OnOk, length};
+ghost use Rattle.std.specs.Prelude.{◌≡◌, ◌++◌, ◌∷◌, [], List, ℕ, IfErr, OnOk, length};
 ghost use Rattle.std.specs.List.{All};
 ghost use Rattle.shelf.specs.Shelf.{Outside};
 ghost use Rattle.shelf.specs.OnTheirWay.{AreBegun, names_of as waiting_names};
