@@ -80,14 +80,19 @@ def write(found, harts, table, path):
 
 
 def back(path, words):
-    with open(path) as file:
-        # (other lines say more of a program of this machine: docs/NATIVE.md)
-        pages = [[int(it, 16) for it in line.split()] for line in file if line.startswith("0x")]
-    table = dict(pages)
+    pages, code = {}, {}
+    with open(path, errors="surrogateescape") as file:
+        # (of a program of this machine other lines say more, and some name instructions: docs/NATIVE.md)
+        for words_of_line in map(str.split, file):
+            if words_of_line[0].startswith("0x"):
+                pages[int(words_of_line[0], 16)] = int(words_of_line[1], 16)
+            elif words_of_line[0] == "site":
+                code[int(words_of_line[1], 16)] = int(words_of_line[2], 16)
     for word in words:
         addr = int(word, 16)
-        page = table.get(addr // PAGE * PAGE)
-        print(word, "is no address of the trace" if page is None else f"was {page + addr % PAGE:#x}")
+        page = pages.get(addr // PAGE * PAGE)
+        was = code.get(addr) if page is None else page + addr % PAGE
+        print(word, "is no address of the trace" if was is None else f"was {was:#x}")
 
 
 def main(words):

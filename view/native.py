@@ -46,7 +46,9 @@ class Back:
 
     def __init__(self, path: str) -> None:
         self.path, self.program = path, ""
+        # Where pages of the trace and instructions, each by its number, were.
         self.pages: dict[int, int] = {}
+        self.code: dict[int, int] = {}
         self.maps: list[tuple[int, str]] = []
         # Where stacks and mapped files were, each from and to an address, and whose or which it was.
         self.stacks: list[tuple[int, int, int]] = []
@@ -78,8 +80,9 @@ class Back:
             low, high, name = rest.split(" ", 2)
             self.mapped.append((int(low, 16), int(high, 16), name))
         elif kind == "site":
-            addr, _, function, line = SITE.fullmatch(rest).groups()  # type: ignore[union-attr]
+            addr, was, function, line = SITE.fullmatch(rest).groups()  # type: ignore[union-attr]
             self.sites[int(addr, 16)] = [Site(known(function), known(line))]
+            self.code[int(addr, 16)] = int(was, 16)
         elif kind == "frame":
             addr, line, function = FRAME.fullmatch(rest).groups()  # type: ignore[union-attr]
             self.frames.setdefault(int(addr, 16), []).append(Site(known(function), known(line)))
@@ -89,7 +92,7 @@ class Back:
     def was(self, addr: int) -> int | None:
         """What an address of the trace was in the program, or none."""
         page = self.pages.get(addr // PAGE * PAGE)
-        return None if page is None else page + addr % PAGE
+        return self.code.get(addr) if page is None else page + addr % PAGE
 
 
 class File:

@@ -4,9 +4,11 @@ import contextlib
 import mmap
 import os
 import shutil
+import signal
 import subprocess
 import tempfile
-from typing import Iterator
+from types import FrameType
+from typing import Iterator, Sequence
 
 from calls import EXPLAIN, RECORDS, Call
 from faults import Fault
@@ -14,6 +16,8 @@ from program import Predator, launcher
 
 # What the recorder ends with where it refuses words, files or programs.
 REFUSED = (125, 126, 127)
+# Signals that end a program: the first two are handed on to it, and the others come to it from the terminal.
+HANDED_ON, FROM_TERMINAL = (signal.SIGTERM, signal.SIGHUP), (signal.SIGINT, signal.SIGQUIT)
 
 
 def parted(words: list[str], program: str) -> tuple[list[str], list[str]]:
@@ -62,6 +66,32 @@ def traced(call: Call) -> Iterator[None]:
         yield
 
 
+def status_of(words: Sequence[str]) -> int:
+    """What the recorder ends with. What would end this process meanwhile ends the program that is recorded, and what was recorded until then is
+    shown."""
+    came: list[int] = []
+    runs: list[subprocess.Popen[bytes]] = []
+
+    def take(number: int, frame: FrameType | None) -> None:
+        if number in HANDED_ON:
+            came.append(number)
+            for it in runs:
+                it.send_signal(number)
+
+    # (what is ignored stays so, here and in the program)
+    before = {it: old for it in (*HANDED_ON, *FROM_TERMINAL) if (old := signal.getsignal(it)) is not signal.SIG_IGN}
+    for it in before:
+        signal.signal(it, take)
+    try:
+        runs.append(subprocess.Popen(words, stdout=2))
+        for number in came:
+            runs[0].send_signal(number)
+        return runs[0].wait()
+    finally:
+        for it, old in before.items():
+            signal.signal(it, old)
+
+
 @contextlib.contextmanager
 def recorded(call: Call) -> Iterator[None]:
     """Records the program of a call, where it is one of this machine, and has the call name its trace as long as that is there. What the
@@ -75,7 +105,7 @@ def recorded(call: Call) -> Iterator[None]:
         # (as a shell has it, a name with a slash is a file, and another one is looked for)
         name = program if "/" in program or not os.path.isfile(program) else os.path.join(".", program)
         words = [launcher(), "native", *marks_of(call), *recorder, "--trace", trace, "--", name, *call.own[1:]]
-        status = subprocess.run(words, stdout=2).returncode
+        status = status_of(words)
         if not os.path.exists(trace):
             raise Fault(f"`predator native` was refused: status {status}", status if status in REFUSED[2:] else 2)
         call.how, call.subject, call.words, call.own = "replay", trace, [trace, *replay], []

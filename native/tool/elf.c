@@ -1,5 +1,5 @@
-/* The symbols of data in a file that valgrind's own reader leaves out, of what may be written: unique ones, as C++ has for what several
-   files define, and those of a layout that it doesn't know. */
+/* What valgrind's own reader of files leaves out or reads too much of. The symbols of data, of what may be written: unique ones, as C++ has for
+   what several files define, and those of a layout that it doesn't know. And which files' inlined functions are read. */
 #include "parts.h"
 
 #include <elf.h>
@@ -29,12 +29,20 @@ typedef struct {
     Addr from, to;
 } Range;
 
-static Range relocated(Int fd, const Elf64_Ehdr *head)
+typedef struct {
+    Int fd;
+    Elf64_Ehdr *head;
+    Elf64_Shdr *sections;
+    Range without;
+    Addr bias;
+} Elf;
+
+static Range relocated(const Elf *elf)
 {
-    Elf64_Phdr *segments = bytes_at(fd, head->e_phoff, head->e_phnum * sizeof *segments);
+    Elf64_Phdr *segments = bytes_at(elf->fd, elf->head->e_phoff, elf->head->e_phnum * sizeof *segments);
     Range found = {0, 0};
     UInt it;
-    for (it = 0; segments && it < head->e_phnum; it++)
+    for (it = 0; segments && it < elf->head->e_phnum; it++)
         if (segments[it].p_type == PT_GNU_RELRO)
             found = (Range){segments[it].p_vaddr, segments[it].p_vaddr + segments[it].p_memsz};
     if (segments)
@@ -42,12 +50,33 @@ static Range relocated(Int fd, const Elf64_Ehdr *head)
     return found;
 }
 
-typedef struct {
-    const Elf64_Ehdr *head;
-    const Elf64_Shdr *sections;
-    Range without;
-    Addr bias;
-} Elf;
+/* A file with its sections, or none. */
+static Elf opened(const HChar *path)
+{
+    Elf it = {.fd = -1};
+    struct vg_stat what;
+    if (sr_isError(VG_(stat)(path, &what)) || !VKI_S_ISREG(what.mode))
+        return it;
+    SysRes file = VG_(open)(path, VKI_O_RDONLY, 0);
+    if (sr_isError(file))
+        return it;
+    it.fd = sr_Res(file);
+    it.head = bytes_at(it.fd, 0, sizeof *it.head);
+    if (it.head && VG_(strncmp)((HChar *)it.head->e_ident, ELFMAG, SELFMAG) == 0 && it.head->e_shentsize == sizeof(Elf64_Shdr) &&
+        it.head->e_phentsize == sizeof(Elf64_Phdr))
+        it.sections = bytes_at(it.fd, it.head->e_shoff, it.head->e_shnum * sizeof *it.sections);
+    return it;
+}
+
+static void close_elf(Elf *it)
+{
+    if (it->sections)
+        VG_(free)(it->sections);
+    if (it->head)
+        VG_(free)(it->head);
+    if (it->fd >= 0)
+        VG_(close)(it->fd);
+}
 
 static Bool is_data(const Elf *elf, const Elf64_Sym *it)
 {
@@ -63,7 +92,7 @@ static void note_all(const Elf *elf, const Elf64_Sym *symbols, SizeT count, cons
             note_symbol(elf->bias + symbols[it].st_value, symbols[it].st_size, names + symbols[it].st_name, True);
 }
 
-static void read_sections(Int fd, const Elf *elf)
+static void read_sections(const Elf *elf)
 {
     const Elf64_Shdr *own = NULL, *sections = elf->sections, *text;
     UInt it, count = elf->head->e_shnum;
@@ -73,8 +102,8 @@ static void read_sections(Int fd, const Elf *elf)
     if (!own || own->sh_link >= count)
         return;
     text = &sections[own->sh_link];
-    Elf64_Sym *symbols = bytes_at(fd, own->sh_offset, own->sh_size);
-    HChar *names = bytes_at(fd, text->sh_offset, text->sh_size);
+    Elf64_Sym *symbols = bytes_at(elf->fd, own->sh_offset, own->sh_size);
+    HChar *names = bytes_at(elf->fd, text->sh_offset, text->sh_size);
     if (symbols && names)
         note_all(elf, symbols, own->sh_size / sizeof *symbols, names, text->sh_size);
     if (symbols)
@@ -85,21 +114,38 @@ static void read_sections(Int fd, const Elf *elf)
 
 void symbols_left_out(const HChar *path, Addr bias)
 {
-    SysRes file = VG_(open)(path, VKI_O_RDONLY, 0);
-    if (sr_isError(file))
-        return;
-    Int fd = sr_Res(file);
-    Elf64_Ehdr *head = bytes_at(fd, 0, sizeof *head);
-    if (head && VG_(strncmp)((HChar *)head->e_ident, ELFMAG, SELFMAG) == 0 && head->e_shentsize == sizeof(Elf64_Shdr) &&
-        head->e_phentsize == sizeof(Elf64_Phdr)) {
-        Elf64_Shdr *sections = bytes_at(fd, head->e_shoff, head->e_shnum * sizeof *sections);
-        if (sections) {
-            Elf elf = {head, sections, relocated(fd, head), bias};
-            read_sections(fd, &elf);
-            VG_(free)(sections);
-        }
+    Elf it = opened(path);
+    if (it.sections) {
+        it.without = relocated(&it);
+        it.bias = bias;
+        read_sections(&it);
     }
-    if (head)
-        VG_(free)(head);
-    VG_(close)(fd);
+    close_elf(&it);
+}
+
+/* Whether a file has debug information, and not only the name of another one that does. */
+static Bool has_debug_information(const HChar *path)
+{
+    Elf elf = opened(path);
+    const Elf64_Shdr *text = elf.sections && elf.head->e_shstrndx < elf.head->e_shnum ? &elf.sections[elf.head->e_shstrndx] : NULL;
+    HChar *names = text ? bytes_at(elf.fd, text->sh_offset, text->sh_size) : NULL;
+    Bool has = False;
+    UInt it;
+    for (it = 0; names && it < elf.head->e_shnum && !has; it++)
+        has = elf.sections[it].sh_name < text->sh_size && VG_(strcmp)(names + elf.sections[it].sh_name, ".debug_info") == 0;
+    if (names)
+        VG_(free)(names);
+    close_elf(&elf);
+    return has;
+}
+
+/* Valgrind reads a file once it is mapped. Of one whose debug information stands apart, as the C library's, the inlined functions aren't read:
+   that would take a third of the start, and who shows a trace finds them there. */
+ULong __wrap_vgPlain_di_notify_mmap(Addr addr, Bool any_kind, Int fd);
+extern ULong __real_vgPlain_di_notify_mmap(Addr addr, Bool any_kind, Int fd);
+ULong __wrap_vgPlain_di_notify_mmap(Addr addr, Bool any_kind, Int fd)
+{
+    const HChar *path = trace_pcs ? mapped_file(addr) : NULL;
+    VG_(clo_read_inline_info) = path && has_debug_information(path);
+    return __real_vgPlain_di_notify_mmap(addr, any_kind, fd);
 }

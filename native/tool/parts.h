@@ -27,7 +27,7 @@ void spell(UChar *at, ULong value, UInt bytes);
 void trace_put(const UChar *bytes, UInt count);   /* a record that is no access */
 void table_text(const HChar *format, ...) PRINTF_CHECK(1, 2);
 
-UInt code_page(Addr page);                        /* the place of a page of code, which gets one, or 0 */
+UInt code_number(void);                           /* the next instruction's, or 0 */
 
 /* The name without the version of a library behind it, of at most so many bytes: its length. */
 #define NAME_MOST 1024

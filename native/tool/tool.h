@@ -26,6 +26,7 @@
 /* In valgrind's library, and in none of its headers. native/build looks at the version that they belong to. */
 extern SysRes VG_(do_syscall)(UWord number, UWord, UWord, UWord, UWord, UWord, UWord, UWord, UWord);
 extern Int VG_(safe_fd)(Int fd);
+extern Bool VG_(clo_read_inline_info);
 extern const HChar *VG_(strerror)(UWord error);
 extern Int VG_(sigemptyset)(vki_sigset_t *);
 extern Int VG_(sigaddset)(vki_sigset_t *, Int signal);

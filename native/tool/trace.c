@@ -1,8 +1,8 @@
 /* What is written: the trace, version 1 of docs/FORMATS.md or with instructions version 3, and the table back.
 
    Addresses of 64 bits become 32 while the program runs. Regions of 1 MiB get places of 1 MiB and 4 KiB in the order of their first
-   touch, so what lies side by side in a region stays so, and no two regions become neighbours. Pages of code, whose instructions are told
-   with the accesses, get theirs from the other end, so that data lies where it does without. */
+   touch, so what lies side by side in a region stays so, and no two regions become neighbours. Instructions that are told with accesses get
+   numbers from the other end on, so that data lies where it does without; one behind the other, so that the next one is mostly near. */
 #include "parts.h"
 
 #define FIRST 0x10000UL
@@ -226,7 +226,7 @@ void table_text(const HChar *format, ...)
 
 Region regions[MOST_REGIONS];
 UInt region_count;
-static ULong code_end = 1UL << 32; /* the lowest place that a page of code has */
+static ULong code_end = 1UL << 32; /* the lowest number that an instruction has */
 static UInt region_hash[16384];               /* an index and 1, or 0 */
 static struct { Addr region; UInt index; } near_regions[256]; /* the same for what was used last, index and 1 */
 
@@ -278,15 +278,13 @@ UInt folded(UInt index, Addr addr)
     return it->place + offset;
 }
 
-UInt code_page(Addr page)
+UInt code_number(void)
 {
-    if (code_end - PAGE < place_of_region(region_count)) {
+    if (code_end - 1 < place_of_region(region_count)) {
         trace_stop("more than 4080 MiB of addresses were touched");
         return 0;
     }
-    code_end -= PAGE;
-    table_text("0x%08x 0x%lx\n", (UInt)code_end, page);
-    return code_end;
+    return --code_end;
 }
 
 SizeT part_of(Addr region, Addr addr, SizeT size, Addr *first)
