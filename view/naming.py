@@ -49,6 +49,8 @@ BEGUN = (
 
 # Where the headers of C++ and the library of Rust are: what is inlined from there says little.
 LIBRARIES = re.compile(r"/include/c\+\+/|/lib/gcc/|/rustc/[0-9a-f]+/library/")
+# The libraries of C and C++ that each program has, by how their files' names begin.
+OF_LANGUAGE = ("libc.so.", "ld-linux", "libpthread.so.", "libm.so.", "libstdc++.so.", "libc++.so.", "libgcc_s.so.")
 # Sources of the C library's allocator.
 ALLOCATING = re.compile(r"(?:^|/)malloc/(?:malloc|arena)\.c$")
 
@@ -167,6 +169,10 @@ class Naming:
         told = place.short() if place else f"near {near.short()}" if near else self.library(addr) or f"0x{addr:08x}"
         panics = self.panics(addr) if not names else None
         return f"{told} ({' < '.join(names[:2])})" if names else f"{told} ({panics.told()})" if panics else told
+
+    def is_of_language(self, addr: int) -> bool:
+        """Whether an instruction is of a library that each program of its language has."""
+        return self.library(addr).startswith(OF_LANGUAGE)
 
     def is_allocator(self, addr: int) -> bool:
         """Whether an instruction is of the C library's allocator."""

@@ -17,7 +17,7 @@ from overflow import is_strange
 from predicted import UNCOUNTED, Foretold, inside, together
 
 BOLD, RED, DIM, END = "1", "1;31", "2", "0"
-# So many of an object's neighbours are named, and of the objects that a predicted line would have.
+# So many rows are looked at first; so many of an object's neighbours are named, and of the objects that a predicted line would have.
 MOST = 3
 # How a pair takes a line.
 BY = {ATOMIC: "; by an atomic instruction", LOAD: "; from a load", STORE: "; a store over a store", UNKNOWN: ""}
@@ -50,6 +50,15 @@ def outcome(view: View, paint: Paint, width: int) -> Iterator[str]:
         yield from fold(f"time: {view.worth.total()}", "", "      ", width)
         if view.is_clean():
             yield f"nothing here is worth doing: fewer than one access in {RARE:,} misses what another hart has taken"
+
+
+def shared(view: View, rows: Sequence[Thing]) -> str:
+    """That most misses are what threads really share of one object, where that doesn't stand among the first; or nothing."""
+    most = max(rows, key=lambda it: it.useful, default=None)
+    if most is None or most in rows[:MOST] or 2 * most.useful <= view.total():
+        return ""
+    name = view.naming.names.shortened(view.label(most))
+    return f"{most.useful} of the {view.total()} misses that aren't cold are true sharing of one object, in row {rows.index(most) + 1}: {name}"
 
 
 def next_step(view: View) -> str:
@@ -176,9 +185,9 @@ def predictions(view: View, paint: Paint, width: int) -> Iterator[str]:
 def screen(view: View, paint: Paint, width: int = 110) -> Iterator[str]:
     """The whole screen, as lines."""
     yield from outcome(view, paint, width)
-    for it in view.notes:
-        yield from fold(f"note: {it}", "", "      ", width)
     chosen, top = view.listed(), view.call.number("top", TOP)
+    for it in filter(None, (*view.notes, shared(view, chosen))):
+        yield from fold(f"note: {it}", "", "      ", width)
     name = view.call.options.get("object")
     if not view.chosen():
         yield f"nothing is fought over on {plain(name)}" if name else "no line is fought over"

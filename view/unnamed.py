@@ -16,10 +16,14 @@ HEAP = "malloc's own memory"
 ARENA = 1024
 
 
-def worst_pairs(taken: Takings) -> list[int]:
-    """The instructions of the pairs that take a line most often for nothing, the worst first."""
-    pairs = sorted(taken.pairs, key=lambda it: (it.same - it.taken, -it.taken))[:NAMED]
-    return list(dict.fromkeys(at for it in pairs for at in (it.taker, it.victim)))
+def worst_pairs(taken: Takings, naming: Naming) -> list[int]:
+    """The instructions of the pairs that take a line most often for nothing, the worst first. Where these are all of the libraries of a language,
+    as those of locks, the first one that isn't leads."""
+    pairs = sorted(taken.pairs, key=lambda it: (it.same - it.taken, -it.taken))
+    users = list(dict.fromkeys(at for it in pairs for at in (it.taker, it.victim)))
+    worst = list(dict.fromkeys(at for it in pairs[:NAMED] for at in (it.taker, it.victim)))
+    own = next((it for it in users if not naming.is_of_language(it)), None)
+    return worst if own is None or own in worst else [own, *worst]
 
 
 def is_unnamed(thing: Thing, naming: Naming) -> bool:
@@ -75,7 +79,7 @@ def name_by_instructions(things: Iterable[Thing], blame: Blame, naming: Naming) 
     for it in things:
         taken = blame.takings(it.worst().base) if len(found) < MOST and is_unnamed(it, naming) else None
         if taken:
-            found.append((it, worst_pairs(taken)))
+            found.append((it, worst_pairs(taken, naming)))
     naming.prepare({at for _, pcs in found for at in pcs})
     for it, pcs in found:
         name(it, pcs, naming)

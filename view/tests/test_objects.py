@@ -23,10 +23,10 @@ from naming import Memory, Naming, WordKind  # noqa: E402
 from objects import Spot, Thing, Told, holder  # noqa: E402
 from overflow import overflow  # noqa: E402
 from predicted import can_lie, judged, together  # noqa: E402
-from reports import Block, Line, Misses, Pair, Report, Site, Symbol  # noqa: E402
+from reports import Block, Line, Misses, Pair, Report, Site, Symbol, Takings  # noqa: E402
 from screen import Paint, prediction, screen  # noqa: E402
 from source_lines import Place  # noqa: E402
-from unnamed import HEAP, name  # noqa: E402
+from unnamed import HEAP, name, worst_pairs  # noqa: E402
 
 HEAD = "predator report 1\noutcome exit 0\nsteps 9\naccesses 900\nlayout 64 0\nthresholds 16 64 100\n"
 
@@ -335,6 +335,39 @@ class Objects(unittest.TestCase):
             name(view.things[0], [0x100, 0x104], view.naming)
             self.assertEqual(view.things[0].name, wanted)
             self.assertEqual("link another allocator" in view.advised(view.things[0], []), wanted == HEAP)
+
+    def test_instructions_of_the_program_lead_those_of_locks(self):
+        files = {0x10: "libc.so.6+0x10", 0x20: "libc.so.6+0x20", 0x30: "db+0x30", 0x40: "", 0x50: "libc.so.6+0x50", 0x60: "libcx.so+0x60"}
+        naming = Naming(None, SimpleNamespace(library=files.get))
+        locks, waits = Pair(0x10, 0x20, 90, 0), Pair(0x20, 0x10, 80, 0)
+        for others, wanted in (
+            ([], [0x20, 0x10]),
+            ([Pair(0x30, 0x50, 70, 0), Pair(0x40, 0x40, 60, 0)], [0x30, 0x20, 0x10]),
+            ([Pair(0x40, 0x40, 70, 69), Pair(0x30, 0x50, 9, 0)], [0x30, 0x20, 0x10]),
+            ([Pair(0x60, 0x50, 70, 0)], [0x60, 0x20, 0x10]),
+            # (one of the worst two is the program's already)
+            ([Pair(0x40, 0x10, 85, 0), Pair(0x30, 0x50, 70, 0)], [0x20, 0x10, 0x40]),
+        ):
+            self.assertEqual(worst_pairs(Takings(0, [waits, *others, locks], {}), naming), wanted)
+
+    def test_true_sharing_below_the_first_rows_is_told(self):
+        def told(*useful):
+            rows, lines = [], []
+            for at, needed in zip(range(0x1000, 0x2000, 0x40), useful):
+                own = f"object symbol v{at:x} {at:#010x} 4"
+                rows += [f"line observed {at:#010x} 64 start 0 count {9000 - at} verdict false", own, word(at, 5, 50, "many")]
+                lines.append(f"line {at:#010x} cold 2 useful {needed} useless {9000 - at}\n{own}\n")
+            total = f"total cold {2 * len(useful)} useful {sum(useful)} useless {sum(9000 - 0x1000 - 0x40 * it for it in range(len(useful)))}"
+            misses = f"misses 64 0\naccesses 900\nlines {len(lines)}\n{''.join(lines)}{total}\nend\n"
+            text = "\n".join(screen(view_of(rows, misses), Paint(io.StringIO())))
+            return [" ".join(it.split()) for it in text.split("note: ") if "true sharing of one object" in it]
+
+        four = 9000 * 4 - 0x1000 * 4 - 0x40 * 6
+        self.assertTrue(told(0, 0, 0, four + 1)[0].startswith(f"{four + 1} of the {2 * four + 1} misses that aren't cold are true sharing"))
+        self.assertIn("in row 4: v10c0", told(0, 0, 0, four + 1)[0])
+        self.assertEqual(told(0, 0, 0, four), [])
+        self.assertEqual(told(0, 0, four + 1, 0), [])
+        self.assertEqual(told(), [])
 
     def test_of_a_clean_trace_all_is_to_be_left(self):
         rows = ["line observed 0x00001000 64 start 0 count 2 verdict false", "object symbol a 0x00001000 8", word(0x1000, 5, 50, "many")]
