@@ -262,13 +262,13 @@ fi
 
 # A full disk, a limit, a pipe that nobody reads any more: the program goes on, and what stands is a whole trace where it can be.
 refused "a full device" 125 "/dev/full: No space left on device" --trace /dev/full -- ./odd
-said=$(ulimit -f 3000; "$run" --trace t -- ./odd close 2>&1)
+said=$(ulimit -f 1500; "$run" --trace t -- ./odd close 2>&1)
 same "a limit: status" 6 "$?"
 has "a limit" "t: File too large" "$said"
 has "a limit: the program goes on" "closed" "$said"
 same "a limit: end" part "$("$judge" end t)"
 mkdir disk
-if mount -t tmpfs -o size=3m tmpfs disk 2>/dev/null; then
+if mount -t tmpfs -o size=1500k tmpfs disk 2>/dev/null; then
     said=$("$run" --trace disk/t -- ./odd close 2>&1)
     same "a full disk: status" 6 "$?"
     has "a full disk" "disk/t: No space left on device" "$said"
@@ -305,9 +305,9 @@ wait $pid 2>/dev/null
 same "killed: end" part "$("$judge" end t)"
 within "killed: accesses" 250000 1000000000 "$("$judge" accesses t)"
 rm -f t
-# (words of the environment move the stack)
+# (words of the environment move the stack; the pipe has no instructions)
 export KEPT=$work/from-pipe PREDATOR=$work/keeps
-"$run" --quantum 10 --trace whole -- ./kinds >/dev/null 2>&1
+"$run" --quantum 10 --no-pcs --trace whole -- ./kinds >/dev/null 2>&1
 unset PREDATOR
 for at in 20 27 1000 1000003; do
     head -c $at whole >cut.t
@@ -490,6 +490,23 @@ if /usr/bin/python3 -c 'import elftools, jinja2' 2>/dev/null && command -v llvm-
     has "view: no table" "it is no table back" "$said"
     has "view: a table that isn't there" "No such file" "$(view replay t --back nowhere)"
     has "view: a run has no table" "'--back' is for" "$(view run x --back t.table)"
+    # What ends a call that records ends the program, and its screen is shown; an interrupt comes to the program from the terminal.
+    for number in TERM HUP INT; do
+        mkdir view-$number
+        TMPDIR=$work/view-$number PYTHONDONTWRITEBYTECODE=1 setsid env --default-signal "$here/../bin/predator" view native --most 100000000 -- ./forever >said 2>&1 &
+        pid=$!
+        for _ in $(seq 1 100); do
+            trace=$(echo view-$number/predator-view-*/trace)
+            if [ -e "$trace" ]; then break; fi
+            sleep 0.1
+        done
+        longer "$trace" 3000000
+        if [ $number = INT ]; then kill -s INT -- -$pid; else kill -s $number $pid; fi
+        wait $pid
+        same "view: $number: status" 0 $?
+        has "view: $number: the screen" "  counts" "$(cat said)"
+        same "view: $number: nothing is left" "" "$(left_over "$work/forever"; ls view-$number)"
+    done
     . "$here/tries/names.sh"
 else
     skip "view: its packages aren't installed (Debian: python3-pyelftools python3-jinja2 llvm)"

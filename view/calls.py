@@ -67,7 +67,7 @@ LISTS = ("type", "shape")
 # Those that what counts a trace alone takes.
 ALONE = {"sweep": ("html", "top"), "caches": ("html", "shape", "top")}
 # Options of `predator native` that have no value, and those that have one.
-MARKS = ("all", "marked", "child", "built", "pcs")
+MARKS = ("all", "marked", "child", "built", "pcs", "no-pcs")
 RECORDS = ("--quantum", "--most")
 # Options of a replay that goes on from another one, which a trace of a program of this machine doesn't.
 STATES = ("--save", "--resume")

@@ -45,13 +45,13 @@ def is_built(program: str) -> bool:
 
 
 def marks_of(call: Call) -> list[str]:
-    """The words of the recorder that have no value: those of the call, the recorder that the program is for, and that the trace is to have
-    the instructions of its accesses, where these have a use."""
+    """The words of the recorder that have no value: those of the call, the recorder that the program is for, and whether the trace is to have
+    the instructions of its accesses, which it is where these have a use."""
     marks = dict.fromkeys(call.marks)
     if is_built(call.subject):
         marks["--built"] = None
-    if call.number("explain", EXPLAIN) and Predator().has("blame"):
-        marks["--pcs"] = None
+    if "--pcs" not in marks and not (call.number("explain", EXPLAIN) and Predator().has("blame")):
+        marks["--no-pcs"] = None
     return list(marks)
 
 

@@ -127,7 +127,7 @@ def recorded(study: Study, program: str, folder: str) -> str:
         sys.exit(f"run.py: {program} isn't installed")
     most = ["--most", str(study.most)] if study.most else []
     words = [files.get(it, it.replace(FOLDER, folder)) for it in study.words]
-    command = [PREDATOR, "native", "--pcs", *most, "--trace", trace, "--", path, *words]
+    command = [PREDATOR, "native", *most, "--trace", trace, "--", path, *words]
     with subprocess.Popen(command, stdin=subprocess.DEVNULL, stdout=subprocess.DEVNULL) as run:
         if study.clients:
             subprocess.run([os.path.join(TOP, "tools", "clients.py"), *study.clients], check=True)

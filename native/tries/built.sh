@@ -58,11 +58,11 @@ built input 6 "exit 6" hello
 built "many 300" 6 part "many 300"
 built "many 255" 6 "exit 6" "many 255"
 same "built: fork" "6 child parent 0" "$("$run" --built --trace o -- ./odd.tsan fork >o.out 2>&1; echo "$? $(sort o.out | paste -s -d ' ')")"
-said=$(ulimit -f 3000; "$run" --built --trace t -- ./odd.tsan limit 2>&1)
+said=$(ulimit -f 1500; "$run" --built --trace t -- ./odd.tsan limit 2>&1)
 same "built: a limit: status" 6 "$?"
 has "built: a limit" "t: File too large" "$said"
 same "built: a limit: end" part "$("$judge" end t)"
-if mount -t tmpfs -o size=3m tmpfs disk 2>/dev/null; then
+if mount -t tmpfs -o size=1500k tmpfs disk 2>/dev/null; then
     said=$("$run" --built --trace disk/t -- ./odd.tsan limit 2>&1)
     same "built: a full disk: status" 6 "$?"
     has "built: a full disk" "disk/t: No space left on device" "$said"

@@ -51,8 +51,8 @@ refused "--child of what is built" 125 "no child is recorded" --built --child --
 refused "--child: the trace can't be written" 125 "the trace can't be written" --child --trace no/where -- ./odd
 
 # Through the pipe, without a file.
-# (words of the environment move the stack)
-PREDATOR=$work/keeps "$run" --child --trace whole -- ./child threads >/dev/null 2>&1
+# (words of the environment move the stack; the pipe has no instructions)
+PREDATOR=$work/keeps "$run" --child --no-pcs --trace whole -- ./child threads >/dev/null 2>&1
 said=$(pass keeps --child -- ./child threads 2>o.log; echo $?)
 same "--child: pipe: output, status and report" "child 3 4 read" "${said//
 / } $(cat o.log)"

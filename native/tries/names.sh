@@ -53,7 +53,7 @@ if command -v rustc >/dev/null; then
     rustc -O -C codegen-units=1 --remap-path-prefix "$here/tries=/r/registry/own-1.0.0/src" "$here/tries/panics.rs" -o panics.bare \
         >rust.log 2>&1
     strip panics.bare
-    "$run" --pcs --trace n -- ./panics.bare
+    "$run" --trace n -- ./panics.bare
     said=$(view replay n --top 30 --json n.json --html n.html | tr -s '\n ' ' ')
     own="near a panic at own-1.0.0/src/panics.rs:" line=$(grep -n "near\[at\]" "$here/tries/panics.rs" | cut -d: -f1)
     has "stripped Rust: what its names are" "is no place of the code itself, but one where its function may panic" "$said"
@@ -71,7 +71,7 @@ print(*sorted({f"called {it['panics']['called']}, file {it['file']!r}, line {it[
 END
 )"
     # (a trace without pcs tells of no call that it has run)
-    "$run" --trace n -- ./panics.bare
+    "$run" --no-pcs --trace n -- ./panics.bare
     said=$(view replay n --top 30)
     has "stripped Rust, without pcs: a block" "($own" "$said"
     same "stripped Rust, without pcs: what is called" "" "$(grep -o "(called near[^)]*)" <<<"$said" | head -n 1)"

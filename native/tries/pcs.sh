@@ -1,5 +1,5 @@
 # shellcheck shell=bash
-# Part of native/try.sh, which reads it: tries `--pcs`, with which a trace has each access's instruction, in both ways.
+# Part of native/try.sh, which reads it: tries traces that have each access's instruction, in both ways.
 #
 # (try.sh sets the names that aren't set here)
 # shellcheck disable=SC2154
@@ -8,8 +8,8 @@ gcc -O1 -g -pthread "$here/tries/sites.c" -o sites
 gcc -O1 -g -fsanitize=thread -pthread "$here/tries/sites.c" -o sites.tsan -L"$here/out/lib"
 inlined="bump sites.c:10 < work sites.c:22"
 for name in counters sites; do
-    "$run" --trace t -- ./$name >/dev/null 2>&1
-    "$run" --pcs --trace p -- ./$name >/dev/null 2>&1
+    "$run" --no-pcs --trace t -- ./$name >/dev/null 2>&1
+    "$run" --trace p -- ./$name >/dev/null 2>&1
     same "pcs: $name: the same without them" alike "$("$judge" alike p t)"
     same "pcs: $name: each is told once" 0 "$("$judge" untold p)"
 done
@@ -18,10 +18,10 @@ same "no pcs: nothing is told of them" 0 "$(grep -c "^frame " t.table)"
 row=$(grep "^site .* make - .*/sites+0x" t.table)
 has "a call in another section" "sites.c:15" "$(addr2line -e sites "${row##*+}")"
 strip sites -o bare
-"$run" --pcs --trace p -- ./bare >/dev/null 2>&1
+"$run" --trace p -- ./bare >/dev/null 2>&1
 has "pcs: stripped: the file and the place in it" "/bare+0x" "$(grep "^site .* - - " p.table)"
 has "pcs: stripped: a library's function" " start_thread " "$(grep "^site .*/libc.so.6+0x" p.table)"
-"$run" --pcs --quantum 10 --trace p -- ./kinds >/dev/null 2>&1
+"$run" --quantum 10 --trace p -- ./kinds >/dev/null 2>&1
 within "pcs: bytes for 100 accesses" 300 550 "$("$judge" each p)"
 (export KEPT=$work/from-pipe && pass keeps --pcs --table back --quantum 10 -- ./counters >/dev/null 2>&1)
 same "pcs: through the pipe" "exit 0 3" "$("$judge" end from-pipe) $(head -c 8 from-pipe | tail -c 1)"
@@ -36,11 +36,13 @@ cp p kept
 has "pcs: a whole one stays" "it stays as it is" "$("$run" --mend kept)"
 same "pcs: a whole one stays: its bytes" same "$(cmp -s kept p && echo same)"
 refused "pcs: a mend" 125 "stands alone" --mend p --pcs
+refused "pcs: a mend without" 125 "stands alone" --mend p --no-pcs
+refused "pcs: both" 125 "two ways to say what an access has" --pcs --no-pcs --trace p -- ./counters
+same "pcs: the versions" "3 3 1" "$(for words in "" --pcs --no-pcs; do "$run" ${words:+$words} --trace v -- ./counters >/dev/null 2>&1; head -c 8 v | tail -c 1; done | sed 's/./& /g; s/ $//')"
 
 for name in counters sites; do
-    # (the environment is as long)
-    PREDATOR_PCS=0 "$run" --built --trace t -- ./$name.tsan >/dev/null 2>&1
-    PREDATOR_PCS=0 "$run" --built --pcs --trace p -- ./$name.tsan >/dev/null 2>&1
+    "$run" --built --no-pcs --trace t -- ./$name.tsan >/dev/null 2>&1
+    "$run" --built --pcs --trace p -- ./$name.tsan >/dev/null 2>&1
     if setarch -R true 2>/dev/null; then
         same "built: pcs: $name: the same without them" alike "$("$judge" alike p t)"
     fi
