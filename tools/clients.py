@@ -1,12 +1,13 @@
 #!/usr/bin/env python3
 """Puts load on a server of this machine.
 
-usage: tools/clients.py memcached|redis|http PORT CLIENTS TIMES [--anew] [--in-step] [--again]
+usage: tools/clients.py memcached|redis|http|dns PORT CLIENTS TIMES [--anew] [--in-step] [--again]
 
 So many clients at the same time each set a value of 100 bytes and get it back, so often: under a key of their own, or, --anew, under a \
 new one
-each time. Of http each asks for a page. With --in-step all have asked before the first answer is read, and with --again each question has a
-connection of its own. A wrong answer ends it with status 1, and no server on the port within a minute too."""
+each time. Of http each asks for a page, and of dns, over TCP, for a name below `here`, which is to be 10.0.0.1 for an hour. With --in-step
+all have asked before the first answer is read, and with --again each question has a connection of its own. A wrong answer ends it with
+status 1, and no server on the port within a minute too."""
 
 import socket
 import sys
@@ -27,6 +28,13 @@ def redis(key, value):
 
 def http(key, value):
     yield b"GET /%s HTTP/1.1\r\nHost: here\r\n\r\n" % key, b"HTTP/1.1 200 OK\r\n"
+
+
+def dns(key, value):
+    question = b"".join(bytes([len(it)]) + it for it in (key, b"here")) + b"\0\0\1\0\1"
+    asked = b"\x12\x34\1\0\0\1\0\0\0\0\0\0" + question
+    told = b"\x12\x34\x85\x80\0\1\0\1\0\0\0\0" + question + b"\xc0\x0c\0\1\0\1" + (3600).to_bytes(4, "big") + b"\0\4\x0a\0\0\1"
+    yield len(asked).to_bytes(2, "big") + asked, len(told).to_bytes(2, "big") + told
 
 
 def connected(port, until):
@@ -91,7 +99,7 @@ def main(words, options):
             list(pool.map(apart, clients, asked))
 
 
-KINDS = {"memcached": memcached, "redis": redis, "http": http}
+KINDS = {"memcached": memcached, "redis": redis, "http": http, "dns": dns}
 if __name__ == "__main__":
     options = {it for it in sys.argv[1:] if it.startswith("-")}
     words = [it for it in sys.argv[1:] if it not in options]

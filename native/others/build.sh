@@ -3,14 +3,14 @@
 #
 #     build.sh [STUDY ..]        all of them, or those that are named
 #
-# (Debian: apt-get install gcc g++ make libevent-dev libtbb-dev; the two packages have the settings that Debian builds libevent with, and oneTBB's
+# (Debian: apt-get install gcc g++ make libevent-dev libtbb-dev libopenblas-dev; the first two packages have the settings that Debian builds libevent with, and oneTBB's
 # library, of which the headers are what is looked at.)
 set -eu
 here=$(cd "$(dirname "$(readlink -f "$0")")" && pwd)
 fetched=$here/fetched
 out=$here/out
 flags=(-g -O2 -w -pthread)
-studies=(lmdb libevent queue gomp haproxy)
+studies=(lmdb libevent queue gomp haproxy blas)
 
 # NAME: a copy of a source that a repair changes.
 copy() {
@@ -63,6 +63,10 @@ build_queue() {
 build_gomp() {
     gcc "${flags[@]}" -fopenmp "$here/gomp.c" -o "$out/gomp"
     gcc "${flags[@]}" -fopenmp -DAPART "$here/gomp.c" -o "$out/gomp-apart"
+}
+
+build_blas() {
+    gcc "${flags[@]}" "$here/blas.c" -o "$out/blas" -lopenblas
 }
 
 build_haproxy() {

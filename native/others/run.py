@@ -1,9 +1,10 @@
 #!/usr/bin/env python3
-"""Builds and records programs of this machine, each as it is and with its repair, and prints the table of docs/STUDIES.md:
-run.py [--renew] [STUDY ..].
+"""Builds and records programs of this machine, each as it is and with its repair, and prints the table of docs/STUDIES.md, and of each
+program the first three rows of its screen: run.py [--renew] [STUDY ..].
 
-fetch.sh has fetched the sources; build.sh builds them. --renew puts the table into the page. What is counted is what `predator misses`
-prints, and an object's part of it what `predator view` puts together. It ends with 1 where a program doesn't end as it should."""
+fetch.sh has fetched the sources; build.sh builds them. --renew puts the table into the page, and the rows into first_rows.txt. What is
+counted is what `predator misses` prints, and an object's part of it what `predator view` puts together. It ends with 1 where a program
+doesn't end as it should."""
 
 import json
 import os
@@ -22,11 +23,15 @@ sys.path.insert(0, os.path.join(TOP, "guest", "studies"))
 from report import renew, table  # noqa: E402
 
 OUT = os.path.join(HERE, "out")
-# What stands for a new folder, for a text in it, a folder of a thousand texts, sixty objects to be linked, and a server's settings.
-FOLDER, TEXT, TREE, OBJECTS, CONFIG = "FOLDER", "TEXT", "TREE", "OBJECTS", "CONFIG"
+ROWS = os.path.join(HERE, "first_rows.txt")
+# A row of a screen: its place, four numbers, and the object.
+ROW = re.compile(r"^ +([123])(?: +[0-9-]+){4}  (.*)$", re.MULTILINE)
+# What stands for a new folder, for a text in it, a folder of a thousand texts, sixty objects to be linked, a short film, and a server's
+# settings.
+FOLDER, TEXT, TREE, OBJECTS, FILM, CONFIG = "FOLDER", "TEXT", "TREE", "OBJECTS", "FILM", "CONFIG"
 LIBC = "-L/usr/lib/x86_64-linux-gnu"
-# haproxy's: four threads answer by themselves.
-SERVED = """global
+# Four threads answer by themselves.
+HAPROXY = """global
     nbthread 4
 defaults
     mode http
@@ -37,11 +42,28 @@ frontend served
     bind 127.0.0.1:18461
     http-request return status 200 content-type text/plain string ok
 """
+UNBOUND = """server:
+    num-threads: 4
+    interface: 127.0.0.1@18462
+    do-daemonize: no
+    username: ""
+    chroot: ""
+    directory: "/"
+    pidfile: ""
+    use-syslog: no
+    so-reuseport: no
+    module-config: iterator
+    local-zone: "here." redirect
+    local-data: "here. A 10.0.0.1"
+remote-control:
+    control-enable: no
+"""
 
 
 class Study(NamedTuple):
     """A program's builds or Debian's command, its words, and what is looked at in it; `status` is what it ends with, `text` how many bytes
-    its text has, and `most` how many accesses are recorded at most."""
+    its text has, `reads_text` whether that is its input, and `most` how many accesses are recorded at most. Of a server `clients` are the
+    words of tools/clients.py, and `config` its settings."""
 
     builds: Sequence[str]
     words: Sequence[str] = ()
@@ -50,7 +72,9 @@ class Study(NamedTuple):
     status: int = 0
     is_debian: bool = False
     text: int = 400_000
+    reads_text: bool = False
     most: int = 0
+    config: str = ""
 
 
 STUDIES = {
@@ -64,10 +88,30 @@ STUDIES = {
         ["listener.c:", "mux_stopping_data", "stopping", "jobs", "sleeping_thread_mask"],
         ["http", "18461", "8", "60", "--again"],
         status=143,
+        config=HAPROXY,
     ),
+    "unbound": Study(
+        ["unbound"], ["-d", "-c", CONFIG], ["event_assign"], ["dns", "18462", "8", "40", "--again"], is_debian=True, config=UNBOUND
+    ),
+    "rocksdb": Study(
+        ["db_bench"],
+        ["--benchmarks=fillrandom,readrandom", "--num=150", "--threads=4", f"--db={FOLDER}/db"],
+        is_debian=True,
+        most=40_000_000,
+    ),
+    "blas": Study(["blas"]),
     "xz": Study(["xz"], ["-0", "-T4", "--block-size=100000", "-c", TEXT], is_debian=True),
     "zstd": Study(["zstd"], ["-1", "-T4", "-B131072", "-q", "-c", TEXT], is_debian=True, text=600_000),
     "pbzip2": Study(["pbzip2"], ["-1", "-p4", "-b1", "-k", "-c", TEXT], is_debian=True, text=250_000, most=20_000_000),
+    "x264": Study(["x264"], ["--quiet", "--threads", "4", "-o", "/dev/null", FILM], is_debian=True, most=40_000_000),
+    "fzf": Study(["fzf"], ["-f", "7 1"], is_debian=True, text=100_000, reads_text=True, most=40_000_000),
+    "caddy": Study(
+        ["caddy"],
+        ["respond", "--listen", "127.0.0.1:18463", "--body", "ok"],
+        clients=["http", "18463", "8", "20", "--again"],
+        is_debian=True,
+        most=40_000_000,
+    ),
     "ripgrep": Study(["rg"], ["-j4", "-c", "7 1", TREE], is_debian=True),
     "fd": Study(["fdfind"], ["-j4", "7", TREE], is_debian=True),
     "mold": Study(
@@ -88,13 +132,20 @@ def text_of(size: int) -> bytes:
     return " ".join(words[it * it % 4096] for it in range(size // 4)).encode()[:size]
 
 
+def film_of(count: int) -> bytes:
+    """So many pictures of 176 times 144 points, in which a text wanders."""
+    size, line = 176 * 144, text_of(1 << 16)
+    pictures = (b"FRAME\n" + line[2 * it : 2 * it + size] + bytes([128]) * (size // 2) for it in range(count))
+    return b"YUV4MPEG2 W176 H144 F25:1 Ip A1:1 C420jpeg\n" + b"".join(pictures)
+
+
 def made(study: Study, folder: str) -> dict[str, str]:
     """The files that a study's words stand for."""
-    found = {it: os.path.join(folder, it.lower()) for it in (TEXT, TREE, CONFIG)} | {OBJECTS: "@" + os.path.join(folder, "objects")}
-    with open(found[TEXT], "wb") as file:
-        file.write(text_of(study.text))
-    with open(found[CONFIG], "w") as file:
-        file.write(SERVED)
+    found = {it: os.path.join(folder, it.lower()) for it in (TEXT, TREE, CONFIG)}
+    found |= {OBJECTS: "@" + os.path.join(folder, "objects"), FILM: os.path.join(folder, "film.y4m")}
+    for name, data in ((TEXT, text_of(study.text)), (CONFIG, study.config.encode()), (FILM, film_of(8) if FILM in study.words else b"")):
+        with open(found[name], "wb") as file:
+            file.write(data)
     for own in range(40) if TREE in study.words else ():
         os.makedirs(os.path.join(found[TREE], f"folder{own}"))
         for at in range(25):
@@ -128,7 +179,10 @@ def recorded(study: Study, program: str, folder: str) -> str:
     most = ["--most", str(study.most)] if study.most else []
     words = [files.get(it, it.replace(FOLDER, folder)) for it in study.words]
     command = [PREDATOR, "native", *most, "--trace", trace, "--", path, *words]
-    with subprocess.Popen(command, stdin=subprocess.DEVNULL, stdout=subprocess.DEVNULL) as run:
+    with (
+        open(files[TEXT] if study.reads_text else os.devnull, "rb") as own,
+        subprocess.Popen(command, stdin=own, stdout=subprocess.DEVNULL) as run,
+    ):
         if study.clients:
             subprocess.run([os.path.join(TOP, "tools", "clients.py"), *study.clients], check=True)
             time.sleep(1)
@@ -149,17 +203,27 @@ def is_named(name: str) -> bool:
     return not all(re.fullmatch(r"\S+\+0x[0-9a-f]+|0x[0-9a-f]+", it) for it in parts)
 
 
-def row(study: Study, program: str) -> list[object]:
-    """What is counted of a program: all, and what is looked at; and how much of what is useless has a name or a line."""
+def named(name: str) -> str:
+    """A row's object, without what tells it from others of its name and what lies beside it."""
+    name = re.sub(r" \(\d+ lives\).*|, beside .*", "", name)
+    return name if len(name) <= 200 else name[:200] + " .."
+
+
+def row(study: Study, program: str) -> tuple[list[object], str]:
+    """What is counted of a program: all, what is looked at, and how much of what is useless has a name or a line; and its first rows."""
     with tempfile.TemporaryDirectory(prefix="predator-others-") as folder:
-        trace = recorded(study, program, folder)
-        words = [PREDATOR, "view", "replay", trace, "--no-predicted", "--json", "-"]
-        told = subprocess.run(words, stdout=subprocess.PIPE, check=True).stdout
-        found, size = json.loads(told), os.path.getsize(trace)
+        trace, kept = recorded(study, program, folder), os.path.join(folder, "kept.json")
+        words = [PREDATOR, "view", "replay", trace, "--no-predicted", "--json", kept]
+        screen = subprocess.run(words, stdout=subprocess.PIPE, text=True, check=True).stdout
+        with open(kept, encoding="utf-8") as file:
+            found = json.load(file)
+        size = os.path.getsize(trace)
     total, objects = found["total"], found["objects"]
     own = [it for it in objects if any(what in it["name"] + json.dumps(it["sites"]) for what in study.looked_at)]
     known = sum(it["useless"] for it in objects if is_named(it["name"]))
-    return [
+    is_clean = "nothing here is worth doing" in screen
+    rows = "".join(f"  {place}  {named(name)}\n" for place, name in ROW.findall(screen))
+    cells = [
         os.path.basename(program),
         f"{found['accesses']:,}",
         f"{size / found['accesses']:.1f}",
@@ -168,6 +232,7 @@ def row(study: Study, program: str) -> list[object]:
         sum(it["useless"] for it in own) if own else "-",
         f"{100 * known // total['useless']} %" if total["useless"] else "-",
     ]
+    return cells, f"{cells[0]}{': nothing here is worth doing' if is_clean else ''}\n{rows}"
 
 
 def main(words: Sequence[str]) -> int:
@@ -179,10 +244,13 @@ def main(words: Sequence[str]) -> int:
             sys.exit(f"run.py: {it}: the studies are {', '.join(STUDIES)}")
     built(names)
     heads = ["Program", "Accesses", "Bytes each", "Useful", "Useless", "Of the object", "Named"]
-    text = table(heads, [row(STUDIES[name], build) for name in names for build in STUDIES[name].builds])
-    print(text)
+    found = [row(STUDIES[name], build) for name in names for build in STUDIES[name].builds]
+    text, rows = table(heads, [cells for cells, _ in found]), "".join(it for _, it in found)
+    print(text, rows, sep="\n")
     if "--renew" in words:
         renew({"others of this machine": text})
+        with open(ROWS, "w", encoding="utf-8") as file:
+            file.write(f"The first three rows of each program's screen, as native/others/run.py has recorded and shown it.\n\n{rows}")
     return 0
 
 
