@@ -97,7 +97,6 @@ STUDIES = {
         ["db_bench"],
         ["--benchmarks=fillrandom,readrandom", "--num=150", "--threads=4", f"--db={FOLDER}/db"],
         is_debian=True,
-        most=40_000_000,
     ),
     "blas": Study(["blas"]),
     "xz": Study(["xz"], ["-0", "-T4", "--block-size=100000", "-c", TEXT], is_debian=True),
