@@ -29,7 +29,7 @@ SLICES, COUNT, LOWEST, HIGHEST, TEXT = (1, 4, 7, 10, 13, 16), 17, 20, 21, 22
 
 
 class Version(NamedTuple):
-    """How a version of the table is written: the words of its header, how a number of its list of functions is, the record of a function, and
+    """How a version of the table is written: the words of its header, the numbers in its list of functions, the record of a function, and
     that of an inlined call. `data` is the module's word for where trees are, or none where functions have addresses of them."""
 
     words: int
@@ -145,10 +145,10 @@ class Table:
 
     @functools.cache
     def function(self, at: int) -> Function:
-        place = self.functions + self.records[at]
-        told = self.version.function.unpack_from(self.data, place - self.begin)
-        start = self.starts[at]
-        return Function(start, self.starts[at + 1] - start, *told, place + self.version.function.size)
+        place, how = self.functions + self.records[at], self.version.function
+        name, files, lines, tables, unit, pieces = how.unpack_from(self.data, place - self.begin)
+        start, end = self.starts[at : at + 2]
+        return Function(start, end - start, name, files, lines, tables, unit, pieces, place + how.size)
 
     @functools.cache
     def steps(self, table: int) -> tuple[list[int], list[int]]:
@@ -165,11 +165,13 @@ class Table:
             values.append(value)
         return ends, values
 
-    def value(self, table: int, addr: int) -> int:
-        """What a table tells of a place in its function, -1 if nothing."""
-        ends, values = self.steps(table) if table else ([], [])
+    def value(self, table: int, addr: int) -> int | None:
+        """What a table tells of a place in its function: -1 if there is no table, and none behind the end of one."""
+        if not table:
+            return -1
+        ends, values = self.steps(table)
         at = bisect.bisect_right(ends, addr)
-        return values[at] if at < len(values) else -1
+        return values[at] if at < len(values) else None
 
     def text(self, begin: int, end: int, offset: int) -> str:
         """The text at a place of a list of texts, each of which ends with a zero; an empty one where none begins there."""
@@ -183,22 +185,23 @@ class Table:
     def file(self, own: Function, addr: int) -> str:
         """The file that a place in a function is of: each unit that was compiled has a list of its files."""
         number = self.value(own.files, addr)
-        at = self.units + 4 * (own.unit + number)
-        if number < 0 or at + 4 > self.files:
+        at = self.units + 4 * (own.unit + (number or 0))
+        if number is None or number < 0 or at + 4 > self.files:
             return ""
-        offset = int(struct.unpack_from("<I", self.data, at - self.begin)[0])
+        offset = self.number(at)
         file = self.text(self.files, self.values, offset) if offset != MISSING else ""
         return file and os.path.normpath(file)
 
+    def number(self, addr: int) -> int:
+        return int(struct.unpack_from("<I", self.data, addr - self.begin)[0])
+
     def place(self, own: Function, function: str, addr: int) -> Place:
         file, line = self.file(own, addr), self.value(own.lines, addr)
-        return Place(function, file, line) if file and line > 0 else Place(function, "", 0)
+        return Place(function, file, line) if file and line is not None and line > 0 else Place(function, "", 0)
 
-    def index(self, own: Function, addr: int) -> int:
-        """Which inlined call a place in a function is of, or -1."""
-        if own.tables <= INDEX:
-            return -1
-        return self.value(int(struct.unpack_from("<I", self.data, own.at + 4 * INDEX - self.begin)[0]), addr)
+    def index(self, own: Function, addr: int) -> int | None:
+        """Which inlined call a place in a function is of, -1 if of none, or none where that isn't known."""
+        return self.value(self.number(own.at + 4 * INDEX), addr) if own.tables > INDEX else -1
 
     def tree(self, own: Function) -> int:
         """Where a function's inlined calls are, or 0 where that isn't known."""
@@ -207,15 +210,16 @@ class Table:
             return 0
         if self.version.data is None:
             return self.image.word((at + 7) // 8 * 8 + 8 * TREE)
-        offset = int(struct.unpack_from("<I", self.data, at + 4 * TREE - self.begin)[0])
+        offset = self.number(at + 4 * TREE)
         return self.module[self.version.data] + offset if self.module and offset != MISSING else 0
 
     def call(self, own: Function, index: int) -> tuple[str, int]:
         """The name of a function that is inlined, and the place of its call; an empty one where that isn't known."""
         tree, how = self.tree(own), self.version.call
         told = self.image.bytes(tree + how.size * index, how.size) if tree else b""
-        name, place = how.unpack(told) if told else (0, -1)
-        return (self.name(name), place) if 0 <= place < own.size else ("", 0)
+        name, place = how.unpack(told) if told else (0, 0)
+        # (no function that is inlined has the first name; nor has what is no such record but zeros)
+        return (self.name(name), place) if name and 0 <= place < own.size else ("", 0)
 
     def frames(self, addr: int) -> list[Place]:
         """The functions inlined at an address, the innermost first. Where these aren't known it's the line alone: the name of the outer
@@ -224,18 +228,19 @@ class Table:
         if not 0 <= at < self.count:
             return []
         own, found = self.function(at), list[Place]()
-        inner = addr = addr - own.start
-        index = self.index(own, addr)
-        while index >= 0:
-            name, place = self.call(own, index)
-            found.append(self.place(own, name, addr))
-            outer = self.index(own, place)
+        inner = place = addr - own.start
+        index = self.index(own, place)
+        while index is not None and index >= 0:
+            name, call = self.call(own, index)
+            found.append(self.place(own, name, place))
+            outer = self.index(own, call)
             # (a call comes behind the one that it is in)
-            if not name or outer >= index:
-                return [it for it in [self.place(own, "", inner)] if it.file]
-            addr, index = place, outer
+            is_known = name and outer is not None and outer < index
+            place, index = call, outer if is_known else None
         name = self.name(own.name)
-        return [*found, self.place(own, name, addr)] if name else found
+        if index is None or not name:
+            return [it for it in [self.place(own, "", inner)] if it.file]
+        return [*found, self.place(own, name, place)]
 
 
 def table_of(path: str) -> Table | None:

@@ -47,8 +47,8 @@ BEGUN = (
 )
 
 
-# Where the headers of C++ and the library of Rust are: what is inlined from there says little.
-LIBRARIES = re.compile(r"/include/c\+\+/|/lib/gcc/|/rustc/[0-9a-f]+/library/")
+# Where the headers of C++, the library of Rust and Go's atomic operations are: what is inlined from there says little.
+LIBRARIES = re.compile(r"/include/c\+\+/|/lib/gcc/|/rustc/[0-9a-f]+/library/|(?:^|/)(?:sync|runtime/internal|internal/runtime)/atomic/")
 # Sources of the C library's allocator.
 ALLOCATING = re.compile(r"(?:^|/)malloc/(?:malloc|arena)\.c$")
 
@@ -123,7 +123,9 @@ class Naming:
 
     def called(self, site: Site) -> str:
         """The function of a call site, or where it has none its library."""
-        return self.readable(site.name) if site.name != "-" else self.library(site.addr) or site.name
+        if site.name != "-":
+            return self.readable(site.name)
+        return (self.frame(site.addr) if self.site(site) else "") or self.library(site.addr) or site.name
 
     def is_beginning(self, site: Site) -> bool:
         name = self.called(site)

@@ -2,7 +2,7 @@
 
 from typing import Iterable, Sequence
 
-from keys import Key, OfMemory, OfStack
+from keys import Key, OfFile, OfMemory, OfStack
 from naming import OWN, Naming
 from objects import Thing
 from reports import Blame, Block, Takings
@@ -27,7 +27,7 @@ def is_unnamed(thing: Thing, naming: Naming) -> bool:
     it = thing.example
     if isinstance(it, Block):
         return not it.sites or it.size >= ARENA and it.sites[0].name != OWN and naming.type_of_block(it) is None
-    return isinstance(thing.key, (OfMemory, OfStack))
+    return isinstance(thing.key, (OfFile, OfMemory, OfStack))
 
 
 def listing(texts: Iterable[str]) -> str:
@@ -42,6 +42,8 @@ def name(thing: Thing, pcs: Sequence[int], naming: Naming) -> None:
     if isinstance(thing.key, OfStack):
         used = f", used at {users}" if any(map(naming.panics, pcs)) else ""
         thing.name += f", used in {listing(functions)}" if functions else used
+    elif isinstance(thing.key, OfFile):
+        thing.name += f", used at {users}"
     elif not isinstance(it, Block):
         thing.name = HEAP if pcs and all(map(naming.is_allocator, pcs)) else f"{USED} {users}"
     elif not it.sites:
