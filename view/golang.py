@@ -217,9 +217,8 @@ class Table:
         """The name of a function that is inlined, and the place of its call; an empty one where that isn't known."""
         tree, how = self.tree(own), self.version.call
         told = self.image.bytes(tree + how.size * index, how.size) if tree else b""
-        name, place = how.unpack(told) if told else (0, 0)
-        # (no function that is inlined has the first name; nor has what is no such record but zeros)
-        return (self.name(name), place) if name and 0 <= place < own.size else ("", 0)
+        name, place = how.unpack(told) if any(told) else (0, -1)
+        return (self.name(name), place) if 0 <= place < own.size else ("", 0)
 
     def frames(self, addr: int) -> list[Place]:
         """The functions inlined at an address, the innermost first. Where these aren't known it's the line alone: the name of the outer

@@ -71,7 +71,7 @@ class Store:
 
 
 class Made:
-    """A program with a table. `way` is how its addresses are written: `fixed`, or moved by relocations with `addends` or by `packed` ones."""
+    """A program with a table. `way` is how addresses are written: `fixed`, or moved by relocations with `addends` or by `packed` ones."""
 
     def __init__(self, version: str = "1.18", way: str = "fixed", own: Sequence[Own] = OWN, has_module: bool = True) -> None:
         self.version, self.way, self.own, self.is_wide = version, way, own, version == "1.16"
@@ -141,7 +141,8 @@ class Made:
         name, files, lines, index, tree = told
         tables, pieces = (3 if own.index else 2), (4 if own.calls else 3)
         self.start(place, start)
-        rest = struct.pack("<I12xIIII", name, files, lines, tables, own.unit) + b"\0" * (7 if self.version == "1.20" else 3) + bytes([pieces])
+        unread = 7 if self.version == "1.20" else 3
+        rest = struct.pack("<I12xIIII", name, files, lines, tables, own.unit) + bytes(unread) + bytes([pieces])
         place += 8 if self.is_wide else 4
         # (the other tables and pieces are of what isn't read here)
         self.put(place, rest + struct.pack("<III", 1, 1, index)[: 4 * tables])
