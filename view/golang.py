@@ -68,9 +68,8 @@ class Loaded(Image):
 
     def pointing(self, to: int) -> Iterator[int]:
         """The words that are an address."""
-        if not self.is_fixed:
-            return (addr for addr, it in self.moved.items() if it == to)
-        return (it for it in self.found(to.to_bytes(8, "little")) if it % 8 == 0)
+        moved = (addr for addr, it in self.moved.items() if it == to)
+        return self.found(to.to_bytes(8, "little")) if self.is_fixed else moved
 
 
 class Function(NamedTuple):

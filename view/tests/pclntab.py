@@ -24,7 +24,7 @@ class Own(NamedTuple):
     has_tree: bool = True
 
 
-# (the last file is left out of the program)
+# (the last file is left out of the program; where no call is inlined the table that would tell it may be there or not)
 FILES = ["/src/a.go", "/src/b.go", "lib//c.go", None]
 OWN = [
     Own("main.plain", 32, 0, [(1, 32)], [(7, 16), (8, 8), (6, 8)]),
@@ -58,7 +58,7 @@ class Store:
     """Bytes that are put behind each other, each piece once."""
 
     def __init__(self, first: bytes) -> None:
-        self.data, self.places = first, dict[bytes, int]()
+        self.data, self.places = first, {first: 0}
 
     def put(self, piece: bytes) -> int:
         if piece not in self.places:
@@ -78,7 +78,7 @@ class Made:
         self.pointers: dict[int, int] = {}
         self.starts = [TEXT + sum(it.size for it in own[:at]) for at in range(len(own) + 1)]
         self.parts = {TEXT: bytearray(b"\xcc" * (self.starts[-1] - TEXT)), TABLE: bytearray(0x2000), MODULE: bytearray(0x200)}
-        self.names, self.files, self.values, self.trees = Store(b"go.buildid\0"), Store(b"first.go\0"), Store(b"\0"), Store(b"\0" * 8)
+        self.names, self.files, self.values, self.trees = Store(b"go.buildid\0"), Store(b"/src/a.go\0"), Store(b"\0"), Store(b"\0" * 8)
         told = [self.told(it) for it in own]
         units = b"".join(struct.pack("<I", MISSING if it is None else self.files.text(it)) for it in FILES)
         self.places = [TABLE + (64 if self.is_wide else 72)]
@@ -95,7 +95,7 @@ class Made:
 
     def told(self, own: Own) -> tuple[int, int, int, int, int]:
         """Where a function's name, files, lines, tables of inlined calls and tree are."""
-        found = [self.values.put(encoded(it)) for it in (own.files, own.lines, own.index)]
+        found = [self.values.put(encoded(it)) if it else 0 for it in (own.files, own.lines, own.index)]
         calls = [(self.names.text(name), place) for name, place in own.calls]
         how = struct.Struct("<4xIi4x") if self.version == "1.20" else struct.Struct("<hxxiiIi")
         tree = b"".join(how.pack(*it) if self.version == "1.20" else how.pack(at - 1, 0, 0, *it) for at, it in enumerate(calls))
@@ -139,7 +139,7 @@ class Made:
     def function(self, place: int, own: Own, start: int, told: tuple[int, int, int, int, int]) -> int:
         """Puts a function's record, and tells where the next one may be."""
         name, files, lines, index, tree = told
-        tables, pieces = (3 if own.index else 2), (4 if own.calls else 3)
+        tables, pieces = (3 if own.index or own.unit else 2), (4 if own.calls else 3)
         self.start(place, start)
         unread = 7 if self.version == "1.20" else 3
         rest = struct.pack("<I12xIIII", name, files, lines, tables, own.unit) + bytes(unread) + bytes([pieces])

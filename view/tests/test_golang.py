@@ -20,6 +20,7 @@ from calling import HERE, TOP
 sys.path[:0] = [os.path.dirname(HERE), os.path.join(TOP, "native", "others")]
 
 import golang  # noqa: E402
+import mangled  # noqa: E402
 from fields import sound  # noqa: E402
 from golang import Table, table_of  # noqa: E402
 from keys import OfFile  # noqa: E402
@@ -210,17 +211,36 @@ class Strange(OfBytes):
             made.put(MODULE + 8 * 38, struct.pack("<Q", to))
             self.assertEqual([tuple(it) for it in self.table(made).frames(TEXT + 48)], [("", B, 20)], hex(to))
 
-    def test_names_and_files(self):
+    def test_names(self):
         made = Made()
-        # (a name that begins within another one)
+        # (one that begins within another one, and one that is longer than all)
         made.put(made.records[0] + 4, struct.pack("<I", made.get(made.records[0] + 4) + 1))
         self.assertEqual(self.table(made).frames(TEXT), [Place("", B, 7)])
+        with mock.patch.object(golang, "NAME", len("main.plain")):
+            self.assertEqual(self.table(Made()).frames(TEXT), [Place("", B, 7)])
+        with mock.patch.object(golang, "NAME", len("main.plain") + 1):
+            self.assertEqual(self.table(Made()).frames(TEXT), [Place("main.plain", B, 7)])
+
+    def test_files(self):
         made = Made()
-        made.put(made.places[1] + 4, struct.pack("<I", made.get(made.places[1] + 4) + 1))
-        self.assertEqual(self.table(made).frames(TEXT), [Place("main.plain", "", 0)])
-        made = Made()
-        made.put(made.records[0] + 20, struct.pack("<I", 1 << 30))
-        self.assertEqual(self.table(made).frames(TEXT), [Place("main.plain", "", 0)])
+        for place, value in (
+            # (one that begins within another one, and a table that isn't there)
+            (made.places[1] + 4, made.get(made.places[1] + 4) + 1),
+            (made.records[0] + 20, 1 << 30),
+            (made.records[0] + 20, 0),
+        ):
+            made = Made()
+            made.put(place, struct.pack("<I", value))
+            self.assertEqual(self.table(made).frames(TEXT), [Place("main.plain", "", 0)], (hex(place), value))
+        # (no file, and one behind the list of them)
+        for unit, at in ((2, -1), (0, (TABLE + 0x1800 - made.places[1]) // 4), (1 << 20, 0)):
+            made = Made(own=[OWN[0]._replace(unit=unit, files=[(at, 32)])])
+            self.assertEqual(self.table(made).frames(TEXT), [Place("main.plain", "", 0)], (unit, at))
+
+    def test_lines(self):
+        for line in (-1, 0, -7):
+            made = Made(own=[OWN[0]._replace(lines=[(line, 32)])])
+            self.assertEqual(self.table(made).frames(TEXT), [Place("main.plain", "", 0)])
 
     def test_what_ends_early(self):
         whole = Made().bytes()
@@ -250,26 +270,44 @@ class Strange(OfBytes):
                         for it in native.frames(mock.Mock(path=self.path), TEXT + at):
                             self.assertTrue(it.function or it.file)
 
+    def test_segments_without_end(self):
+        """Of segments that are the whole file again and again few are read, and relocations that tell of too many words end."""
+        made = Made(way="packed")
+        made.parts[0x900000] = bytearray(1 << 20)
+        data = bytearray(made.bytes())
+        table, count = struct.unpack_from("<Q", data, 32)[0], struct.unpack_from("<H", data, 56)[0]
+        one = struct.pack("<IIQQQQQQ", 1, 6, 0, 0x1000000, 0x1000000, len(data), len(data), 8)
+        struct.pack_into("<Q", data, 32, len(data))
+        struct.pack_into("<H", data, 56, 60000)
+        begin = time.process_time()
+        self.assertIsNotNone(self.table(bytes(data + data[table : table + 56 * count] + one * (60000 - count))))
+        made.parts[0x900000] = bytearray(b"\xff" * (1 << 20))
+        made.moves = lambda: (b"", b"".join(struct.pack("<QQ", *it) for it in ((36, 0x900000), (35, 1 << 20), (0, 0))))
+        self.assertIsNotNone(self.table(made))
+        self.assertLess(time.process_time() - begin, 4)
+
     def test_what_is_large_takes_no_time(self):
-        """Headers, pointers and steps without end."""
-        made = Made()
-        head = bytes(made.parts[TABLE][:72])
-        many = b"".join(struct.pack("<Q", TABLE) for _ in range(1 << 20))
-        # (each step of one byte: more than are read)
-        values = b"\2\1" * (1 << 22)
-        for grown in (head * (1 << 17), many, values):
+        """Headers and pointers without end, and more functions than any program has."""
+        head = bytes(Made().parts[TABLE][:72])
+        for grown in (head * (1 << 15), struct.pack("<Q", TABLE) * (1 << 18)):
             made = Made()
-            made.parts[0x900000] = bytearray(grown)
+            made.parts = {0x10000: bytearray(grown), **made.parts}
             begin = time.process_time()
             table = self.table(made)
-            if grown is values:
-                table.frames(TEXT)
-                table.begin, table.data, table.values = 0x900000, grown, 0x900000
-                table.steps(0)
-                self.assertEqual(len(table.steps(0)[0]), golang.STEPS - sum(map(len, (it.lines for it in OWN[:1]))) - 1)
-                self.assertEqual(table.steps(2), ([], []))
-            elif grown is many:
-                self.assertIsNotNone(table)
+            self.assertEqual(table and table.frames(TEXT), None if grown[:4] == head[:4] else [Place("main.plain", B, 7)])
+            self.assertLess(time.process_time() - begin, 4)
+        with mock.patch.object(golang, "FUNCTIONS", len(OWN) - 1):
+            self.assertIsNone(self.table(Made()))
+
+    def test_steps_without_end(self):
+        table = self.table(Made())
+        # (steps of one byte, and a number of too many)
+        for values in (b"\2\1" * (1 << 22), b"\xff" * (1 << 19)):
+            begin = time.process_time()
+            table.begin, table.data, table.values, table.left = 0, values, 0, golang.STEPS
+            table.steps.cache_clear()
+            self.assertEqual(len(table.steps(0)[0]), golang.STEPS if values[0] == 2 else 0)
+            self.assertEqual(table.steps(2), ([], []))
             self.assertLess(time.process_time() - begin, 4)
 
 
@@ -338,6 +376,21 @@ class Names(OfBytes):
             native.back.sites = {}
             sources = NativeSources(native)
             self.assertEqual(sources.frames(TEXT + 144), [Place("own", "", 0)])
+
+    def test_short_names(self):
+        names = mangled.Names()
+        for whole, wanted in (
+            ("github.com/junegunn/fzf/src.(*Matcher).scan.func1", "src.(*Matcher).scan.func1"),
+            ("gopkg.in/yaml%2ev3.(*parser).parse", "yaml.v3.(*parser).parse"),
+            ("type..eq.github.com/junegunn/fzf/src.previewed", "type..eq.src.previewed"),
+            ("type:.hash.net/http.Cookie", "type:.hash.http.Cookie"),
+            ("type..eq.[...]internal/cpu.option", "type..eq.[...]internal/cpu.option"),
+            ("sync/atomic.(*Pointer[...]).Load", "atomic.(*Pointer[...]).Load"),
+            ("main.most[go.shape.int]", "main.most[go.shape.int]"),
+            ("tls12.PRF[go.shape.interface { Reset(); Write([]uint8) (int, error) }]", "tls12.PRF[...]"),
+            ("a/sync.(*Map[go.shape.interface {},go.shape.interface {}]).Load", "sync.(*Map[...]).Load"),
+        ):
+            self.assertEqual(names.shortened(names.readable(whole)), wanted)
 
     def test_atomic_operations(self):
         files = ("/usr/lib/go-1.19/src/runtime/internal/atomic/types.go", "sync/atomic/type.go", "internal/runtime/atomic/types.go")
