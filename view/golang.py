@@ -18,8 +18,8 @@ HEAD = b"\xff\xff\xff\0\0\1\x08"
 HEADERS, POINTERS = 8, 64
 # A table has at most so many functions, and so many steps of its tables of values are taken.
 FUNCTIONS, STEPS = 1 << 20, 1 << 21
-# A name has at most so many bytes.
-NAME = 1 << 12
+# A name has at most so many bytes, and inlined calls are within one another at most so often.
+NAME, DEEP = 1 << 12, 256
 # What a function's record has of inlining: which table of values tells the inlined call, and which piece of data is the tree of calls.
 INDEX, TREE = 2, 3
 # A piece of data, or a file, that isn't there.
@@ -139,7 +139,7 @@ class Table:
         low, high = self.starts[0], self.starts[-1]
         is_code = any(begin <= low and high <= begin + len(code) for begin, code in self.image.code)
         is_module = not self.module or (self.module[LOWEST], self.module[HIGHEST]) == (low, high)
-        if not is_code or not is_module or any(it >= other for it, other in itertools.pairwise(self.starts)):
+        if not is_code or not is_module or any(it > other for it, other in itertools.pairwise(self.starts)):
             raise ValueError("its functions aren't in order")
 
     @functools.cache
@@ -233,7 +233,7 @@ class Table:
             found.append(self.place(own, name, place))
             outer = self.index(own, call)
             # (a call comes behind the one that it is in)
-            is_known = name and outer is not None and outer < index
+            is_known = name and outer is not None and outer < index and len(found) <= DEEP
             place, index = call, outer if is_known else None
         name = self.name(own.name)
         if index is None or not name:

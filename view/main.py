@@ -75,8 +75,9 @@ def program_of(call: Call) -> "tuple[Program | NativeProgram | None, Sources | N
 def lacking(native: "NativeProgram | None") -> str:
     """What a program has in the place of debug information, what is unknown for this, and how that comes to be known."""
     package = ", or install its package of debug information (Debian: NAME-dbgsym)" if native else ""
-    if native and native.has_table():
-        return f"Go's table of functions and lines, but no types, so fields are unknown: build it without -s and -w{package}"
+    if native and native.has_go_table():
+        how = f"leave it unstripped, without -s and -w in -ldflags{package}"
+        return f"Go's table of functions and lines, but no types, so fields are unknown: {how}"
     how = f"build it with -g{package}"
     if native and native.has_panics():
         how += "; `near a panic at` is no place of the code itself, but one where its function may panic"

@@ -48,7 +48,9 @@ BEGUN = (
 
 
 # Where the headers of C++, the library of Rust and Go's atomic operations are: what is inlined from there says little.
-LIBRARIES = re.compile(r"/include/c\+\+/|/lib/gcc/|/rustc/[0-9a-f]+/library/|(?:^|/)(?:sync|runtime/internal|internal/runtime)/atomic/")
+LIBRARIES = re.compile(
+    r"/include/c\+\+/|/lib/gcc/|/rustc/[0-9a-f]+/library/|(?:^|/)(?:sync|runtime/internal|internal/runtime)/atomic/[^/]*\.go$"
+)
 # Sources of the C library's allocator.
 ALLOCATING = re.compile(r"(?:^|/)malloc/(?:malloc|arena)\.c$")
 

@@ -164,7 +164,7 @@ class NativeProgram:
     def __init__(self, back: Back) -> None:
         self.back, self.files = back, [File(*it) for it in back.maps]
         self.panics: dict[str, Panics | None] = {}
-        self.tables: dict[str, Table | None] = {}
+        self.go_tables: dict[str, Table | None] = {}
         self.path = back.program
         own = next((it for it in self.files if os.path.realpath(it.path) == os.path.realpath(self.path)), None)
         self.main, self.own = own.program() if own else Program(self.path), own
@@ -218,20 +218,20 @@ class NativeProgram:
         panics = self.panics_of(self.own.path) if self.own and self.own.is_stripped else None
         return panics is not None and bool(panics.places)
 
-    def table(self, path: str) -> Table | None:
+    def go_table(self, path: str) -> Table | None:
         """The table of functions and lines that a program of Go has, or none."""
-        if path not in self.tables:
-            self.tables[path] = sound(lambda: table_of(path), None)
-        return self.tables[path]
+        if path not in self.go_tables:
+            self.go_tables[path] = sound(lambda: table_of(path), None)
+        return self.go_tables[path]
 
-    def frames(self, file: File, addr: int) -> list[Place]:
+    def go_frames(self, file: File, addr: int) -> list[Place]:
         """The functions at an address of a file as a table of Go's tells them, the innermost first."""
-        table = self.table(file.path)
+        table = self.go_table(file.path)
         return sound(functools.partial(table.frames, addr), []) if table else []
 
-    def has_table(self) -> bool:
+    def has_go_table(self) -> bool:
         """Whether the program itself has a table of Go's."""
-        return self.own is not None and self.table(self.own.path) is not None
+        return self.own is not None and self.go_table(self.own.path) is not None
 
     def type_named(self, text: str) -> Die:
         """A type of the program, or else of one of its libraries."""
@@ -320,7 +320,7 @@ class NativeSources(Sources):
                 self.places[it] = places(json.loads(row))
         for it, own, addr in asked:
             if not has_line(self.places[it]):
-                found = self.native.frames(own, addr)
+                found = self.native.go_frames(own, addr)
                 self.places[it] = found if has_line(found) else self.places[it] or found
         for it in wanted:
             if not has_line(self.places[it]):

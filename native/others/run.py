@@ -140,8 +140,7 @@ def recorded(study: Study, program: str, folder: str) -> str:
 
 def is_named(name: str) -> bool:
     """Whether an object is called by a name or a line of a source, and not by places alone, as `block made in fd+0x1e42e2 < fd+0x34231`. A
-    place of a panic counts, but for one of the standard library; that memory is of the program or a library, which is nothing more than its
-    places say, doesn't."""
+    place of a panic counts, but for one of the standard library; that a file has the memory doesn't, where its own code alone uses that."""
     if re.match("memory at|block without", name):
         return False
     if re.search(r"near (?:a panic|panics) at (?!library/)", name):

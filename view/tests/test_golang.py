@@ -2,6 +2,7 @@
 each version of the table, and over one of Go where the compiler is there."""
 
 import functools
+import itertools
 import json
 import os
 import random
@@ -28,7 +29,7 @@ from main import lacking  # noqa: E402
 from naming import Naming  # noqa: E402
 from native import NativeProgram, NativeSources, Site  # noqa: E402
 from objects import Thing  # noqa: E402
-from pclntab import MODULE, OWN, TABLE, TEXT, Made  # noqa: E402
+from pclntab import MODULE, OWN, TABLE, TEXT, Made, encoded  # noqa: E402
 from reports import Site as Called  # noqa: E402
 from run import is_named  # noqa: E402
 from source_lines import Place  # noqa: E402
@@ -161,8 +162,12 @@ class Strange(OfBytes):
 
     def test_functions(self):
         first = Made().places[4]
-        for at, start in ((1, 0), (1, 33 + 64), (0, 32), (6, 160), (6, 1 << 20), (0, 1 << 31)):
+        for at, start in ((1, 97), (0, 33), (6, 159), (6, 1 << 20), (0, 1 << 31)):
             self.refused(first + 8 * at, struct.pack("<I", start), has_module=False)
+        # (one without any code)
+        made = Made()
+        made.put(first + 8, bytes(4))
+        self.assertEqual([it[-1].function for it in map(self.table(made).frames, (TEXT, TEXT + 63))], ["main.outer"] * 2)
         self.refused(TABLE + 24, struct.pack("<Q", TEXT - 16), has_module=False)
         # (data is no code)
         self.refused(TABLE + 24, struct.pack("<Q", MODULE), has_module=False)
@@ -204,6 +209,11 @@ class Strange(OfBytes):
             self.assertEqual(self.table(made).frames(TEXT + 48)[0], Place("go.buildid", B, 20))
             made.put(inner, bytes(size))
             self.assertEqual(self.table(made).frames(TEXT + 48), [Place("", B, 20)])
+
+    def test_how_deep_calls_are(self):
+        for deep, wanted in ((2, TOLD[64]), (1, [("", B, 50)])):
+            with mock.patch.object(golang, "DEEP", deep):
+                self.assertEqual([tuple(it) for it in self.table(Made()).frames(TEXT + 64)], wanted)
 
     def test_a_tree_elsewhere(self):
         for to in (0, TABLE + 0x1100, TABLE + 0x10000, TABLE + 0x1FF8, (1 << 64) - 8):
@@ -265,9 +275,9 @@ class Strange(OfBytes):
                         data[dice.randrange(len(data))] = dice.choice((0, 1, 0x7F, 0x80, 0xFF, dice.randrange(256)))
                     with open(self.path, "wb") as file:
                         file.write(data)
-                    native.tables = {}
+                    native.go_tables = {}
                     for at in TOLD:
-                        for it in native.frames(mock.Mock(path=self.path), TEXT + at):
+                        for it in native.go_frames(mock.Mock(path=self.path), TEXT + at):
                             self.assertTrue(it.function or it.file)
 
     def test_segments_without_end(self):
@@ -299,6 +309,13 @@ class Strange(OfBytes):
         with mock.patch.object(golang, "FUNCTIONS", len(OWN) - 1):
             self.assertIsNone(self.table(Made()))
 
+    def test_steps(self):
+        table = self.table(Made())
+        for told in ([(5, 4)], [(-1, 1), (300, 200), (-5, 1 << 20), (0, 1)]):
+            table.begin, table.values, table.data = 0, 0, encoded(told) + encoded([(7, 4)])
+            table.steps.cache_clear()
+            self.assertEqual(table.steps(0), ([*itertools.accumulate(it for _, it in told)], [it for it, _ in told]))
+
     def test_steps_without_end(self):
         table = self.table(Made())
         # (steps of one byte, and a number of too many)
@@ -315,9 +332,9 @@ class Native:
     """A program of this machine: a file with a table, and one without."""
 
     def __init__(self, path):
-        self.path, self.back, self.tables, self.own = path, mock.Mock(frames={}, sites={}), {}, None
+        self.path, self.back, self.go_tables, self.own = path, mock.Mock(frames={}, sites={}), {}, None
         self.one, self.other = mock.Mock(path=path, debug=path), mock.Mock(path="/bin/sh", debug="/bin/sh")
-        self.table, self.frames = (functools.partial(it, self) for it in (NativeProgram.table, NativeProgram.frames))
+        self.go_table, self.go_frames = (functools.partial(it, self) for it in (NativeProgram.go_table, NativeProgram.go_frames))
 
     def file(self, addr):
         return (self.one if addr < 1 << 31 else self.other), addr % (1 << 31)
@@ -387,6 +404,7 @@ class Names(OfBytes):
             ("type..eq.[...]internal/cpu.option", "type..eq.[...]internal/cpu.option"),
             ("sync/atomic.(*Pointer[...]).Load", "atomic.(*Pointer[...]).Load"),
             ("main.most[go.shape.int]", "main.most[go.shape.int]"),
+            ("main.(*stack[go.shape.int]).push", "main.(*stack[go.shape.int]).push"),
             ("tls12.PRF[go.shape.interface { Reset(); Write([]uint8) (int, error) }]", "tls12.PRF[...]"),
             ("a/sync.(*Map[go.shape.interface {},go.shape.interface {}]).Load", "sync.(*Map[...]).Load"),
         ):
@@ -397,8 +415,10 @@ class Names(OfBytes):
         for file in files:
             told = [Place("atomic.Add", file, 3), Place("main.own", "own.go", 4)]
             self.assertEqual(Naming(None, None, mock.Mock(frames=lambda _, told=told: told)).instruction(8), "own.go:4 (main.own)")
-        told = [Place("x.Add", "x/unsync/atomic/x.go", 3), Place("main.own", "own.go", 4)]
-        self.assertEqual(Naming(None, None, mock.Mock(frames=lambda _: told)).instruction(8), "x.go:3 (x.Add < main.own)")
+        for file in ("x/unsync/atomic/x.go", "x/sync/atomic/x.h"):
+            told = [Place("x.Add", file, 3), Place("main.own", "own.go", 4)]
+            told_as = Naming(None, None, mock.Mock(frames=lambda _, told=told: told)).instruction(8)
+            self.assertEqual(told_as, f"{os.path.basename(file)}:3 (x.Add < main.own)")
 
     def test_memory_of_a_file(self):
         naming, native = self.naming()
@@ -427,15 +447,16 @@ class Names(OfBytes):
 
     def test_what_is_lacking(self):
         package = ", or install its package of debug information (Debian: NAME-dbgsym)"
+        go = "Go's table of functions and lines, but no types, so fields are unknown"
         none = "no debug information, so fields and source lines are unknown: build it with -g"
         near = "; `near a panic at` is no place of the code itself, but one where its function may panic"
         self.assertEqual(lacking(None), none)
         for has_table, has_panics, wanted in (
             (False, False, none + package),
             (False, True, none + package + near),
-            (True, False, f"Go's table of functions and lines, but no types, so fields are unknown: build it without -s and -w{package}"),
+            (True, False, f"{go}: leave it unstripped, without -s and -w in -ldflags{package}"),
         ):
-            native = mock.Mock(has_table=lambda told=has_table: told, has_panics=lambda told=has_panics: told)
+            native = mock.Mock(has_go_table=lambda told=has_table: told, has_panics=lambda told=has_panics: told)
             self.assertEqual(lacking(native), wanted)
 
 
