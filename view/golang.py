@@ -22,8 +22,6 @@ FUNCTIONS, STEPS = 1 << 20, 1 << 21
 NAME, DEEP = 1 << 12, 256
 # What a function's record has of inlining: which table of values tells the inlined call, and which piece of data is the tree of calls.
 INDEX, TREE = 2, 3
-# A piece of data, or a file, that isn't there.
-MISSING = 0xFFFFFFFF
 # Words of the runtime's record of a module: the slices that lie in the table, how many functions these have, and the code's first word.
 SLICES, COUNT, LOWEST, HIGHEST, TEXT = (1, 4, 7, 10, 13, 16), 17, 20, 21, 22
 
@@ -187,8 +185,7 @@ class Table:
         at = self.units + 4 * (own.unit + (number or 0))
         if number is None or number < 0 or at + 4 > self.files:
             return ""
-        offset = self.number(at)
-        file = self.text(self.files, self.values, offset) if offset != MISSING else ""
+        file = self.text(self.files, self.values, self.number(at))
         return file and os.path.normpath(file)
 
     def number(self, addr: int) -> int:
@@ -209,15 +206,14 @@ class Table:
             return 0
         if self.version.data is None:
             return self.image.word((at + 7) // 8 * 8 + 8 * TREE)
-        offset = self.number(at + 4 * TREE)
-        return self.module[self.version.data] + offset if self.module and offset != MISSING else 0
+        return self.module[self.version.data] + self.number(at + 4 * TREE) if self.module else 0
 
     def call(self, own: Function, index: int) -> tuple[str, int]:
         """The name of a function that is inlined, and the place of its call; an empty one where that isn't known."""
         tree, how = self.tree(own), self.version.call
         told = self.image.bytes(tree + how.size * index, how.size) if tree else b""
         name, place = how.unpack(told) if any(told) else (0, -1)
-        return (self.name(name), place) if 0 <= place < own.size else ("", 0)
+        return (self.name(name), place) if place >= 0 else ("", 0)
 
     def frames(self, addr: int) -> list[Place]:
         """The functions inlined at an address, the innermost first. Where these aren't known it's the line alone: the name of the outer

@@ -139,16 +139,16 @@ class Made:
     def function(self, place: int, own: Own, start: int, told: tuple[int, int, int, int, int]) -> int:
         """Puts a function's record, and tells where the next one may be."""
         name, files, lines, index, tree = told
-        tables, pieces = (3 if own.index or own.unit else 2), (4 if own.calls else 3)
+        tables, pieces = (4 if own.index else 3 if own.unit else 2), (4 if own.calls else 3)
         self.start(place, start)
         unread = 7 if self.version == "1.20" else 3
         rest = struct.pack("<I12xIIII", name, files, lines, tables, own.unit) + bytes(unread) + bytes([pieces])
         place += 8 if self.is_wide else 4
         # (the other tables and pieces are of what isn't read here)
-        self.put(place, rest + struct.pack("<III", 1, 1, index)[: 4 * tables])
+        self.put(place, rest + struct.pack("<IIII", 1, 1, index, 1)[: 4 * tables])
         place += len(rest) + 4 * tables
         if not self.is_wide:
-            self.put(place, struct.pack("<IIII", 0, MISSING, 0, tree)[: 4 * pieces])
+            self.put(place, struct.pack("<IIII", 1, MISSING, 1, tree)[: 4 * pieces])
             return (place + 4 * pieces + 7) // 8 * 8
         place = (place + 7) // 8 * 8
         if own.calls and tree != MISSING:

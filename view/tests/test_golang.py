@@ -203,6 +203,14 @@ class Strange(OfBytes):
                 else:
                     self.assertEqual(found, [("", B, 50)], (version, hex(place), value))
                 self.assertEqual(table.frames(TEXT + 80), [Place("main.outer", A, 302)])
+            # (the outer one behind the inner one; and a record without a tree)
+            made = Made(version)
+            made.put(inner + place_at, struct.pack("<I", 47))
+            made.put(deep + place_at, struct.pack("<I", 15))
+            self.assertEqual(self.table(made).frames(TEXT + 48), [Place("", B, 20)])
+            made = Made(version)
+            made.put(made.records[1] + {"1.18": 39}.get(version, 43), b"\3")
+            self.assertEqual(self.table(made).frames(TEXT + 48), [Place("", B, 20)])
             # (the first name is one like others, unless nothing at all is there)
             made = Made(version)
             made.put(inner + name_at, bytes(4))
@@ -226,6 +234,8 @@ class Strange(OfBytes):
         # (one that begins within another one, and one that is longer than all)
         made.put(made.records[0] + 4, struct.pack("<I", made.get(made.records[0] + 4) + 1))
         self.assertEqual(self.table(made).frames(TEXT), [Place("", B, 7)])
+        made.put(made.records[1] + 4, struct.pack("<I", made.get(made.records[1] + 4) + 1))
+        self.assertEqual(self.table(made).frames(TEXT + 48), [Place("", B, 20)])
         with mock.patch.object(golang, "NAME", len("main.plain")):
             self.assertEqual(self.table(Made()).frames(TEXT), [Place("", B, 7)])
         with mock.patch.object(golang, "NAME", len("main.plain") + 1):
@@ -333,7 +343,7 @@ class Native:
 
     def __init__(self, path):
         self.path, self.back, self.go_tables, self.own = path, mock.Mock(frames={}, sites={}), {}, None
-        self.one, self.other = mock.Mock(path=path, debug=path), mock.Mock(path="/bin/sh", debug="/bin/sh")
+        self.one, self.other = mock.Mock(path=path, debug="/bin/sh"), mock.Mock(path="/bin/sh", debug="/bin/sh")
         self.go_table, self.go_frames = (functools.partial(it, self) for it in (NativeProgram.go_table, NativeProgram.go_frames))
 
     def file(self, addr):
@@ -444,6 +454,12 @@ class Names(OfBytes):
             ("memory used at a.go:7 (lib.(*T).M) and fd+0x20", True),
         ):
             self.assertEqual(is_named(told), wanted, told)
+
+    def test_whose_table_it_is(self):
+        _, native = self.naming()
+        self.assertFalse(NativeProgram.has_go_table(native))
+        for native.own, wanted in ((native.one, True), (native.other, False)):
+            self.assertEqual(NativeProgram.has_go_table(native), wanted)
 
     def test_what_is_lacking(self):
         package = ", or install its package of debug information (Debian: NAME-dbgsym)"
