@@ -66,13 +66,22 @@ def program_of(call: Call) -> "tuple[Program | NativeProgram | None, Sources | N
     else:
         return None, None
     if program.dwarf is None:
-        how = "build it with -g" + (", or install its package of debug information (Debian: NAME-dbgsym)" if table else "")
-        if table and native.has_panics():
-            how += "; `near a panic at` is no place of the code itself, but one where its function may panic"
-        say(f"{program.path} has no debug information, so fields and source lines are unknown: {how}")
+        say(f"{program.path} has {lacking(native if table else None)}")
     for it in call.options["type"]:
         program.type_named(it.partition("=")[2])
     return program, sources
+
+
+def lacking(native: "NativeProgram | None") -> str:
+    """What a program has in the place of debug information, what is unknown for this, and how that comes to be known."""
+    package = ", or install its package of debug information (Debian: NAME-dbgsym)" if native else ""
+    if native and native.has_go_table():
+        how = f"leave it unstripped, without -s and -w in -ldflags{package}"
+        return f"Go's table of functions and lines, but no types, so fields are unknown: {how}"
+    how = f"build it with -g{package}"
+    if native and native.has_panics():
+        how += "; `near a panic at` is no place of the code itself, but one where its function may panic"
+    return f"no debug information, so fields and source lines are unknown: {how}"
 
 
 def native_of(program: "Program | NativeProgram | None") -> "NativeProgram | None":

@@ -9,8 +9,10 @@ import subprocess
 MANGLED = re.compile(r"_(?<![!-~]_)[ZR][A-Za-z0-9_$.]+")
 # What the compilers put behind a name that is theirs alone: it differs from build to build.
 SUFFIX, HASH = re.compile(r"\.llvm\.\d+$"), re.compile(r"::h[0-9a-f]{16}$|\[[0-9a-f]{13,16}\]")
-# A name in Go begins with the path of its package.
-PACKAGE = re.compile(r"^[\w.~%-]+(?:/[\w.~%-]+)*/(?=[^/(\[]+\.)")
+# A name in Go begins with the path of its package, behind what it is where the compiler has made it; types that stand for others are shown
+# as the runtime does.
+PACKAGE = re.compile(r"^(type[.:]\.\w+\.|)[\w.~%-]+(?:/[\w.~%-]+)*/(?=[^/(\[]+\.)")
+SHAPES = re.compile(r"\[go\.shape\..*\]")
 STRING = re.compile(r"std::(?:__cxx11::|__1::)?basic_string<char, ?std::(?:__1::)?char_traits<char>, ?std::(?:__1::)?allocator<char> ?>")
 # A short name with more letters loses what stands in angle brackets.
 LONG = 48
@@ -66,7 +68,9 @@ def short(name: str) -> str:
     angle brackets."""
     if "::" not in name and "(" not in name and "/" not in name:
         return name
-    name = STRING.sub("std::string", PACKAGE.sub("", name)).replace("std::__cxx11::", "std::").replace("[abi:cxx11]", "")
+    name = STRING.sub("std::string", PACKAGE.sub(r"\1", name)).replace("std::__cxx11::", "std::").replace("[abi:cxx11]", "")
+    if len(name) > LONG:
+        name = SHAPES.sub("[...]", name)
     name = without(re.sub(r"\) const\b", ")", name), "(", "")
     if "operator" not in name and not re.search(r"(?:^|\W)\w+ for ", name) and not name.startswith("<"):
         deep = depths(name)

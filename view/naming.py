@@ -47,10 +47,13 @@ BEGUN = (
 )
 
 
-# Where the headers of C++ and the library of Rust are: what is inlined from there says little.
-LIBRARIES = re.compile(r"/include/c\+\+/|/lib/gcc/|/rustc/[0-9a-f]+/library/")
-# The libraries of C and C++ that each program has, by how their files' names begin.
+# Where the headers of C++, the library of Rust and Go's atomic operations are: what is inlined from there says little.
+LIBRARIES = re.compile(
+    r"/include/c\+\+/|/lib/gcc/|/rustc/[0-9a-f]+/library/|(?:^|/)(?:sync|runtime/internal|internal/runtime)/atomic/[^/]*\.go$"
+)
+# The libraries of C and C++ that each program has, by how their files' names begin, and sources of Go's runtime.
 OF_LANGUAGE = ("libc.so.", "ld-linux", "libpthread.so.", "libm.so.", "libstdc++.so.", "libc++.so.", "libgcc_s.so.")
+OF_GO = re.compile(r"(?:^|/)src/(?:runtime|internal|sync)/.*\.(?:go|s)$")
 # Sources of the C library's allocator.
 ALLOCATING = re.compile(r"(?:^|/)malloc/(?:malloc|arena)\.c$")
 
@@ -125,7 +128,9 @@ class Naming:
 
     def called(self, site: Site) -> str:
         """The function of a call site, or where it has none its library."""
-        return self.readable(site.name) if site.name != "-" else self.library(site.addr) or site.name
+        if site.name != "-":
+            return self.readable(site.name)
+        return (self.frame(site.addr) if self.site(site) else "") or self.library(site.addr) or site.name
 
     def is_beginning(self, site: Site) -> bool:
         name = self.called(site)
@@ -171,8 +176,9 @@ class Naming:
         return f"{told} ({' < '.join(names[:2])})" if names else f"{told} ({panics.told()})" if panics else told
 
     def is_of_language(self, addr: int) -> bool:
-        """Whether an instruction is of a library that each program of its language has."""
-        return self.library(addr).startswith(OF_LANGUAGE)
+        """Whether an instruction is of a library that each program of its language has, as far as its line was looked up."""
+        frames = self.sources.frames(addr) if self.sources else []
+        return self.library(addr).startswith(OF_LANGUAGE) or bool(frames) and bool(OF_GO.search(frames[-1].file))
 
     def is_allocator(self, addr: int) -> bool:
         """Whether an instruction is of the C library's allocator."""

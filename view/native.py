@@ -11,6 +11,7 @@ from typing import Iterable, Iterator, NamedTuple
 
 from faults import Fault
 from fields import Die, Program, Variable, chosen, last_name, sound
+from golang import Table, table_of
 from keys import OfFile, OfMemory, OfPlace, OfStack
 from mangled import demangled
 from naming import Memory
@@ -166,6 +167,7 @@ class NativeProgram:
     def __init__(self, back: Back) -> None:
         self.back, self.files = back, [File(*it) for it in back.maps]
         self.panics: dict[str, Panics | None] = {}
+        self.go_tables: dict[str, Table | None] = {}
         self.path = back.program
         own = next((it for it in self.files if os.path.realpath(it.path) == os.path.realpath(self.path)), None)
         self.main, self.own = own.program() if own else Program(self.path), own
@@ -218,6 +220,21 @@ class NativeProgram:
         """Whether panics tell of the program's own code, which has no symbols."""
         panics = self.panics_of(self.own.path) if self.own and self.own.is_stripped else None
         return panics is not None and bool(panics.places)
+
+    def go_table(self, path: str) -> Table | None:
+        """The table of functions and lines that a program of Go has, or none."""
+        if path not in self.go_tables:
+            self.go_tables[path] = sound(lambda: table_of(path), None)
+        return self.go_tables[path]
+
+    def go_frames(self, file: File, addr: int) -> list[Place]:
+        """The functions at an address of a file as a table of Go's tells them, the innermost first."""
+        table = self.go_table(file.path)
+        return sound(functools.partial(table.frames, addr), []) if table else []
+
+    def has_go_table(self) -> bool:
+        """Whether the program itself has a table of Go's."""
+        return self.own is not None and self.go_table(self.own.path) is not None
 
     def type_named(self, text: str) -> Die:
         """A type of the program, or else of one of its libraries."""
@@ -304,10 +321,18 @@ class NativeSources(Sources):
             ran = subprocess.run(words, input=os.fsencode(rows), stdout=subprocess.PIPE, stderr=subprocess.DEVNULL)
             for (it, _, _), row in zip(asked, ran.stdout.decode("utf-8", "replace").splitlines()):
                 self.places[it] = places(json.loads(row))
+        for it, own, addr in asked:
+            if not has_line(self.places[it]):
+                found = self.native.go_frames(own, addr)
+                self.places[it] = found if has_line(found) else self.places[it] or found
         for it in wanted:
-            if not any(at.file and at.line for at in self.places[it]):
+            if not has_line(self.places[it]):
                 told: list[Site] = self.native.back.frames.get(it) or self.native.back.sites.get(it) or []
                 self.places[it] = [place for own in told for place in told_by(own)] or self.places[it]
+
+
+def has_line(frames: Iterable[Place]) -> bool:
+    return any(it.file and it.line for it in frames)
 
 
 def told_by(site: Site) -> list[Place]:

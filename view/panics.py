@@ -4,6 +4,8 @@ panic."""
 
 import bisect
 import functools
+import itertools
+import os
 import re
 import struct
 from collections import Counter
@@ -19,9 +21,11 @@ MOST = 32 << 20
 CALL_SIZE = 8
 # A check jumps to at most so many bytes before the place is loaded.
 BLOCK = 48
+# At most so many relocations that are packed are read: each word of 8 bytes has up to 63.
+PACKED = 1 << 20
 # Tags of the dynamic section, and the type of a relocation that puts an address of the program into a word.
 RELA, RELA_SIZE, RELR_SIZE, RELR, RELATIVE = 7, 8, 35, 36, 8
-EXECUTABLE, FIXED = 1, "ET_EXEC"
+EXECUTABLE, FIXED, LOADED = 1, "ET_EXEC", ("PT_LOAD", "PT_DYNAMIC")
 # `lea` of an address beside the code, `mov` of one that is fixed, calls and jumps to other functions, and jumps within one.
 LEA = re.compile(rb"(?=[\x48\x4c]\x8d[\x05\x0d\x15\x1d\x25\x2d\x35\x3d](....))", re.DOTALL)
 MOVE = re.compile(rb"(?=[\xb8-\xbf](....))", re.DOTALL)
@@ -92,7 +96,12 @@ class Image:
             if elf["e_machine"] != "EM_X86_64" or elf.elfclass != 64:
                 return
             self.is_fixed = elf["e_type"] == FIXED
+            left = 2 * os.fstat(file.fileno()).st_size
             for it in elf.iter_segments():
+                # (what is loaded lies in the file side by side, and has what tells of relocations)
+                left -= it["p_filesz"] if it["p_type"] in LOADED else 0
+                if left < 0:
+                    return
                 if it["p_type"] == "PT_LOAD":
                     self.parts.append((it["p_vaddr"], it.data()))
                     if it["p_flags"] & EXECUTABLE:
@@ -117,7 +126,7 @@ class Image:
             if info & 0xFFFFFFFF == RELATIVE:
                 yield addr, to
         relr = self.bytes(tags.get(RELR, 0), tags.get(RELR_SIZE, 0) // 8 * 8)
-        for addr in packed(it for (it,) in struct.iter_unpack("<Q", relr)):
+        for addr in itertools.islice(packed(it for (it,) in struct.iter_unpack("<Q", relr)), PACKED):
             yield addr, int.from_bytes(self.bytes(addr, 8), "little")
         for begin, data in self.parts if self.is_fixed else ():
             first = -begin % 8

@@ -45,8 +45,8 @@ def is_built(program: str) -> bool:
 
 
 def marks_of(call: Call) -> list[str]:
-    """The words of the recorder that have no value: those of the call, the recorder that the program is for, and whether the trace is to have
-    the instructions of its accesses, which it is where these have a use."""
+    """The words of the recorder that have no value: those of the call, the recorder that the program is for, and that the trace is to have
+    no instructions of its accesses where these have no use."""
     marks = dict.fromkeys(call.marks)
     if is_built(call.subject):
         marks["--built"] = None
@@ -67,8 +67,8 @@ def traced(call: Call) -> Iterator[None]:
 
 
 def status_of(words: Sequence[str]) -> int:
-    """What the recorder ends with. What would end this process meanwhile ends the program that is recorded, and what was recorded until then is
-    shown."""
+    """What the recorder ends with. What would end this process meanwhile ends the program that is recorded, and what was recorded until then
+    is shown."""
     came: list[int] = []
     runs: list[subprocess.Popen[bytes]] = []
 

@@ -58,7 +58,8 @@ def shared(view: View, rows: Sequence[Thing]) -> str:
     if most is None or most in rows[:MOST] or 2 * most.useful <= view.total():
         return ""
     name = view.naming.names.shortened(view.label(most))
-    return f"{most.useful} of the {view.total()} misses that aren't cold are true sharing of one object, in row {rows.index(most) + 1}: {name}"
+    where = f"in row {rows.index(most) + 1}"
+    return f"{most.useful} of the {view.total()} misses that aren't cold are true sharing of one object, {where}: {name}"
 
 
 def next_step(view: View) -> str:

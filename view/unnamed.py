@@ -2,13 +2,13 @@
 
 from typing import Iterable, Sequence
 
-from keys import Key, OfMemory, OfStack
+from keys import Key, OfFile, OfMemory, OfStack
 from naming import OWN, Naming
 from objects import Thing
 from reports import Blame, Block, Takings
 
-# So many objects are named so, the worst first, each by so many instructions.
-MOST, NAMED = 100, 2
+# So many objects are named so, the worst first, each by so many instructions; one of the program's own is looked for in so many pairs.
+MOST, NAMED, SOUGHT = 100, 2, 16
 USED = "memory used at"
 # What the C library's allocator keeps beside the blocks that it hands out.
 HEAP = "malloc's own memory"
@@ -16,13 +16,17 @@ HEAP = "malloc's own memory"
 ARENA = 1024
 
 
-def worst_pairs(taken: Takings, naming: Naming) -> list[int]:
-    """The instructions of the pairs that take a line most often for nothing, the worst first. Where these are all of the libraries of a language,
-    as those of locks, the first one that isn't leads."""
-    pairs = sorted(taken.pairs, key=lambda it: (it.same - it.taken, -it.taken))
-    users = list(dict.fromkeys(at for it in pairs for at in (it.taker, it.victim)))
-    worst = list(dict.fromkeys(at for it in pairs[:NAMED] for at in (it.taker, it.victim)))
-    own = next((it for it in users if not naming.is_of_language(it)), None)
+def users(taken: Takings, most: int) -> list[int]:
+    """The instructions of so many pairs that take a line most often for nothing, the worst first."""
+    pairs = sorted(taken.pairs, key=lambda it: (it.same - it.taken, -it.taken))[:most]
+    return list(dict.fromkeys(at for it in pairs for at in (it.taker, it.victim)))
+
+
+def worst_users(taken: Takings, naming: Naming) -> list[int]:
+    """Those that name what has no name. Where the worst are all of the libraries of a language, as those of locks, the first that isn't
+    leads."""
+    worst = users(taken, NAMED)
+    own = next((it for it in users(taken, SOUGHT) if not naming.is_of_language(it)), None)
     return worst if own is None or own in worst else [own, *worst]
 
 
@@ -31,7 +35,7 @@ def is_unnamed(thing: Thing, naming: Naming) -> bool:
     it = thing.example
     if isinstance(it, Block):
         return not it.sites or it.size >= ARENA and it.sites[0].name != OWN and naming.type_of_block(it) is None
-    return isinstance(thing.key, (OfMemory, OfStack))
+    return isinstance(thing.key, (OfFile, OfMemory, OfStack))
 
 
 def listing(texts: Iterable[str]) -> str:
@@ -46,6 +50,8 @@ def name(thing: Thing, pcs: Sequence[int], naming: Naming) -> None:
     if isinstance(thing.key, OfStack):
         used = f", used at {users}" if any(map(naming.panics, pcs)) else ""
         thing.name += f", used in {listing(functions)}" if functions else used
+    elif isinstance(thing.key, OfFile):
+        thing.name += f", used at {users}"
     elif not isinstance(it, Block):
         thing.name = HEAP if pcs and all(map(naming.is_allocator, pcs)) else f"{USED} {users}"
     elif not it.sites:
@@ -75,11 +81,13 @@ def together(things: Sequence[Thing]) -> dict[Key, Thing]:
 
 def name_by_instructions(things: Iterable[Thing], blame: Blame, naming: Naming) -> None:
     """Gives names to those of some objects that have none. What takes their worst lines is looked up in one call."""
-    found: list[tuple[Thing, list[int]]] = []
+    found: list[tuple[Thing, Takings]] = []
     for it in things:
         taken = blame.takings(it.worst().base) if len(found) < MOST and is_unnamed(it, naming) else None
         if taken:
-            found.append((it, worst_pairs(taken, naming)))
-    naming.prepare({at for _, pcs in found for at in pcs})
-    for it, pcs in found:
-        name(it, pcs, naming)
+            found.append((it, taken))
+    naming.prepare({at for _, taken in found for at in users(taken, NAMED)})
+    others = [taken for _, taken in found if all(map(naming.is_of_language, users(taken, NAMED)))]
+    naming.prepare({at for taken in others for at in users(taken, SOUGHT)})
+    for it, taken in found:
+        name(it, worst_users(taken, naming), naming)

@@ -78,4 +78,17 @@ END
 else
     skip "names of Rust: there is no rustc"
 fi
+# (a program of Go keeps a table of functions and lines without symbols too)
+if command -v go >/dev/null; then
+    GOCACHE=$work/go GO111MODULE=off CGO_ENABLED=0 go build -ldflags "-s -w" -o golang.bare "$here/tries/golang.go" >go.log 2>&1 || cat go.log
+    "$run" --pcs --trace n -- ./golang.bare >/dev/null 2>go.log
+    said=$(view replay n --top 30 --json n.json | tr -s '\n ' ' ')
+    line=$(grep -n "t.sum += by" "$here/tries/golang.go" | cut -d: -f1)
+    has "stripped Go: memory of the program" "memory of golang.bare, used at golang.go:$line (main.(*tally).add < main.work)" "$said"
+    has "stripped Go: what is lacking" "golang.bare has Go's table of functions and lines, but no types, so fields are unknown" "$said"
+    same "stripped Go: nothing else is said" "" "$(grep -o "no debug information\|golang.bare+0x[0-9a-f]*" <<<"$said" | head -n 1)"
+    has "stripped Go: JSON" "\"function\": \"main.(*tally).add\"" "$(tr -s '\n ' ' ' <n.json)"
+else
+    skip "names of stripped Go: there is no go (Debian: golang-go)"
+fi
 rm -f n n.json n.html n.table m m.table

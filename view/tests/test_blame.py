@@ -222,7 +222,8 @@ class OfThisMachine(Compiled):
         return text
 
     def judge(self, text):
-        self.shows(text, "stack of thread 0, used in on_stack", "memory of data file", "(in_plain)")
+        self.shows(text, "stack of thread 0, used in on_stack", "(in_plain)")
+        self.assertRegex(joined(text), r"[0-9] memory of data file, used at nameless\.c:[0-9]+ \(in_file\) worst field")
         self.assertRegex(joined(text), r"[0-9] memory used at nameless\.c:[0-9]+ \(in_plain\) worst field")
         self.assertRegex(joined(text), r"fighting nameless\.c:[0-9]+ \(in_file\) takes the line from nameless\.c:[0-9]+ \(in_file\), ")
         self.assertRegex(joined(text), r"block of 4,096 made at nameless\.c:[0-9]+ < main \(an arena: the instructions that use it ")

@@ -26,7 +26,7 @@ from predicted import can_lie, judged, together  # noqa: E402
 from reports import Block, Line, Misses, Pair, Report, Site, Symbol, Takings  # noqa: E402
 from screen import Paint, prediction, screen  # noqa: E402
 from source_lines import Place  # noqa: E402
-from unnamed import HEAP, name, worst_pairs  # noqa: E402
+from unnamed import HEAP, SOUGHT, name, worst_users  # noqa: E402
 
 HEAD = "predator report 1\noutcome exit 0\nsteps 9\naccesses 900\nlayout 64 0\nthresholds 16 64 100\n"
 
@@ -348,7 +348,15 @@ class Objects(unittest.TestCase):
             # (one of the worst two is the program's already)
             ([Pair(0x40, 0x10, 85, 0), Pair(0x30, 0x50, 70, 0)], [0x20, 0x10, 0x40]),
         ):
-            self.assertEqual(worst_pairs(Takings(0, [waits, *others, locks], {}), naming), wanted)
+            self.assertEqual(worst_users(Takings(0, [waits, *others, locks], {}), naming), wanted)
+        many = [Pair(0x50, 0x50, 60, it) for it in range(SOUGHT - 2)]
+        for own, wanted in ((61, [0x40, 0x20, 0x10]), (1, [0x20, 0x10])):
+            self.assertEqual(worst_users(Takings(0, [*many, waits, Pair(0x40, 0x40, own, 0), locks], {}), naming), wanted)
+        # (of Go by the sources)
+        places = {0x30: "/usr/lib/go-1.19/src/runtime/lock_futex.go", 0x40: "github.com/junegunn/fzf/src/matcher.go"}
+        naming.sources = SimpleNamespace(frames=lambda at: [Place("f", places.get(at, ""), 9)])
+        go = [Pair(0x30, 0x30, 99, 0), waits, locks, Pair(0x40, 0x30, 9, 0)]
+        self.assertEqual(worst_users(Takings(0, go, {}), naming), [0x40, 0x30, 0x20, 0x10])
 
     def test_true_sharing_below_the_first_rows_is_told(self):
         def told(*useful):
@@ -357,7 +365,8 @@ class Objects(unittest.TestCase):
                 own = f"object symbol v{at:x} {at:#010x} 4"
                 rows += [f"line observed {at:#010x} 64 start 0 count {9000 - at} verdict false", own, word(at, 5, 50, "many")]
                 lines.append(f"line {at:#010x} cold 2 useful {needed} useless {9000 - at}\n{own}\n")
-            total = f"total cold {2 * len(useful)} useful {sum(useful)} useless {sum(9000 - 0x1000 - 0x40 * it for it in range(len(useful)))}"
+            useless = sum(9000 - 0x1000 - 0x40 * it for it in range(len(useful)))
+            total = f"total cold {2 * len(useful)} useful {sum(useful)} useless {useless}"
             misses = f"misses 64 0\naccesses 900\nlines {len(lines)}\n{''.join(lines)}{total}\nend\n"
             text = "\n".join(screen(view_of(rows, misses), Paint(io.StringIO())))
             return [" ".join(it.split()) for it in text.split("note: ") if "true sharing of one object" in it]
