@@ -31,7 +31,7 @@ Options:
   --words            lists the words of each object's lines with their fields, and all instructions that fight over the worst one
                      (of a trace above 10,000,000 accesses predicted lines are counted, and repairs in the whole, with this or
                      an output file alone)
-  --library          shows the objects of the C library and of the kernel too, which are one line else
+  --library          shows the objects of the C library, of Go's runtime and of the kernel too, which are one line else
   --predicted        counts and shows all predicted lines, those too that say nothing more
   --no-predicted     counts and shows none
   --explain N        looks for the instructions that fight over the worst lines of the first N objects (3), each by a run; 0 for none. A

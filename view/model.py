@@ -22,7 +22,7 @@ from passes import Layout, Passes, first_readers, is_blamed, is_brief
 from predicted import Foretold, judged, worth_counting
 from program import Predator, Refused, misses_under, setting, stacks
 from reports import Blame, Block, Explained, Misses, Pair, Placed, Report, Symbol, Takings
-from unnamed import HEAP, name_by_instructions, together
+from unnamed import HEAP, name_by_instructions, of_runtime, together
 from worth import Worth
 
 if TYPE_CHECKING:
@@ -73,7 +73,9 @@ class View:
         # (none where no repair can be tried)
         self.tried: dict[Key, Tried] | None = None
         self.cached: dict[Key, Seen] = {}
+        # Objects of the C library, and of Go's runtime.
         self.foreign: set[Key] = set()
+        self.runtime: set[Key] = set()
         self.lacked = ""
         self.label_counts: Counter[str] | None = None
         self.overflow: Overflow | None = None
@@ -165,6 +167,7 @@ class View:
         self.rank()
         if self.blame:
             name_by_instructions(self.things, self.blame, self.naming)
+            self.runtime = of_runtime(self.things, self.blame, self.naming)
             self.all.update(together(self.things))
             self.things = sorted(dict.fromkeys(self.all[it.key] for it in self.things), key=Thing.rank)
         self.keys = keys_over_builds(dict.fromkeys(self.all.values()), self.naming)
@@ -219,9 +222,9 @@ class View:
         return [it for it in self.chosen() if it not in self.folded()]
 
     def folded(self) -> list[Thing]:
-        """The objects of the C library, which have one row, unless the call asks for them."""
+        """The objects of the C library and of Go's runtime, which have one row, unless the call asks for them."""
         is_asked = "library" in self.call.options or "object" in self.call.options
-        return [] if is_asked else [it for it in self.things if it.key in self.foreign]
+        return [] if is_asked else [it for it in self.things if it.key in self.foreign | self.runtime]
 
     def foretold(self) -> list[Foretold]:
         """The predicted lines of the objects that the call wants to see."""

@@ -51,9 +51,9 @@ BEGUN = (
 LIBRARIES = re.compile(
     r"/include/c\+\+/|/lib/gcc/|/rustc/[0-9a-f]+/library/|(?:^|/)(?:sync|runtime/internal|internal/runtime)/atomic/[^/]*\.go$"
 )
-# The libraries of C and C++ that each program has, by how their files' names begin, and sources of Go's runtime.
+# The libraries of C and C++ that each program has, by how their files' names begin, and functions of Go's runtime.
 OF_LANGUAGE = ("libc.so.", "ld-linux", "libpthread.so.", "libm.so.", "libstdc++.so.", "libc++.so.", "libgcc_s.so.")
-OF_GO = re.compile(r"(?:^|/)src/(?:runtime|internal|sync)/.*\.(?:go|s)$")
+OF_GO = re.compile(r"(?:runtime|(?:runtime/)?internal/[\w/]+)\.")
 # Sources of the C library's allocator.
 ALLOCATING = re.compile(r"(?:^|/)malloc/(?:malloc|arena)\.c$")
 
@@ -178,7 +178,7 @@ class Naming:
     def is_of_language(self, addr: int) -> bool:
         """Whether an instruction is of a library that each program of its language has, as far as its line was looked up."""
         frames = self.sources.frames(addr) if self.sources else []
-        return self.library(addr).startswith(OF_LANGUAGE) or bool(frames) and bool(OF_GO.search(frames[-1].file))
+        return self.library(addr).startswith(OF_LANGUAGE) or bool(frames) and bool(OF_GO.match(frames[-1].function))
 
     def is_allocator(self, addr: int) -> bool:
         """Whether an instruction is of the C library's allocator."""

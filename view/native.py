@@ -288,7 +288,9 @@ class NativeMemory(Memory):
         path = next((name for low, high, name in reversed(back.mapped) if low <= was < high), None)
         own = None if path else self.native.file(page)
         path = own[0].path if own else path
-        return OfFile("file", path) if path else OfMemory("memory", page)
+        # (what Go's runtime keeps lies beside the program's own variables, and nothing tells where which is)
+        is_mixed = own is not None and own[0].is_stripped and self.native.go_table(own[0].path) is not None
+        return OfFile("file", path) if path and not is_mixed else OfMemory("memory", page)
 
     def stack(self, was: int) -> tuple[int, int, int] | None:
         """The first stack that was at an address of the program, or none."""

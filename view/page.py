@@ -175,7 +175,7 @@ def strip(view: View, foretold: Foretold, observed: dict[int, Spot]) -> Given:
 
 def library(view: View) -> str:
     """What is said of the objects of the C library, which aren't drawn, or nothing."""
-    numbers, text = row_of(view.folded(), view.misses is not None)
+    numbers, text = row_of(view.folded(), view.misses is not None, bool(view.runtime))
     return "{} useless, {} useful, count {}, lines {}: {}".format(*numbers, text) if view.folded() else ""
 
 
@@ -183,7 +183,7 @@ def title(view: View, chosen: Sequence[Thing]) -> str:
     """What is seen, in a sentence: `chosen` are the objects that have a row."""
     name = os.path.basename(view.call.named)
     if not chosen:
-        return f"{name}: {'objects of the C library alone are' if view.folded() else 'no line is'} fought over"
+        return f"{name}: {'objects of libraries alone are' if view.folded() else 'no line is'} fought over"
     useless = view.misses.total["useless"] if view.misses else 0
     how = f"{chosen[0].useless} of {useless} useless misses" if useless else f"a count of {chosen[0].count}"
     return f"{name}: the worst object is {view.label(chosen[0])}, with {how}"

@@ -67,8 +67,8 @@ def traced(call: Call) -> Iterator[None]:
 
 
 def status_of(words: Sequence[str]) -> int:
-    """What the recorder ends with. What would end this process meanwhile ends the program that is recorded, and what was recorded until then
-    is shown."""
+    """What the recorder ends with. What would end this process meanwhile ends the program that is recorded, and what was recorded until
+    then is shown."""
     came: list[int] = []
     runs: list[subprocess.Popen[bytes]] = []
 

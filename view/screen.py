@@ -201,7 +201,7 @@ def screen(view: View, paint: Paint, width: int = 110) -> Iterator[str]:
             yield paint(DIM, f"        {'word':<10}    reads   writes{needs}  hart  field")
             yield from words_table(view, thing)
     if view.folded():
-        numbers, text = row_of(view.folded(), view.misses is not None)
+        numbers, text = row_of(view.folded(), view.misses is not None, bool(view.runtime))
         yield "    " + "".join(f" {it:>8}" for it in numbers[:3]) + f" {numbers[3]:>6}  {paint(DIM, text)}"
     if len(chosen) > top:
         yield paint(DIM, f"{counted(len(chosen) - top, 'more object')}: --top {len(chosen)} shows all")

@@ -79,6 +79,17 @@ def together(things: Sequence[Thing]) -> dict[Key, Thing]:
     return found
 
 
+def of_runtime(things: Iterable[Thing], blame: Blame, naming: Naming) -> set[Key]:
+    """The memory of a program of Go that its runtime alone fights over."""
+    from_file = getattr(naming.program, "has_go_table", None)
+    if from_file is None or not from_file():
+        return set()
+    lines = {it.key: [blame.takings(spot.base) for spot in it.spots] for it in things if isinstance(it.key, (OfMemory, OfStack))}
+    found = {key: [at for taken in own if taken for at in users(taken, NAMED)] for key, own in lines.items()}
+    naming.prepare({at for own in found.values() for at in own})
+    return {key for key, own in found.items() if own and all(map(naming.is_of_language, own))}
+
+
 def name_by_instructions(things: Iterable[Thing], blame: Blame, naming: Naming) -> None:
     """Gives names to those of some objects that have none. What takes their worst lines is looked up in one call."""
     found: list[tuple[Thing, Takings]] = []
