@@ -22,7 +22,7 @@ from source_lines import Place, Sources, places
 from elftools.elf.elffile import ELFFile
 from elftools.elf.sections import SymbolTableSection
 
-PAGE = 4096
+PAGE, LINE = 4096, 64
 # Where Debian's packages of debug information put it.
 DEBUG = "/usr/lib/debug/.build-id"
 
@@ -263,7 +263,7 @@ class NativeMemory(Memory):
 
     def __init__(self, native: NativeProgram) -> None:
         super().__init__()
-        self.native, self.known = native, dict[int, OfPlace]()
+        self.native, self.known, self.is_go = native, dict[int, OfPlace](), native.has_go_table()
         # (a stack may be another thread's later on)
         self.threads: dict[int, list[int]] = {}
         first: dict[tuple[int, int], int] = {}
@@ -276,7 +276,9 @@ class NativeMemory(Memory):
         page = addr // PAGE * PAGE
         if page not in self.known:
             self.known[page] = self.found(page)
-        return self.known[page]
+        found = self.known[page]
+        # (Go's allocator has what it keeps itself on the pages of what it hands out)
+        return OfMemory("memory", addr // LINE * LINE) if isinstance(found, OfMemory) and self.is_go else found
 
     def found(self, page: int) -> OfPlace:
         back, was = self.native.back, self.native.back.was(page)

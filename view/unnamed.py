@@ -8,7 +8,7 @@ from objects import Thing
 from reports import Blame, Block, Takings
 
 # So many objects are named so, the worst first, each by so many instructions; one of the program's own is looked for in so many pairs.
-MOST, NAMED, SOUGHT = 100, 2, 16
+MOST, NAMED, SOUGHT = 1000, 2, 16
 USED = "memory used at"
 # What the C library's allocator keeps beside the blocks that it hands out.
 HEAP = "malloc's own memory"
