@@ -69,6 +69,8 @@ def program_of(call: Call) -> "tuple[Program | NativeProgram | None, Sources | N
         how = "build it with -g" + (", or install its package of debug information (Debian: NAME-dbgsym)" if table else "")
         if table and native.has_panics():
             how += "; `near a panic at` is no place of the code itself, but one where its function may panic"
+        elif table and native.has_landmarks():
+            how += "; `near` and `in a method of` tell what the function that code is in refers to, and not the place itself"
         say(f"{program.path} has no debug information, so fields and source lines are unknown: {how}")
     for it in call.options["type"]:
         program.type_named(it.partition("=")[2])
