@@ -23,6 +23,7 @@ SOURCE, NAME = re.compile(rb"[^\x00-\x1f\x7f]+\.[A-Za-z+]{1,4}"), re.compile(rb"
 # What is before the folder of a package's sources, as they were compiled.
 BUILT = re.compile(r"^(?:/.*/)?(?:build|builddir|usr/src)/(?:reproducible-path/)?[^/]+/|^(?:\.\./)+")
 LIBRARY = re.compile(r"(?:^|/)usr/(?:local/)?include/|/include/c\+\+/|/lib/gcc/")
+HEADER = re.compile(r"\.(?:h|hh|hpp|hxx|h\+\+|inc|inl|ipp|tcc|tpp)$")
 WITH = re.compile(r" \[(?:with )?(.*)\]$")
 
 
@@ -37,6 +38,9 @@ class Assertion(NamedTuple):
 
     def is_library(self) -> bool:
         return bool(LIBRARY.search(self.file))
+
+    def is_header(self) -> bool:
+        return bool(HEADER.search(self.file))
 
     def told(self) -> str:
         place = f"near an assertion at {built(self.file)}:{self.line}"

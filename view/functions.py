@@ -5,17 +5,27 @@ beginning, and end where the next one begins: that is an inference."""
 import bisect
 import functools
 import re
+import struct
 from typing import Iterable, Iterator
 
-from image import CALL, FAR, JUMP, LEA, Image, jumped
+from image import CALL, FAR, JUMP, LEA, NEAR, SHORT, Image, jumped
 
 # Functions begin at multiples of this, unless they are made as small as can be.
 ALIGNED = 16
 # What stands before a function that isn't aligned: the end of the one before, and what fills up; the longest of these.
 BEFORE = re.compile(rb"(?:\xc3|\x90|\xcc|\x0f\x1f(?:\x00|\x40\x00|\x44\x00\x00|\x80\x00{4}|\x84\x00{5}))\Z")
 LONGEST_BEFORE = 8
+# The end of a function, or a call that doesn't come back, and what fills up behind it; the longest of these.
+FILLED = re.compile(
+    rb"(?:\xc3|\xe9.{4}|\xeb.|\xe8.{4}|\x0f\x0b|\xff[\xe0-\xe7]|\xf4)"
+    rb"(?:\x90|\xcc|\x66\x90|(?:\x66*\x2e)?\x66?\x0f\x1f(?:\x00|\x40\x00|\x44\x00\x00|\x80\x00{4}|\x84\x00{5}))+\Z",
+    re.DOTALL,
+)
+FILLED_SIZE = 24
 # No function that is inferred has more bytes.
 LARGEST = 1 << 17
+# A table of where a function goes on has at most so many distances.
+DISTANCE, BRANCHES = struct.Struct("<i"), 512
 
 Range = tuple[int, int]
 
@@ -72,7 +82,30 @@ class Functions:
         size = self.image.exported.get(start, 0)
         end = start + size if size else self.starts[at + 1] if at + 1 < len(self.starts) else start
         is_one = at >= 0 and addr < end <= start + LARGEST and self.image.function(start) is None
-        return (start, end) if is_one else None
+        return self.cut(start, end, addr) if is_one else None
+
+    def cut(self, start: int, end: int, addr: int) -> Range:
+        """What is around an instruction between two beginnings: a function that is never called may begin between these, which is behind what
+        fills up, and to which nothing jumps."""
+        begins = self.unreached(start, end)
+        at = bisect.bisect_right(begins, addr)
+        return begins[at - 1] if at else start, begins[at] if at < len(begins) else end
+
+    @functools.cache
+    def unreached(self, start: int, end: int) -> list[int]:
+        code = self.image.bytes(start, end - start)
+        places = range((start // ALIGNED + 1) * ALIGNED, end, ALIGNED)
+        found = [it for it in places if FILLED.search(code[max(it - start - FILLED_SIZE, 0) : it - start])]
+        reached = {to for form in (FAR, SHORT, JUMP, NEAR) for _, to in jumped(code, start, form)} if found else set[int]()
+        reached.update(it for _, table in (jumped(code, start, LEA) if found else ()) for it in self.branches(table, start, end))
+        return [it for it in found if it not in reached]
+
+    def branches(self, table: int, start: int, end: int) -> Iterator[int]:
+        """Where a function may go on by a table, which has the distances from there."""
+        for (it,) in DISTANCE.iter_unpack(self.image.bytes(table, BRANCHES * DISTANCE.size) if self.image.is_constant(table) else b""):
+            if not start <= table + it < end:
+                return
+            yield table + it
 
     def number(self, addr: int) -> int:
         """Which function an instruction is in, to tell functions apart."""

@@ -35,9 +35,10 @@ def form(pattern: bytes, first: int, size: int) -> Form:
     return Form(re.compile(pattern, re.DOTALL), first, size)
 
 
-# Calls, jumps to other functions, both through a word, and jumps on a condition; `lea`, and `mov` from a word.
+# Calls, jumps, both through a word, jumps on a condition, and near jumps; `lea`, and `mov` from a word.
 CALL, JUMP, THROUGH = form(rb"\xe8(?=(....))", 0, 5), form(rb"\xe9(?=(....))", 0, 5), form(rb"\xff(?=[\x15\x25](....))", 0, 6)
 FAR, SHORT = form(rb"\x0f(?=[\x80-\x8f](....))", 0, 6), form(rb"(?=[\x70-\x7f](.))", 0, 2)
+NEAR = form(rb"\xeb(?=(.))", 0, 2)
 LEA = form(rb"\x8d(?<=[\x48\x4c]\x8d)(?=[\x05\x0d\x15\x1d\x25\x2d\x35\x3d](....))", 1, 7)
 LOAD = form(rb"\x8b(?<=[\x48\x4c]\x8b)(?=[\x05\x0d\x15\x1d\x25\x2d\x35\x3d](....))", 1, 7)
 # `mov` of a number, which is an address where a program has a fixed place.

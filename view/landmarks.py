@@ -12,8 +12,7 @@ from asserted import Assertion, Assertions
 from functions import Functions, Range
 from image import LEA, MOVE, Image, checks, jumped
 
-# The strength of what a function refers to, the strongest first. An assertion that is in many functions is of a header that is used
-# everywhere.
+# The strength of what a function refers to, the strongest first. An assertion of many functions, or of a header in several, is inlined.
 ASSERTION, CLASS, TEXT, COMMON, MANY = 0, 1, 2, 3, 8
 # So many callers are named, of so many at most, and so many levels are gone up for them, through so many functions.
 NAMED, MOST, LEVELS, PASSED = 2, 16, 4, 400
@@ -100,7 +99,7 @@ class Landmarks:
             own = checks(code, parts[0][0], (it.at for it in found), BLOCK) if found else []
             for it, froms in zip(found, own):
                 distance = min(abs(at - addr) for at in (froms or [it.at]))
-                made.append((it.is_library(), self.users_of(it) > MANY, distance, it))
+                made.append((it.is_library(), self.users_of(it) > (1 if it.is_header() else MANY), distance, it))
         if not made:
             return None
         is_library, is_common, _, nearest = min(made)
