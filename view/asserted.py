@@ -21,7 +21,7 @@ LOADS = re.compile(
 STUB, STUB_SIZE = re.compile(rb"\xf3\x0f\x1e\xfa(?:\x41\xbb.{4})?\xf2?\Z", re.DOTALL), 11
 SOURCE, NAME = re.compile(rb"[^\x00-\x1f\x7f]+\.[A-Za-z+]{1,4}"), re.compile(rb"[\x20-\x7e]+")
 # What is before the folder of a package's sources, as they were compiled.
-BUILT = re.compile(r"^(?:/.*/)?(?:build|builddir|usr/src)/(?:reproducible-path/)?[^/]+/|^(?:\.\./)+")
+BUILT = re.compile(r"^/(?:.*?/)?(?:build|builddir|usr/src)/(?:reproducible-path/)?[^/]+/|^(?:\.\./)+")
 LIBRARY = re.compile(r"(?:^|/)usr/(?:local/)?include/|/include/c\+\+/|/lib/gcc/")
 HEADER = re.compile(r"\.(?:h|hh|hpp|hxx|h\+\+|inc|inl|ipp|tcc|tpp)$")
 WITH = re.compile(r" \[(?:with )?(.*)\]$")

@@ -16,7 +16,7 @@ LEFT_OUT = 2
 # A typeinfo of a class with several bases has at most so many.
 MOST_BASES = 64
 # What is of a library that most programs take their threads or containers from, and of the language itself.
-LIBRARY = re.compile(r"(?<![\w:])(?:std|__gnu_cxx|__cxxabiv1|tbb)::[\w:~]+")
+LIBRARY = re.compile(r"(?<![\w:])(?:std|__gnu_cxx|__cxxabiv1|tbb)::[\w:~]+|>::[\w:~]+")
 PLAIN = re.compile(r"\b(?:void|bool|w?char(?:\d*_t)?|short|int|long|float|double|unsigned|signed|const|volatile|true|false)\b|\d\w*")
 LAMBDA, CUT = "::{lambda(", "<..>"
 
@@ -28,20 +28,18 @@ class Classes:
         self.image = image
         self.words = {**image.words, **image.named}
         # (the classes that have a function in their tables, each by its typeinfo)
-        self.owners: dict[int, list[int]] = {}
+        self.owners: dict[int, dict[int, None]] = {}
         for addr, to in self.words.items():
             if to and self.mangled(to):
                 for it in self.functions(addr + 8):
-                    own = self.owners.setdefault(it, [])
-                    if to not in own:
-                        own.append(to)
+                    self.owners.setdefault(it, {})[to] = None
 
     @functools.cache
     def mangled(self, info: int) -> str:
         """The name of a class by its typeinfo, or an empty text where that is none."""
         name = self.words.get(info + 8)
         # (a typeinfo's first word points to the functions of its own class)
-        if not name or info not in self.words or self.image.is_code(name):
+        if not name or info not in self.words or not self.image.is_constant(name):
             return ""
         text = self.image.text(name)
         return text.decode("latin-1").lstrip("*") if NAME.fullmatch(text) and re.match(rb"\*?[1-9NSZ]", text) else ""
@@ -65,22 +63,24 @@ class Classes:
         several = [self.words.get(info + 24 + 16 * it, 0) for it in range(count if count <= MOST_BASES else 0)]
         return [it for it in several if it and self.mangled(it)]
 
-    def is_base(self, base: int, info: int) -> bool:
-        """Whether a class is another one or a base of it."""
-        seen, left = {info}, [info]
+    @functools.cache
+    def with_bases(self, info: int) -> set[int]:
+        """A class and all that are bases of it."""
+        found, left = {info}, [info]
         while left:
-            new = [it for it in self.bases(left.pop()) if it not in seen]
-            seen.update(new)
+            new = [it for it in self.bases(left.pop()) if it not in found]
+            found.update(new)
             left += new
-        return base in seen
+        return found
 
     @functools.cache
     def of(self, start: int) -> str:
         """The class whose virtual function begins at an address, or an empty text."""
-        infos = self.owners.get(start, [])
-        base = next((it for it in infos if all(self.is_base(it, other) for other in infos)), None)
-        chosen = infos if base is None else [base]
-        return min(filter(None, self.names(chosen)), default="") if len(chosen) <= FEW else ""
+        infos = list(self.owners.get(start, ()))
+        common = set(infos).intersection(*map(self.with_bases, infos))
+        # (of a base and what it's derived from the latter has the function first)
+        chosen = [min(common, key=lambda it: (len(self.with_bases(it)), it))] if common else infos
+        return min(self.names(chosen), default="") if len(chosen) <= FEW else ""
 
     def names(self, infos: Iterable[int]) -> list[str]:
         told = demangled(["_ZTS" + self.mangled(it) for it in infos])

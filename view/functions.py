@@ -63,6 +63,7 @@ class Functions:
         maybe.update(to for _, to in image.found(LEA) if to % ALIGNED == 0)
         maybe.update(to for to in (() if image.is_fixed else image.words.values()) if to % ALIGNED == 0)
         ends = {it[1] for start in image.unwound[0] if (it := image.function(start))}
+        ends.update(start + size for start, size in image.exported.items() if size)
         maybe.update(-it // ALIGNED * -ALIGNED for it in ends)
         found = sure | self.bare(maybe)
         found |= self.bare(self.outside(sorted(found)))
@@ -80,13 +81,15 @@ class Functions:
         at = bisect.bisect_right(self.starts, addr) - 1
         start = self.starts[at] if at >= 0 else 0
         size = self.image.exported.get(start, 0)
-        end = start + size if size else self.starts[at + 1] if at + 1 < len(self.starts) else start
-        is_one = at >= 0 and addr < end <= start + LARGEST and self.image.function(start) is None
-        return self.cut(start, end, addr) if is_one else None
+        if size or at < 0:
+            return (start, start + size) if addr < start + size else None
+        last = next(begin + len(code) for begin, code in self.image.code if begin <= addr < begin + len(code))
+        end = min([last, *self.starts[at + 1 : at + 2]])
+        return self.cut(start, end, addr) if end <= start + LARGEST and self.image.function(start) is None else None
 
     def cut(self, start: int, end: int, addr: int) -> Range:
-        """What is around an instruction between two beginnings: a function that is never called may begin between these, which is behind what
-        fills up, and to which nothing jumps."""
+        """What is around an instruction between two beginnings: a function that is never called may begin between these, behind what fills
+        up, and nothing there jumps to it."""
         begins = self.unreached(start, end)
         at = bisect.bisect_right(begins, addr)
         return begins[at - 1] if at else start, begins[at] if at < len(begins) else end
@@ -102,10 +105,12 @@ class Functions:
 
     def branches(self, table: int, start: int, end: int) -> Iterator[int]:
         """Where a function may go on by a table, which has the distances from there."""
-        for (it,) in DISTANCE.iter_unpack(self.image.bytes(table, BRANCHES * DISTANCE.size) if self.image.is_constant(table) else b""):
-            if not start <= table + it < end:
+        for at in range(table, table + BRANCHES * DISTANCE.size if self.image.is_constant(table) else 0, DISTANCE.size):
+            told = self.image.bytes(at, DISTANCE.size)
+            to = table + DISTANCE.unpack(told)[0] if told else 0
+            if not start <= to < end:
                 return
-            yield table + it
+            yield to
 
     def number(self, addr: int) -> int:
         """Which function an instruction is in, to tell functions apart."""

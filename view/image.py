@@ -97,7 +97,7 @@ class Image:
         return b""
 
     def is_code(self, addr: int) -> bool:
-        return any(begin <= addr < begin + len(data) for begin, data in self.code)
+        return any(begin <= addr < begin + len(data) for begin, data in self.code) and not self.is_constant(addr)
 
     def is_constant(self, addr: int) -> bool:
         """Whether an address is in what is neither written nor run."""

@@ -22,6 +22,7 @@ CALL_SIZE = 8
 BLOCK = 64
 # Texts, and how many letters one has and how many are shown.
 PRINTED, LETTERS, SHOWN, CUT = re.compile(rb"[\x20-\x7e\t\n\r]{6,}"), 6, 40, ".."
+FORMAT = re.compile(r"%[-+ #0-9.*hjlqtzL]*[A-Za-z]")
 # Texts that name nothing: of C++'s own library, of digits, and that there is no memory.
 EMPTY = re.compile(
     r"(?:basic_string|vector|deque|list|map|array|bitset|span|optional|unordered_map|regex)\w*::?|cannot create std::|/usr/include/"
@@ -58,7 +59,7 @@ class Marks(NamedTuple):
 def text_shown(text: str) -> str:
     """A literal's first line that has letters, cut, or an empty text where it names nothing."""
     lines = (re.sub(r"^[\s:;,.\-]+|\s+$", "", it) for it in re.split(r"[\n\r\t]+", text))
-    line = next((it for it in lines if len(re.findall("[A-Za-z]", it)) >= LETTERS), "")
+    line = next((it for it in lines if len(re.findall("[A-Za-z]", FORMAT.sub("", it))) >= LETTERS), "")
     if EMPTY.match(line):
         return ""
     return line if len(line) <= SHOWN else line[:SHOWN].rstrip() + CUT
@@ -135,7 +136,7 @@ class Landmarks:
         if assertion and assertion.strength == ASSERTION and not assertion.is_library:
             return assertion
         found = [it for it in (assertion, self.class_of(function[0]), self.text_in(tuple(parts))) if it is not None]
-        return min(found, key=lambda it: (it.is_library, it.strength), default=None)
+        return min(found, key=lambda it: (it.is_library, it.strength)) if found else None
 
     def runs(self, low: int, high: int) -> bool:
         """Whether an instruction from an address up to another one ran."""

@@ -1,0 +1,479 @@
+"""Tests of how stripped code of C and C++ is named by what it refers to: over small programs, built in several ways, with tables of virtual
+functions that a compiler made and some that were made by hand."""
+
+import os
+import random
+
+import shutil
+import subprocess
+import sys
+import tempfile
+import time
+import unittest
+
+TOP = os.path.join(os.path.dirname(os.path.abspath(__file__)), "..", "..")
+sys.path.insert(0, os.path.join(TOP, "view"))
+
+from elftools.elf.elffile import ELFFile  # noqa: E402
+
+import asserted  # noqa: E402
+import classes  # noqa: E402
+from landmarks import ASSERTION, CLASS, TEXT, Landmark, Landmarks, Marks, text_shown  # noqa: E402
+from naming import Naming  # noqa: E402
+from native import Back, NativeProgram  # noqa: E402
+from reports import Site  # noqa: E402
+
+sys.path.insert(0, os.path.join(TOP, "native", "others"))
+from run import is_named  # noqa: E402
+
+# (what is called and what refers to something is never inlined but where that is wanted, and stands in this order)
+SOURCE = r"""
+#include <assert.h>
+#include <stdio.h>
+#define FUNCTION __attribute__((noinline, noclone))
+#define TAKES(it) __asm__ volatile("incl %0" : "+m"(*it))
+#define MANY(it) TAKES(it); TAKES(it); TAKES(it); TAKES(it); TAKES(it); TAKES(it); TAKES(it); TAKES(it); TAKES(it); TAKES(it); TAKES(it)
+int sums[64];
+void (*volatile kept)(int *), (*handed)(int *);
+const char *volatile said;
+char writable[] = "a text that is written";
+const char tail[] = "before: the tail of a text";
+extern "C" {
+FUNCTION void jumped_to(int *it) { TAKES(it); }
+FUNCTION void say(const char *it) { said = it; }
+FUNCTION void low(int *it) { TAKES(it); }
+FUNCTION void middle(int *it) { low(it); TAKES(it); }
+FUNCTION void low_of_two(int *it) { TAKES(it); }
+FUNCTION void low_of_three(int *it) { TAKES(it); }
+FUNCTION void taken(int *it) { TAKES(it); }
+FUNCTION void in_word(int *it) { TAKES(it); }
+FUNCTION void passed(int *it) { taken(it); in_word(it); TAKES(it); }
+FUNCTION void deep1(int *it) { TAKES(it); }
+FUNCTION void deep2(int *it) { deep1(it); TAKES(it); }
+FUNCTION void deep3(int *it) { deep2(it); TAKES(it); }
+FUNCTION void deep4(int *it) { deep3(it); TAKES(it); }
+FUNCTION void deep5(int *it) { deep4(it); TAKES(it); }
+FUNCTION void never_called(int *it) { TAKES(it); }
+FUNCTION int plain(int *it) { TAKES(it); return it[1]; }
+#line 12 "/build/lists-1.0/src/list.c"
+FUNCTION void asserts(int *it, int n) { TAKES(it); assert(n < 60); low_of_two(it); low_of_three(it); passed(it); jumped_to(it + n); }
+#line 20 "src/list.c"
+FUNCTION void asserts_twice(int *it, int n) {
+    TAKES(it);
+    assert(n < 50);
+    MANY(it); MANY(it); MANY(it); MANY(it);
+    assert(n < 40);
+    TAKES(it);
+}
+#line 4 "src/list.h"
+static inline __attribute__((always_inline)) void check(int n) { assert(n < 30); }
+#line 40 "src/list.c"
+FUNCTION void says(int *it) { TAKES(it); say("the list is broken"); middle(it); low_of_two(it); low_of_three(it); deep5(it); }
+FUNCTION void says_two(int *it) { say("a much longer text of two functions"); TAKES(it); say("only here\n"); low_of_three(it); }
+FUNCTION void says_other(int *it, int n) { say("a much longer text of two functions"); TAKES(it); check(n); }
+FUNCTION void says_checked(int *it, int n) { say(": checked twice"); TAKES(it); check(n); }
+FUNCTION void checks_alone(int *it, int n) { TAKES(it); check(n); }
+FUNCTION void says_nothing(int *it) {
+    say("%d"); say("0123456789abcdef"); say("vector::_M_realloc_insert"); say(writable); say(tail + 8); say("out of memory\n");
+    say("caf\xe9 cr\xe8me br\xfbl\xe9" "e and more"); say("12345 6789 01"); TAKES(it);
+}
+}
+namespace lists {
+template <class T> struct Map { FUNCTION T insert(T *it, int n); };
+#line 123 "../common/map.h"
+template <class T> FUNCTION T Map<T>::insert(T *it, int n) { TAKES(sums); assert(it != nullptr && n < 9); return it[n]; }
+struct Base {
+    virtual ~Base() {}
+    FUNCTION virtual void stay(int *it);
+    FUNCTION virtual void work(int *it);
+};
+void Base::stay(int *it) { TAKES(it); }
+void Base::work(int *it) { TAKES(it); }
+struct Left : Base { FUNCTION void work(int *it) override; };
+void Left::work(int *it) { TAKES(it); low_of_two(it); }
+struct Other { FUNCTION virtual void other(int *it); };
+void Other::other(int *it) { TAKES(it); }
+struct Both : Left, Other { FUNCTION void other(int *it) override; };
+void Both::other(int *it) { TAKES(it); TAKES(it); }
+struct Shape { virtual ~Shape() {} virtual void area(int *it) = 0; FUNCTION virtual void side(int *it); };
+void Shape::side(int *it) { TAKES(it); }
+struct Square : Shape { FUNCTION void area(int *it) override; };
+void Square::area(int *it) { TAKES(it); }
+template <class F> struct Task : Other { F f; explicit Task(F f) : f(f) {} FUNCTION void other(int *it) override { f(it); } };
+template <class T> FUNCTION Other *start(T n) { return new Task([n](int *it) { TAKES(it); it[n]++; }); }
+}
+#line 70 "src/list.c"
+int main(int argc, char **) {
+    kept = taken, handed = in_word;
+    asserts(sums, argc), asserts_twice(sums, argc), says(sums), says_two(sums), says_other(sums, argc), says_checked(sums, argc);
+    says_nothing(sums), checks_alone(sums, argc);
+    lists::Both both;
+    lists::Square square;
+    lists::Base *volatile base = &both;
+    lists::Shape *volatile shape = &square;
+    base->stay(sums), base->work(sums), shape->area(sums), shape->side(sums), lists::start(argc)->other(sums);
+    long one = 1;
+    return plain(sums) + lists::Map<long>().insert(&one, 0) & 1;
+}
+"""
+# How programs are built: as one that is moved when it is loaded, the same with packed relocations, and with calls that are checked, as one
+# with a fixed place, with calls through words, and without the table for unwinding.
+CODE = ["-O1", "-w", "-fno-reorder-blocks-and-partition", "-fno-toplevel-reorder", "-foptimize-sibling-calls", "-falign-functions=16"]
+WAYS = {
+    "pie": ["-fPIE", "-pie", "-fcf-protection=none"],
+    "packed": ["-fPIE", "-pie", "-Wl,-z,pack-relative-relocs"],
+    "checked": ["-fPIE", "-pie", "-fcf-protection=full", "-Wl,-z,ibtplt"],
+    "fixed": ["-fno-pie", "-no-pie"],
+    "through": ["-fPIE", "-pie", "-fno-plt", "-Wl,-z,now"],
+    "mixed": ["-fPIE", "-pie", "-Wl,-z,noseparate-code"],
+    "bare": ["-fPIE", "-pie", "-fno-asynchronous-unwind-tables", "-fno-unwind-tables", "-fno-exceptions"],
+}
+FIXED = ("fixed",)
+
+
+def functions(path):
+    """Where each function of a program begins and ends."""
+    with open(path, "rb") as file:
+        symbols = ELFFile(file).get_section_by_name(".symtab").iter_symbols()
+        return {it.name: (it["st_value"], it["st_value"] + it["st_size"]) for it in symbols if it["st_size"]}
+
+
+class Built(unittest.TestCase):
+    def setUp(self):
+        folder = tempfile.TemporaryDirectory()
+        self.addCleanup(folder.cleanup)
+        self.folder = folder.name
+
+    def built(self, source, *words, language="c++", strip=True):
+        """The program without symbols, and where its functions are."""
+        path = os.path.join(self.folder, "whole")
+        command = ["gcc", *words, "-x", language, "-", "-o", path, *(["-lstdc++"] if language == "c++" else [])]
+        if subprocess.run(command, input=source.encode("latin-1"), stderr=subprocess.DEVNULL).returncode:
+            self.skipTest(f"gcc can't build this here: {words}")
+        subprocess.run(["strip", "-o", path + ".bare", path], check=True)
+        return path + ".bare", functions(path)
+
+
+def wanted(way):
+    """What is told at the beginning of each function."""
+    two = ("called near an assertion at src/list.c:12 in asserts and in a method of lists::Left and 1 more",)
+    three = ("called near an assertion at src/list.c:12 in asserts and near the text \"only here\" and 1 more",)
+    called = {
+        "low": 'called near the text "the list is broken"',
+        "middle": 'called near the text "the list is broken"',
+        "low_of_two": two[0],
+        "low_of_three": three[0],
+        "passed": "called near an assertion at src/list.c:12 in asserts",
+        "jumped_to": "called near an assertion at src/list.c:12 in asserts",
+        "deep2": 'called near the text "the list is broken"',
+    }
+    return {
+        **{name: None if way in FIXED else told for name, told in called.items()},
+        **dict.fromkeys(("taken", "in_word", "deep1", "never_called", "plain", "says_nothing", "main")),
+        "asserts": "near an assertion at src/list.c:12 in asserts",
+        "asserts_twice": "near an assertion at src/list.c:22 in asserts_twice",
+        "says": 'near the text "the list is broken"',
+        "says_two": 'near the text "only here"',
+        "says_other": 'near the text "a much longer text of two functions"',
+        "says_checked": 'near the text "checked twice"',
+        "checks_alone": "near an assertion at src/list.h:4 in check",
+        "_ZN5lists3MapIlE6insertEPli": "near an assertion at common/map.h:123 in lists::Map<long int>::insert",
+        "_ZN5lists4Base4stayEPi": "in a method of lists::Base",
+        "_ZN5lists4Base4workEPi": "in a method of lists::Base",
+        "_ZN5lists4Left4workEPi": "in a method of lists::Left",
+        "_ZN5lists4Both5otherEPi": "in a method of lists::Both",
+        "_ZN5lists5Shape4sideEPi": "in a method of lists::Shape",
+        "_ZN5lists6Square4areaEPi": "in a method of lists::Square",
+        "_ZN5lists4TaskIZNS_5startIiEEPNS_5OtherET_EUlPiE_E5otherES5_": "in a method of Task<lambda in lists::start<int>>",
+    }
+
+
+@unittest.skipUnless(shutil.which("g++") and shutil.which("strip") and shutil.which("c++filt"), "there is no g++")
+class Ways(Built):
+    def test_each_way_to_build(self):
+        for way, words in WAYS.items():
+            with self.subTest(way):
+                path, places = self.built(SOURCE, *CODE, *words)
+                landmarks = Landmarks(path, (at for it in places.values() for at in range(*it)))
+                for name, told in wanted(way).items():
+                    with self.subTest(way=way, name=name):
+                        near = landmarks.near(places[name][0])
+                        self.assertEqual(near.told() if near else None, told)
+                        inside = landmarks.near(places[name][1] - 1)
+                        self.assertEqual(inside.told() if inside else None, told.replace("c:22", "c:24") if told else None)
+                self.assertEqual([landmarks.near(it) for it in (0, 1 << 40)], [None, None])
+
+    def test_calls_that_did_not_run(self):
+        path, places = self.built(SOURCE, *CODE, *WAYS["pie"])
+        low, caller, jumper = places["low_of_two"], places["says"], places["asserts"]
+
+        def told(at, *ran):
+            near = Landmarks(path, [it for own in ran for it in range(*own)]).near(at)
+            return near.told() if near else None
+
+        self.assertIsNone(told(low[0]))
+        self.assertIsNone(told(low[0], low))
+        self.assertIsNone(told(low[0], caller))
+        self.assertEqual(told(low[0], low, caller), 'called near the text "the list is broken"')
+        # (a jump writes nothing, so some of its function must have run)
+        to = places["jumped_to"]
+        self.assertIsNone(told(to[0], to, caller))
+        self.assertEqual(told(to[0], to, (jumper[0], jumper[0] + 1)), "called near an assertion at src/list.c:12 in asserts")
+        # (between a function and one with a text the calls have run as well)
+        self.assertIsNone(told(places["low"][0], places["low"], caller))
+
+    def test_what_is_exported(self):
+        flags = ("-O1", "-fPIC", "-shared", "-fno-asynchronous-unwind-tables", "-fno-toplevel-reorder")
+        source = r"""
+        #define FUNCTION __attribute__((noinline, noclone))
+        const char *volatile said;
+        FUNCTION void shown(int *it) { it[0]++; said = "what is exported"; }
+        static FUNCTION __attribute__((used)) void hidden(int *it) { it[1]++; said = "what is hidden"; }
+        FUNCTION void last(int *it) { it[0]++; said = "what is last"; }
+        """
+        path, places = self.built(source, *flags, language="c")
+        landmarks = Landmarks(path)
+        for name, text in (("shown", "what is exported"), ("hidden", "what is hidden"), ("last", "what is last")):
+            self.assertEqual(landmarks.near(places[name][0] + 4).told(), f'near the text "{text}"')
+        self.assertIsNone(landmarks.near(places["last"][1] + 1))
+
+    def test_parts_that_stand_apart(self):
+        source = r"""
+        #define FUNCTION __attribute__((noinline, noclone))
+        const char *volatile said;
+        __attribute__((cold)) FUNCTION void fail(void) { __asm__ volatile(""); }
+        FUNCTION int apart(int *it, int n) { if (n > 5) { said = "what stands apart"; fail(); it[3] = n; } return ++it[n]; }
+        FUNCTION int beside(int *it, int n) { return --it[n]; }
+        int main(int n, char **w) { int it[64] = {0}; return apart(it, n) + beside(it, n); }
+        """
+        path, places = self.built(source, "-O2", "-fPIE", "-pie", language="c")
+        self.assertIn("apart.cold", places)
+        landmarks = Landmarks(path)
+        self.assertEqual(landmarks.near(places["apart"][0]).told(), 'near the text "what stands apart"')
+        self.assertIsNone(landmarks.near(places["beside"][0]))
+
+
+# Tables of virtual functions, as a compiler makes them and as none does: a function that unrelated classes have, more than a few of them, two
+# classes that are bases of each other, and names that are none.
+TABLES = r"""
+#define FUNCTION __attribute__((noinline, noclone))
+typedef void method(int *);
+struct info { const void *own; const char *name; const struct info *base; };
+static FUNCTION void own(int *it) { it[0]++; }
+static FUNCTION void of_two(int *it) { it[1]++; }
+static FUNCTION void of_five(int *it) { it[2]++; }
+static FUNCTION void of_circle(int *it) { it[3]++; }
+static FUNCTION void of_none(int *it) { it[4]++; }
+static FUNCTION void of_library(int *it) { it[5]++; }
+static FUNCTION void left_out(int *it) { it[6]++; }
+static const void *const of_infos[2] = {&of_infos, &of_infos};
+extern const struct info a, b, c, d, e, f, g, h, i;
+const struct info a = {of_infos, "5First", 0}, b = {of_infos, "6Second", 0}, c = {of_infos, "5Third", 0}, d = {of_infos, "6Fourth", 0};
+const struct info e = {of_infos, "*N1x5FifthE", 0}, f = {of_infos, "4Ring", &g}, g = {of_infos, "5Other", &f};
+const struct info h = {of_infos, "no name", 0}, i = {of_infos, "NSt4listIiE4NodeE", 0};
+#define TABLE(name, of, ...) const void *const name[] = {0, &of, __VA_ARGS__, 0, 0, 0, "end"}
+TABLE(ta, a, own, of_two, of_five); TABLE(tb, b, of_two, of_five); TABLE(tc, c, of_five); TABLE(td, d, of_five); TABLE(te, e, of_five);
+TABLE(tf, f, of_circle); TABLE(tg, g, of_circle); TABLE(th, h, of_none); TABLE(ti, i, of_library); TABLE(tj, e, 0, 0, left_out);
+int main(int n, char **w) { return 0; }
+"""
+
+
+@unittest.skipUnless(shutil.which("gcc") and shutil.which("strip") and shutil.which("c++filt"), "there is no gcc")
+class Tables(Built):
+    def test_of_several_classes(self):
+        for words in (("-fPIE", "-pie"), ("-fno-pie", "-no-pie")):
+            path, places = self.built(TABLES, "-O1", "-w", "-fno-toplevel-reorder", *words, language="c")
+            landmarks = Landmarks(path)
+            for name, told in (
+                ("own", "in a method of First"),
+                # (of unrelated classes the first by name, and of more than a few none)
+                ("of_two", "in a method of First"),
+                ("of_five", None),
+                ("of_circle", "in a method of"),
+                ("of_none", None),
+                ("of_library", "in a method of std::list<int>::Node"),
+                ("left_out", "in a method of x::Fifth"),
+            ):
+                near = landmarks.near(places[name][0])
+                self.assertTrue(near and near.told().startswith(told) if told else near is None, (name, near))
+            self.assertFalse(landmarks.near(places["of_library"][0]).names_source())
+
+    def test_without_a_demangler(self):
+        path, places = self.built(TABLES, "-O1", "-w", "-fno-toplevel-reorder", "-fPIE", "-pie", language="c")
+        before = os.environ["PATH"]
+        try:
+            os.environ["PATH"] = self.folder
+            self.assertIsNone(Landmarks(path).near(places["own"][0]))
+        finally:
+            os.environ["PATH"] = before
+
+
+@unittest.skipUnless(shutil.which("g++") and shutil.which("strip") and shutil.which("c++filt"), "there is no g++")
+class Strange(Built):
+    def test_damaged_files(self):
+        """A file that is cut or has other bytes tells less or something else, and soon."""
+        path, places = self.built(SOURCE, *CODE, *WAYS["bare"])
+        with open(path, "rb") as file:
+            whole = file.read()
+        chance, addrs = random.Random(7), [it[0] for it in places.values()][:40]
+        began = time.time()
+        for number in range(60):
+            data = bytearray(whole if number % 3 else whole[: chance.randrange(64, len(whole))])
+            for _ in range(number % 20):
+                data[chance.randrange(16, len(data))] = chance.randrange(256)
+            with open(path, "wb") as file:
+                file.write(data)
+            table = self.table(path)
+            program = NativeProgram.__new__(NativeProgram)
+            program.back, program.panics, program.landmarks = table, {}, {}
+            program.files = [type("File", (), {"path": path, "bias": 0, "has": lambda self, addr: True})()]
+            for at in addrs:
+                near = program.near(at)
+                self.assertIsInstance(near.told() if near else "", str)
+        self.assertLess(time.time() - began, 30)
+
+    def table(self, path):
+        table = os.path.join(self.folder, "table")
+        with open(table, "w") as file:
+            file.write(f"program {path}\n" + "".join(f"{it:#x} {it:#x}\n" for it in range(0, 1 << 17, 4096)))
+        return Back(table)
+
+    def test_others_have_none(self):
+        self.assertIsNone(Landmarks(os.path.join(TOP, "guest", "built", "counters.elf")).near(0x10000))
+        path, places = self.built(SOURCE, *CODE, *WAYS["pie"])
+        with open(path, "r+b") as file:
+            file.seek(18)
+            file.write(b"\xb7\x00")
+        self.assertEqual({Landmarks(path).near(it[0]) for it in places.values()}, {None})
+
+    def test_a_large_file(self):
+        """All texts, calls and tables of sixteen megabytes of code are looked through in a second or two."""
+        path, places = self.built(SOURCE + "__asm__(\".fill 600000, 28, 0x2400008d48\\n\");", *CODE, *WAYS["bare"])
+        began = time.process_time()
+        landmarks = Landmarks(path, range(*places["low"]))
+        self.assertEqual(landmarks.near(places["says"][0]).told(), 'near the text "the list is broken"')
+        landmarks.near(places["low"][0])
+        self.assertLess(time.process_time() - began, 4)
+
+
+class Texts(unittest.TestCase):
+    def test_functions_of_assertions(self):
+        for whole, told in (
+            ("main", "main"),
+            ("void check(int)", "check"),
+            ("static int lists::find(const char*, std::size_t)", "lists::find"),
+            ("T lists::Map<T>::insert(T*, int) [with T = long int]", "lists::Map<long int>::insert"),
+            ("T lists::Map<T>::insert(T *, int) [T = long]", "lists::Map<long>::insert"),
+            (
+                "std::pair<T*, bool> mold::ConcurrentMap<T>::insert(std::string_view, mold::u64, const T&) [with T = "
+                "mold::elf::SectionFragment<mold::elf::X86_64>; std::string_view = std::basic_string_view<char>; mold::u64 = long unsigned int]",
+                "mold::ConcurrentMap<..>::insert",
+            ),
+            ("a::get(T) const [with T = b<c>; U = int]::<lambda(int)>", None),
+        ):
+            found = asserted.function_named(whole)
+            self.assertEqual(found, told or found)
+
+    def test_files_from_their_package_on(self):
+        for file, told in (
+            ("src/list.c", "src/list.c"),
+            ("./common/common.h", "common/common.h"),
+            ("../../lib/a.c", "lib/a.c"),
+            ("/build/zstd-1.5.4/lib/a.c", "lib/a.c"),
+            ("/build/reproducible-path/zstd-1.5.4/lib/a.c", "lib/a.c"),
+            ("/home/me/own/a.c", "/home/me/own/a.c"),
+        ):
+            self.assertEqual(asserted.built(file), told)
+        header = asserted.Assertion(0, "/usr/include/eigen3/Eigen/src/Core/Block.h", 7, "", ())
+        self.assertTrue(header.is_library() and header.is_header())
+        own = asserted.Assertion(0, "src/h.c", 7, "", ())
+        self.assertFalse(own.is_library() or own.is_header())
+        self.assertEqual(own.told(), "near an assertion at src/h.c:7")
+
+    def test_classes(self):
+        normal = "__gnu_cxx::__normal_iterator<x::File**,std::vector<x::File*,std::allocator<x::File*> > >"
+        for whole, told in (
+            ("x::Output<x::Of>", "x::Output<x::Of>"),
+            ("tbb::detail::d1::function_task<x::opened<x::Of>(x::Context<x::Of>&,x::File*)::{lambda()#1}>", "function_task<lambda in x::opened<x::Of>>"),
+            (f"tbb::detail::d1::start_for<tbb::detail::d1::blocked_range<{normal} >,x::all()::{{lambda(int)#2}},int>", "start_for<lambda in x::all>"),
+            ("std::thread::_State_impl<std::thread::_Invoker<std::tuple<x::run(int)::{lambda()#1}> > >", "_State_impl<lambda in x::run>"),
+            (f"tbb::detail::d1::start_for<tbb::detail::d1::blocked_range<unsigned long>,{normal},int>", "start_for<x::File**,..>"),
+            ("std::_Sp_counted_ptr_inplace<x::File,std::allocator<void>,(__gnu_cxx::_Lock_policy)2>", "_Sp_counted_ptr_inplace<x::File,..>"),
+            ("std::ctype<char>", "std::ctype<char>"),
+            ("x::all(int)::Local", "x::all::Local"),
+        ):
+            self.assertEqual(classes.told(whole), told)
+        for whole, is_library in (
+            ("std::ctype<char>", True),
+            ("std::__cxx11::basic_stringbuf<char,std::char_traits<char>,std::allocator<char> >", True),
+            ("tbb::detail::d1::task", True),
+            ("std::_Sp_counted_ptr_inplace<x::File,std::allocator<void>,(__gnu_cxx::_Lock_policy)2>", False),
+            ("mystd::Own", False),
+            ("File", False),
+        ):
+            self.assertEqual(classes.is_library(whole), is_library, whole)
+
+    def test_texts(self):
+        for text, shown in (
+            (": common local symbol?\n", "common local symbol?"),
+            ("can't open\nanother line", "can't open"),
+            ("%s\n%s: wrong number", "%s: wrong number"),
+            ("a text of more than forty letters, which is cut", "a text of more than forty letters, which.."),
+            ("%d, %s, abcde", ""),
+            ("basic_string::_M_create", ""),
+            ("virtual memory exhausted", ""),
+            ("out of memory for the list", "out of memory for the list"),
+        ):
+            self.assertEqual(text_shown(text), shown)
+
+    def test_what_is_said(self):
+        own, other = Landmark(TEXT, 'near the text "one"'), Landmark(CLASS, "in a method of std::ctype<char>", 1, True)
+        self.assertEqual(Marks((own,)).told(), 'near the text "one"')
+        self.assertEqual(Marks((own, other), True, 3).told(), 'called near the text "one" and in a method of std::ctype<char> and 3 more')
+        self.assertEqual([Marks((it,)).names_source() for it in (own, other)], [True, False])
+
+
+class Stripped:
+    """A program without symbols, some instructions of which are told by what they refer to."""
+
+    def __init__(self, **near):
+        self.found = {int(it[1:], 16): own for it, own in near.items()}
+
+    def library(self, addr):
+        return f"x264+{addr:#x}"
+
+    def near(self, addr):
+        return self.found.get(addr)
+
+
+class Names(unittest.TestCase):
+    def test_instructions_and_blocks(self):
+        own = Marks((Landmark(ASSERTION, "near an assertion at src/a.c:7 in work"),))
+        called = Marks((Landmark(TEXT, 'near the text "one"'),), True)
+        naming = Naming(None, Stripped(x10=own, x20=called))
+        self.assertEqual(naming.instruction(0x10), "x264+0x10 (near an assertion at src/a.c:7 in work)")
+
+        def block(*sites):
+            return naming.block([Site(it, "-") for it in sites])
+
+        self.assertEqual(block(0x30, 0x10), "block made in x264+0x30 < x264+0x10 (near an assertion at src/a.c:7 in work)")
+        self.assertEqual(block(0x30, 0x20), 'block made in x264+0x30 < x264+0x20 (called near the text "one")')
+        self.assertEqual(block(0x20, 0x30), "block made in x264+0x20 < x264+0x30")
+
+    def test_what_counts_as_named(self):
+        made = "block made in x264+0x40 < x264+0x10"
+        for told, wants in (
+            ("near an assertion at src/a.c:7 in work", True),
+            ("called near an assertion at src/a.c:7", True),
+            ("in a method of x::Output", True),
+            ("called in a method of x::Output and 3 more", True),
+            ("in a method of std::ctype<char>", False),
+            ('near the text "one and two"', True),
+            ('called near the text "one"', False),
+            ('called near the text "one" and in a method of x::Output', True),
+        ):
+            self.assertEqual(is_named(f"{made} ({told})"), wants, told)
+
+
+if __name__ == "__main__":
+    unittest.main()
