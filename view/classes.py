@@ -3,7 +3,7 @@ class's typeinfo, and this to the class's name, as long as a program is built wi
 
 import functools
 import re
-from typing import Iterable, Iterator
+from typing import Iterator
 
 from image import Image
 from mangled import LONG, depths, demangled, short
@@ -80,11 +80,14 @@ class Classes:
         common = set(infos).intersection(*map(self.with_bases, infos))
         # (of a base and what it's derived from the latter has the function first)
         chosen = [min(common, key=lambda it: (len(self.with_bases(it)), it))] if common else infos
-        return min(self.names(chosen), default="") if len(chosen) <= FEW else ""
+        return min(filter(None, map(self.names.get, chosen)), default="") if len(chosen) <= FEW else ""
 
-    def names(self, infos: Iterable[int]) -> list[str]:
+    @functools.cached_property
+    def names(self) -> dict[int, str]:
+        """The names of all classes, which are told by one call."""
+        infos = list({it: None for own in self.owners.values() for it in own})
         told = demangled(["_ZTS" + self.mangled(it) for it in infos])
-        return [it.removeprefix(SHOWN) for it in told if it.startswith(SHOWN)]
+        return {it: name.removeprefix(SHOWN) for it, name in zip(infos, told) if name.startswith(SHOWN)}
 
 
 def is_library(name: str) -> bool:

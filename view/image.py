@@ -99,9 +99,14 @@ class Image:
     def is_code(self, addr: int) -> bool:
         return any(begin <= addr < begin + len(data) for begin, data in self.code) and not self.is_constant(addr)
 
+    @functools.cached_property
+    def bounds(self) -> list[int]:
+        """Where what is constant begins and ends, by turns."""
+        return [it for own in sorted(self.constant) for it in own]
+
     def is_constant(self, addr: int) -> bool:
         """Whether an address is in what is neither written nor run."""
-        return any(begin <= addr < end for begin, end in self.constant)
+        return bisect.bisect_right(self.bounds, addr) % 2 == 1
 
     def begins(self, addr: int) -> bool:
         """Whether what stands at an address in what is constant begins there: it's the first byte, or a zero byte is before it."""

@@ -146,9 +146,12 @@ class Landmarks:
     def callers(self, start: int) -> Iterator[tuple[int, Range | None]]:
         """The calls of a function that ran, with the functions that they are in. A jump writes nothing, so its function has to have run."""
         for at in self.functions.calls.get(start, ()):
-            function = self.functions.function(at)
-            if self.runs(at, at + 1) or self.image.is_jump(at) and function and self.runs(*function):
-                yield at, function
+            if self.runs(at, at + 1):
+                yield at, self.functions.function(at)
+            elif self.image.is_jump(at):
+                function = self.functions.function(at)
+                if function and self.runs(*function):
+                    yield at, function
 
     def called(self, start: int) -> Marks | None:
         """What is told by the functions that called one, or none; functions between that have no landmark are passed."""
@@ -157,6 +160,9 @@ class Landmarks:
         for number in range(LEVELS):
             above: list[int] = []
             for it in level if len(seen) <= PASSED else ():
+                # (what so many call is told by none of them)
+                if len(found) + lost > MOST:
+                    return None
                 calls = list(self.callers(it))
                 lost += not calls
                 for at, function in calls:
@@ -170,7 +176,6 @@ class Landmarks:
             level = above
         best = sorted(found.values(), key=lambda it: (it[0], it[1].strength, it[1].functions, it[1].text))
         told, count = tuple(it for _, it in best[:NAMED]), len(best) + lost + len(level)
-        # (what so many call is told by none of them)
         return Marks(told, True, count - len(told)) if told and count <= MOST else None
 
     @functools.cache

@@ -200,12 +200,12 @@ class Naming:
 
     def near_sites(self, chain: Sequence[Site]) -> tuple[int, str]:
         """Of a block's call sites the first whose function refers to something, if need be by what calls the last one; and what that is."""
-        found = [None if self.site(it) or it.name != "-" else self.near(it.addr) for it in chain]
         last = len(chain) - 1
-        told = (at for at, it in enumerate(found) if it and it.names_source() and (at == last or not it.is_called))
-        at = next(told, None)
-        near = found[at] if at is not None else None
-        return (at or 0, f" ({near.told()})") if near else (0, "")
+        for at, it in enumerate(chain):
+            near = None if self.site(it) or it.name != "-" else self.near(it.addr)
+            if near and near.names_source() and (at == last or not near.is_called):
+                return at, f" ({near.told()})"
+        return 0, ""
 
     def block(self, sites: Sequence[Site]) -> str:
         if not sites:

@@ -253,8 +253,8 @@ class Ways(Built):
         self.assertIsNone(landmarks.near(places["beside"][0]))
 
 
-# Tables of virtual functions, as a compiler makes them and as none does: a function that unrelated classes have, more than a few of them, two
-# classes that are bases of each other, and names that are none.
+# Tables of virtual functions, as a compiler makes them and as none does: a function that unrelated classes have, more than a few of them,
+# two classes that are bases of each other, and names that are none.
 TABLES = r"""
 #define FUNCTION __attribute__((noinline, noclone))
 typedef void method(int *);
@@ -365,8 +365,8 @@ class Texts(unittest.TestCase):
             ("T lists::Map<T>::insert(T*, int) [with T = long int]", "lists::Map<long int>::insert"),
             ("T lists::Map<T>::insert(T *, int) [T = long]", "lists::Map<long>::insert"),
             (
-                "std::pair<T*, bool> mold::ConcurrentMap<T>::insert(std::string_view, mold::u64, const T&) [with T = "
-                "mold::elf::SectionFragment<mold::elf::X86_64>; std::string_view = std::basic_string_view<char>; mold::u64 = long unsigned int]",
+                "std::pair<T*, bool> mold::ConcurrentMap<T>::insert(std::string_view, mold::u64, const T&) [with T = mold::elf::Section"
+                "Fragment<mold::elf::X86_64>; std::string_view = std::basic_string_view<char>; mold::u64 = long unsigned int]",
                 "mold::ConcurrentMap<..>::insert",
             ),
             ("a::get(T) const [with T = b<c>; U = int]::<lambda(int)>", None),
@@ -394,11 +394,11 @@ class Texts(unittest.TestCase):
         normal = "__gnu_cxx::__normal_iterator<x::File**,std::vector<x::File*,std::allocator<x::File*> > >"
         for whole, told in (
             ("x::Output<x::Of>", "x::Output<x::Of>"),
-            ("tbb::detail::d1::function_task<x::opened<x::Of>(x::Context<x::Of>&,x::File*)::{lambda()#1}>", "function_task<lambda in x::opened<x::Of>>"),
-            (f"tbb::detail::d1::start_for<tbb::detail::d1::blocked_range<{normal} >,x::all()::{{lambda(int)#2}},int>", "start_for<lambda in x::all>"),
+            ("tbb::detail::d1::task<x::opened<x::Of>(x::Context<x::Of>&,x::File*)::{lambda()#1}>", "task<lambda in x::opened<x::Of>>"),
+            (f"tbb::detail::d1::start_for<tbb::blocked_range<{normal} >,x::all()::{{lambda(int)#2}},int>", "start_for<lambda in x::all>"),
             ("std::thread::_State_impl<std::thread::_Invoker<std::tuple<x::run(int)::{lambda()#1}> > >", "_State_impl<lambda in x::run>"),
-            (f"tbb::detail::d1::start_for<tbb::detail::d1::blocked_range<unsigned long>,{normal},int>", "start_for<x::File**,..>"),
-            ("std::_Sp_counted_ptr_inplace<x::File,std::allocator<void>,(__gnu_cxx::_Lock_policy)2>", "_Sp_counted_ptr_inplace<x::File,..>"),
+            (f"tbb::detail::d1::start_for<tbb::blocked_range<unsigned long>,{normal},int>", "start_for<x::File**,..>"),
+            ("std::_Sp_counted_ptr_inplace<x::File,std::allocator<void>,(__gnu_cxx::_Lock)2>", "_Sp_counted_ptr_inplace<x::File,..>"),
             ("std::ctype<char>", "std::ctype<char>"),
             ("x::all(int)::Local", "x::all::Local"),
         ):
