@@ -18,9 +18,11 @@ from elftools.elf.elffile import ELFFile  # noqa: E402
 
 import asserted  # noqa: E402
 import classes  # noqa: E402
+import exports  # noqa: E402
 from landmarks import ASSERTION, CLASS, TEXT, Landmark, Landmarks, Marks, text_shown  # noqa: E402
 from naming import Naming  # noqa: E402
 from native import Back, NativeProgram  # noqa: E402
+from panics import Near, Panic  # noqa: E402
 from reports import Site  # noqa: E402
 
 sys.path.insert(0, os.path.join(TOP, "native", "others"))
@@ -69,6 +71,7 @@ FUNCTION void asserts_twice(int *it, int n) {
 static inline __attribute__((always_inline)) void check(int n) { assert(n < 30); }
 #line 40 "src/list.c"
 FUNCTION void says(int *it) { TAKES(it); say("the list is broken"); middle(it); low_of_two(it); low_of_three(it); deep5(it); }
+FUNCTION void unused(int *it) { TAKES(it); }
 FUNCTION void says_two(int *it) { say("a much longer text of two functions"); TAKES(it); say("only here\n"); low_of_three(it); }
 FUNCTION void says_other(int *it, int n) { say("a much longer text of two functions"); TAKES(it); check(n); }
 FUNCTION void says_checked(int *it, int n) { say(": checked twice"); TAKES(it); check(n); }
@@ -82,22 +85,22 @@ namespace lists {
 template <class T> struct Map { FUNCTION T insert(T *it, int n); };
 #line 123 "../common/map.h"
 template <class T> FUNCTION T Map<T>::insert(T *it, int n) { TAKES(sums); assert(it != nullptr && n < 9); return it[n]; }
-struct Base {
-    virtual ~Base() {}
+struct Root {
+    virtual ~Root() {}
     FUNCTION virtual void stay(int *it);
     FUNCTION virtual void work(int *it);
 };
-void Base::stay(int *it) { TAKES(it); }
-void Base::work(int *it) { TAKES(it); }
-struct Left : Base { FUNCTION void work(int *it) override; };
+void Root::stay(int *it) { TAKES(it); }
+void Root::work(int *it) { TAKES(it); }
+struct Left : Root { FUNCTION void work(int *it) override; };
 void Left::work(int *it) { TAKES(it); low_of_two(it); }
 struct Other { FUNCTION virtual void other(int *it); };
 void Other::other(int *it) { TAKES(it); }
 struct Both : Left, Other { FUNCTION void other(int *it) override; };
 void Both::other(int *it) { TAKES(it); TAKES(it); }
-struct Shape { virtual ~Shape() {} virtual void area(int *it) = 0; FUNCTION virtual void side(int *it); };
-void Shape::side(int *it) { TAKES(it); }
-struct Square : Shape { FUNCTION void area(int *it) override; };
+struct Whole { virtual ~Whole() {} virtual void area(int *it) = 0; FUNCTION virtual void side(int *it); };
+void Whole::side(int *it) { TAKES(it); }
+struct Square : Whole { FUNCTION void area(int *it) override; };
 void Square::area(int *it) { TAKES(it); }
 template <class F> struct Task : Other { F f; explicit Task(F f) : f(f) {} FUNCTION void other(int *it) override { f(it); } };
 template <class T> FUNCTION Other *start(T n) { return new Task([n](int *it) { TAKES(it); it[n]++; }); }
@@ -109,8 +112,8 @@ int main(int argc, char **) {
     says_nothing(sums), checks_alone(sums, argc);
     lists::Both both;
     lists::Square square;
-    lists::Base *volatile base = &both;
-    lists::Shape *volatile shape = &square;
+    lists::Root *volatile base = &both;
+    lists::Whole *volatile shape = &square;
     base->stay(sums), base->work(sums), shape->area(sums), shape->side(sums), lists::start(argc)->other(sums);
     long one = 1;
     return plain(sums) + lists::Map<long>().insert(&one, 0) & 1;
@@ -169,7 +172,7 @@ def wanted(way):
     }
     return {
         **{name: None if way in FIXED else told for name, told in called.items()},
-        **dict.fromkeys(("taken", "in_word", "deep1", "never_called", "plain", "says_nothing", "main")),
+        **dict.fromkeys(("taken", "in_word", "deep1", "never_called", "plain", "unused", "says_nothing", "main")),
         "asserts": "near an assertion at src/list.c:12 in asserts",
         "asserts_twice": "near an assertion at src/list.c:22 in asserts_twice",
         "says": 'near the text "the list is broken"',
@@ -178,11 +181,11 @@ def wanted(way):
         "says_checked": 'near the text "checked twice"',
         "checks_alone": "near an assertion at src/list.h:4 in check",
         "_ZN5lists3MapIlE6insertEPli": "near an assertion at common/map.h:123 in lists::Map<long int>::insert",
-        "_ZN5lists4Base4stayEPi": "in a method of lists::Base",
-        "_ZN5lists4Base4workEPi": "in a method of lists::Base",
+        "_ZN5lists4Root4stayEPi": "in a method of lists::Root",
+        "_ZN5lists4Root4workEPi": "in a method of lists::Root",
         "_ZN5lists4Left4workEPi": "in a method of lists::Left",
         "_ZN5lists4Both5otherEPi": "in a method of lists::Both",
-        "_ZN5lists5Shape4sideEPi": "in a method of lists::Shape",
+        "_ZN5lists5Whole4sideEPi": "in a method of lists::Whole",
         "_ZN5lists6Square4areaEPi": "in a method of lists::Square",
         "_ZN5lists4TaskIZNS_5startIiEEPNS_5OtherET_EUlPiE_E5otherES5_": "in a method of Task<lambda in lists::start<int>>",
     }
@@ -236,6 +239,56 @@ class Ways(Built):
         for name, text in (("shown", "what is exported"), ("hidden", "what is hidden"), ("last", "what is last")):
             self.assertEqual(landmarks.near(places[name][0] + 4).told(), f'near the text "{text}"')
         self.assertIsNone(landmarks.near(places["last"][1] + 1))
+
+    def test_classes_of_a_library(self):
+        """What others may put in its place is pointed to by its name: a class's typeinfo, and functions of its table."""
+        source = r"""
+        struct Shown {
+            virtual void shown(int *it);
+            __attribute__((visibility("hidden"))) virtual void hidden(int *it);
+            virtual void other(int *it);
+        };
+        void Shown::shown(int *it) { it[0]++; }
+        void Shown::hidden(int *it) { it[1]++; }
+        """
+        path, places = self.built(source, "-O1", "-fPIC", "-shared", "-Wl,--unresolved-symbols=ignore-all")
+        landmarks = Landmarks(path)
+        for name in ("_ZN5Shown5shownEPi", "_ZN5Shown6hiddenEPi"):
+            self.assertEqual(landmarks.near(places[name][0]).told(), "in a method of Shown")
+
+    def test_what_many_call(self):
+        """What is called by more than a few is told by none of them."""
+        for count, more in ((16, 14), (17, None)):
+            calls = "".join(f'FUNCTION void f{it}(int *it) {{ called(it); said = "text number {it:02} of some"; }}' for it in range(count))
+            source = f"""
+            #define FUNCTION __attribute__((noinline, noclone))
+            const char *volatile said;
+            FUNCTION void called(int *it) {{ it[0]++; }}
+            {calls}
+            int main(int n, char **w) {{ int it[64] = {{0}}; {" ".join(f"f{it}(it);" for it in range(count))} return 0; }}
+            """
+            path, places = self.built(source, "-O1", "-fPIE", "-pie", "-fno-optimize-sibling-calls", language="c")
+            near = Landmarks(path, (at for it in places.values() for at in range(*it))).near(places["called"][0])
+            texts = 'called near the text "text number 00 of some" and near the text "text number 01 of some"'
+            self.assertEqual(near.told() if near else None, f"{texts} and {more} more" if more else None)
+
+    def test_where_nothing_is_called(self):
+        """Without the table for unwinding a function that nothing calls is told from the one before, and one with branches is whole."""
+        cases = " ".join(f"case {it}: it[{it % 7}] += {it * it + 3}; return n * {it + 5} + it[{it}];" for it in range(12))
+        source = f"""
+        #define FUNCTION __attribute__((noinline, noclone))
+        const char *volatile said;
+        FUNCTION int chooses(int *it, int n) {{ switch (it[n]) {{ {cases} }} said = "what is chosen"; return n; }}
+        FUNCTION int unused(int *it, int n) {{ it[3] = n; return it[n * 7]; }}
+        FUNCTION int says(int *it, int n) {{ said = "what is said"; return it[n]; }}
+        int main(int n, char **w) {{ int it[64] = {{0}}; return chooses(it, n) + says(it, n); }}
+        """
+        path, places = self.built(source, "-O2", "-fno-toplevel-reorder", *WAYS["bare"][:-1], language="c")
+        landmarks = Landmarks(path)
+        for at in range(*places["chooses"]):
+            self.assertEqual(landmarks.near(at).told(), 'near the text "what is chosen"')
+        self.assertEqual({landmarks.near(at) for at in range(*places["unused"])}, {None})
+        self.assertEqual(landmarks.near(places["says"][0]).told(), 'near the text "what is said"')
 
     def test_parts_that_stand_apart(self):
         source = r"""
@@ -459,6 +512,15 @@ class Names(unittest.TestCase):
         self.assertEqual(block(0x30, 0x10), "block made in x264+0x30 < x264+0x10 (near an assertion at src/a.c:7 in work)")
         self.assertEqual(block(0x30, 0x20), 'block made in x264+0x30 < x264+0x20 (called near the text "one")')
         self.assertEqual(block(0x20, 0x30), "block made in x264+0x20 < x264+0x30")
+
+    def test_what_machines_read(self):
+        own = Marks((Landmark(ASSERTION, "near an assertion at src/a.c:7 in work"),))
+        panic = Near((Panic("src/a.rs", 7),))
+        view = type("View", (), {"naming": Naming(None, Stripped(x10=own, x20=panic))})
+        found = [exports.instruction(view, it) for it in (0x10, 0x20, 0x30)]
+        told = {"called": False, "texts": ["near an assertion at src/a.c:7 in work"]}
+        self.assertEqual([it["landmarks"] for it in found], [told, None, None])
+        self.assertEqual([it["panics"] and it["panics"]["places"] for it in found], [None, [{"file": "src/a.rs", "line": 7}], None])
 
     def test_what_counts_as_named(self):
         made = "block made in x264+0x40 < x264+0x10"
