@@ -36,7 +36,8 @@ SOURCE = r"""
 #define TAKES(it) __asm__ volatile("incl %0" : "+m"(*it))
 #define MANY(it) TAKES(it); TAKES(it); TAKES(it); TAKES(it); TAKES(it); TAKES(it); TAKES(it); TAKES(it); TAKES(it); TAKES(it); TAKES(it)
 int sums[64];
-void (*volatile kept)(int *), (*handed)(int *);
+extern "C" void in_word(int *it);
+void (*volatile kept)(int *), (*handed)(int *) = in_word;
 const char *volatile said;
 char writable[] = "a text that is written";
 const char tail[] = "before: the tail of a text";
@@ -55,7 +56,10 @@ FUNCTION void deep2(int *it) { deep1(it); TAKES(it); }
 FUNCTION void deep3(int *it) { deep2(it); TAKES(it); }
 FUNCTION void deep4(int *it) { deep3(it); TAKES(it); }
 FUNCTION void deep5(int *it) { deep4(it); TAKES(it); }
-FUNCTION void never_called(int *it) { TAKES(it); }
+FUNCTION void half_known(int *it) { TAKES(it); }
+FUNCTION void never_called(int *it) { half_known(it); TAKES(it); }
+#line 4 "/usr/include/own.h"
+FUNCTION void of_header(int *it) { TAKES(it); assert(it != nullptr); }
 FUNCTION int plain(int *it) { TAKES(it); return it[1]; }
 #line 12 "/build/lists-1.0/src/list.c"
 FUNCTION void asserts(int *it, int n) { TAKES(it); assert(n < 60); low_of_two(it); low_of_three(it); passed(it); jumped_to(it + n); }
@@ -70,7 +74,10 @@ FUNCTION void asserts_twice(int *it, int n) {
 #line 4 "src/list.h"
 static inline __attribute__((always_inline)) void check(int n) { assert(n < 30); }
 #line 40 "src/list.c"
-FUNCTION void says(int *it) { TAKES(it); say("the list is broken"); middle(it); low_of_two(it); low_of_three(it); deep5(it); }
+FUNCTION void says(int *it) {
+    TAKES(it); say("the list is broken"); middle(it); low_of_two(it); low_of_three(it); deep5(it); half_known(it), of_header(it);
+}
+FUNCTION void says_both(int *it) { say("the short one"); TAKES(it); say("the longer one of these"); say("one of these"); }
 FUNCTION void unused(int *it) { TAKES(it); }
 FUNCTION void says_two(int *it) { say("a much longer text of two functions"); TAKES(it); say("only here\n"); low_of_three(it); }
 FUNCTION void says_other(int *it, int n) { say("a much longer text of two functions"); TAKES(it); check(n); }
@@ -107,9 +114,9 @@ template <class T> FUNCTION Other *start(T n) { return new Task([n](int *it) { T
 }
 #line 70 "src/list.c"
 int main(int argc, char **) {
-    kept = taken, handed = in_word;
+    kept = taken;
     asserts(sums, argc), asserts_twice(sums, argc), says(sums), says_two(sums), says_other(sums, argc), says_checked(sums, argc);
-    says_nothing(sums), checks_alone(sums, argc);
+    says_nothing(sums), says_both(sums), checks_alone(sums, argc);
     lists::Both both;
     lists::Square square;
     lists::Root *volatile base = &both;
@@ -167,12 +174,15 @@ def wanted(way):
         "low_of_two": two[0],
         "low_of_three": three[0],
         "passed": "called near an assertion at src/list.c:12 in asserts",
+        "half_known": 'called near the text "the list is broken" and 1 more',
         "jumped_to": "called near an assertion at src/list.c:12 in asserts",
         "deep2": 'called near the text "the list is broken"',
     }
     return {
         **{name: None if way in FIXED else told for name, told in called.items()},
         **dict.fromkeys(("taken", "in_word", "deep1", "never_called", "plain", "unused", "says_nothing", "main")),
+        "of_header": "near an assertion at /usr/include/own.h:4 in of_header" if way in FIXED else called["low"],
+        "says_both": 'near the text "the longer one of these"',
         "asserts": "near an assertion at src/list.c:12 in asserts",
         "asserts_twice": "near an assertion at src/list.c:22 in asserts_twice",
         "says": 'near the text "the list is broken"',
@@ -204,6 +214,9 @@ class Ways(Built):
                         self.assertEqual(near.told() if near else None, told)
                         inside = landmarks.near(places[name][1] - 1)
                         self.assertEqual(inside.told() if inside else None, told.replace("c:22", "c:24") if told else None)
+                # (before the second check, which is nearer than the first one's call)
+                near = landmarks.near(places["asserts_twice"][0] + 90)
+                self.assertEqual(near.told(), "near an assertion at src/list.c:24 in asserts_twice")
                 self.assertEqual([landmarks.near(it) for it in (0, 1 << 40)], [None, None])
 
     def test_calls_that_did_not_run(self):
@@ -290,6 +303,36 @@ class Ways(Built):
         self.assertEqual({landmarks.near(at) for at in range(*places["unused"])}, {None})
         self.assertEqual(landmarks.near(places["says"][0]).told(), 'near the text "what is said"')
 
+    def test_functions_without_gaps(self):
+        """Functions that nothing stands between: one whose address is taken, one of a table, and one that is jumped to on a condition."""
+        source = r"""
+        struct info { const void *own; const char *name; };
+        const char *said;
+        extern const void *const own[2];
+        const void *const own[2] = {own, own};
+        extern void says(int *), says2(int *), by_lea(int *), in_table(int *), jumps(int *), other(int *);
+        const struct info one = {own, "3One"};
+        const void *const table[] = {0, &one, in_table, 0};
+        #define FUNCTION(name, ...) __asm__(".text\n.p2align 4\n.globl " #name "\n.type " #name ",@function\n" #name ": .cfi_startproc\n" \
+            __VA_ARGS__ "ret\n.cfi_endproc\n.size " #name ",.-" #name)
+        #define SAYS "lea .Ltext(%rip),%rax\nmov %rax,said(%rip)\nnop\n"
+        #define TAKES "incl (%rdi)\nincl (%rdi)\nincl (%rdi)\nincl (%rdi)\nincl (%rdi)\nincl (%rdi)\nincl (%rdi)\nnop\n"
+        __asm__(".section .rodata.str1.1,\"aMS\",@progbits,1\n.Ltext: .string \"what is said\"");
+        FUNCTION(says, SAYS); FUNCTION(by_lea, TAKES); FUNCTION(says2, SAYS); FUNCTION(in_table, TAKES);
+        FUNCTION(jumps, "test %edi,%edi\njne other\n"); FUNCTION(other, SAYS);
+        void (*volatile kept)(int *);
+        int main(int n, char **w) { kept = by_lea; says(&n); says2(&n); other(&n); jumps(&n); return 0; }
+        """
+        for unwinds in (True, False):
+            text = source if unwinds else source.replace(".cfi_startproc", "").replace(".cfi_endproc", "")
+            path, places = self.built(text, "-O1", "-w", "-fno-toplevel-reorder", *WAYS["bare"][:-1], language="c")
+            landmarks = Landmarks(path)
+            said = 'near the text "what is said"'
+            wants = {"says": said, "by_lea": None, "says2": said, "in_table": "in a method of One", "jumps": None, "other": said}
+            for name, told in wants.items():
+                near = landmarks.near(places[name][0] + 1)
+                self.assertEqual(near.told() if near else None, told, (name, unwinds))
+
     def test_parts_that_stand_apart(self):
         source = r"""
         #define FUNCTION __attribute__((noinline, noclone))
@@ -319,14 +362,17 @@ static FUNCTION void of_circle(int *it) { it[3]++; }
 static FUNCTION void of_none(int *it) { it[4]++; }
 static FUNCTION void of_library(int *it) { it[5]++; }
 static FUNCTION void left_out(int *it) { it[6]++; }
+static FUNCTION void before(int *it) { it[7]++; }
+static FUNCTION void beyond(int *it) { it[8]++; }
 static const void *const of_infos[2] = {&of_infos, &of_infos};
-extern const struct info a, b, c, d, e, f, g, h, i;
+extern const struct info a, b, c, d, e, f, g, h, i, k;
 const struct info a = {of_infos, "5First", 0}, b = {of_infos, "6Second", 0}, c = {of_infos, "5Third", 0}, d = {of_infos, "6Fourth", 0};
 const struct info e = {of_infos, "*N1x5FifthE", 0}, f = {of_infos, "4Ring", &g}, g = {of_infos, "5Other", &f};
-const struct info h = {of_infos, "no name", 0}, i = {of_infos, "NSt4listIiE4NodeE", 0};
+const struct info h = {of_infos, "no name", 0}, i = {of_infos, "NSt4listIiE4NodeE", 0}, k = {of_infos, "4Last", 0};
 #define TABLE(name, of, ...) const void *const name[] = {0, &of, __VA_ARGS__, 0, 0, 0, "end"}
 TABLE(ta, a, own, of_two, of_five); TABLE(tb, b, of_two, of_five); TABLE(tc, c, of_five); TABLE(td, d, of_five); TABLE(te, e, of_five);
 TABLE(tf, f, of_circle); TABLE(tg, g, of_circle); TABLE(th, h, of_none); TABLE(ti, i, of_library); TABLE(tj, e, 0, 0, left_out);
+TABLE(tk, k, before, "a text", beyond);
 int main(int n, char **w) { return 0; }
 """
 
@@ -334,7 +380,7 @@ int main(int n, char **w) { return 0; }
 @unittest.skipUnless(shutil.which("gcc") and shutil.which("strip") and shutil.which("c++filt"), "there is no gcc")
 class Tables(Built):
     def test_of_several_classes(self):
-        for words in (("-fPIE", "-pie"), ("-fno-pie", "-no-pie")):
+        for words in (("-fPIE", "-pie"), ("-fno-pie", "-no-pie"), ("-fPIE", "-pie", "-Wl,-z,noseparate-code")):
             path, places = self.built(TABLES, "-O1", "-w", "-fno-toplevel-reorder", *words, language="c")
             landmarks = Landmarks(path)
             for name, told in (
@@ -346,6 +392,8 @@ class Tables(Built):
                 ("of_none", None),
                 ("of_library", "in a method of std::list<int>::Node"),
                 ("left_out", "in a method of x::Fifth"),
+                ("before", "in a method of Last"),
+                ("beyond", None),
             ):
                 near = landmarks.near(places[name][0])
                 self.assertTrue(near and near.told().startswith(told) if told else near is None, (name, near))
@@ -377,13 +425,33 @@ class Strange(Built):
             with open(path, "wb") as file:
                 file.write(data)
             table = self.table(path)
-            program = NativeProgram.__new__(NativeProgram)
-            program.back, program.panics, program.landmarks = table, {}, {}
-            program.files = [type("File", (), {"path": path, "bias": 0, "has": lambda self, addr: True})()]
+            program = self.program(path, table)
             for at in addrs:
                 near = program.near(at)
                 self.assertIsInstance(near.told() if near else "", str)
         self.assertLess(time.time() - began, 30)
+
+    def program(self, path, table):
+        program = NativeProgram.__new__(NativeProgram)
+        program.back, program.panics, program.landmarks = table, {}, {}
+        program.files = [type("File", (), {"path": path, "bias": 0, "has": lambda self, addr: True})()]
+        return program
+
+    def test_who_is_asked(self):
+        """Panics are asked first, a program in Rust nothing else, and what goes wrong tells nothing."""
+        path, places = self.built(SOURCE, *CODE, *WAYS["pie"])
+        at, own = places["says"][0], Near((Panic("src/a.rs", 7),))
+
+        def told(**panics):
+            program = self.program(path, self.table(path))
+            program.panics[path] = type("Panics", (), {"places": {}, **panics})()
+            near = program.near(at)
+            return near.told() if near else None
+
+        self.assertEqual(told(near=lambda self, addr: None), 'near the text "the list is broken"')
+        self.assertEqual(told(near=lambda self, addr: own), own.told())
+        self.assertIsNone(told(near=lambda self, addr: None, places={1: own.places[0]}))
+        self.assertEqual(told(near=lambda self, addr: [][addr]), 'near the text "the list is broken"')
 
     def table(self, path):
         table = os.path.join(self.folder, "table")
@@ -503,7 +571,8 @@ class Names(unittest.TestCase):
     def test_instructions_and_blocks(self):
         own = Marks((Landmark(ASSERTION, "near an assertion at src/a.c:7 in work"),))
         called = Marks((Landmark(TEXT, 'near the text "one"'),), True)
-        naming = Naming(None, Stripped(x10=own, x20=called))
+        library = Marks((Landmark(CLASS, "in a method of std::ctype<char>", 1, True),))
+        naming = Naming(None, Stripped(x10=own, x20=called, x40=library))
         self.assertEqual(naming.instruction(0x10), "x264+0x10 (near an assertion at src/a.c:7 in work)")
 
         def block(*sites):
@@ -512,6 +581,8 @@ class Names(unittest.TestCase):
         self.assertEqual(block(0x30, 0x10), "block made in x264+0x30 < x264+0x10 (near an assertion at src/a.c:7 in work)")
         self.assertEqual(block(0x30, 0x20), 'block made in x264+0x30 < x264+0x20 (called near the text "one")')
         self.assertEqual(block(0x20, 0x30), "block made in x264+0x20 < x264+0x30")
+        self.assertEqual(block(0x40, 0x30), "block made in x264+0x40 < x264+0x30")
+        self.assertEqual(naming.instruction(0x40), "x264+0x40 (in a method of std::ctype<char>)")
 
     def test_what_machines_read(self):
         own = Marks((Landmark(ASSERTION, "near an assertion at src/a.c:7 in work"),))
