@@ -60,7 +60,7 @@ class Functions:
         image = self.image
         sure = {*image.unwound[0], *image.exported, *self.known}
         maybe = {it for it in self.called if self.is_beginning(it)}
-        maybe.update(to for _, to in image.found(LEA) if to % ALIGNED == 0)
+        maybe.update(to for _, to in (*image.found(LEA), *image.moved) if to % ALIGNED == 0)
         maybe.update(to for to in (() if image.is_fixed else image.words.values()) if to % ALIGNED == 0)
         ends = {it[1] for start in image.unwound[0] if (it := image.function(start))}
         ends.update(start + size for start, size in image.exported.items() if size)

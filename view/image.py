@@ -41,8 +41,9 @@ FAR, SHORT = form(rb"\x0f(?=[\x80-\x8f](....))", 0, 6), form(rb"(?=[\x70-\x7f](.
 NEAR = form(rb"\xeb(?=(.))", 0, 2)
 LEA = form(rb"\x8d(?<=[\x48\x4c]\x8d)(?=[\x05\x0d\x15\x1d\x25\x2d\x35\x3d](....))", 1, 7)
 LOAD = form(rb"\x8b(?<=[\x48\x4c]\x8b)(?=[\x05\x0d\x15\x1d\x25\x2d\x35\x3d](....))", 1, 7)
-# `mov` of a number, which is an address where a program has a fixed place.
+# `mov` of a number, which is an address where a program has a fixed place; also to memory.
 MOVE = re.compile(rb"(?=[\xb8-\xbf](....))", re.DOTALL)
+STORE = re.compile(rb"(?=(?:[\xb8-\xbf]|\xc7(?:\x05....|\x04\x24|\x44\x24.|[\x40-\x43\x45-\x47].|[\x00-\x03\x06\x07]))(....))", re.DOTALL)
 
 
 class Image:
@@ -196,6 +197,12 @@ class Image:
         is_small = sum(len(code) for _, code in self.code) <= MOST
         return [it for begin, code in self.code if is_small for it in jumped(code, begin, form)]
 
+    @functools.cached_property
+    def moved(self) -> list[tuple[int, int]]:
+        """The same of numbers that are addresses where a program has a fixed place."""
+        is_small = self.is_fixed and sum(len(code) for _, code in self.code) <= MOST
+        return [it for begin, code in self.code if is_small for it in numbers(code, begin, STORE)]
+
     def called(self, starts: Iterable[int]) -> dict[int, list[int]]:
         """From where some functions are called. One whose address is taken otherwise, and so may be called from anywhere, isn't there, as
         all of a program that isn't moved: any number may be an address there."""
@@ -237,6 +244,11 @@ def jumped(code: bytes, begin: int, form: Form) -> Iterator[tuple[int, int]]:
     for it in form.pattern.finditer(code):
         at = start + it.start()
         yield at, at + form.size + int.from_bytes(it[1], "little", signed=True)
+
+
+def numbers(code: bytes, begin: int, pattern: re.Pattern[bytes]) -> Iterator[tuple[int, int]]:
+    """Where what looks like a `mov` of a number stands, and the number."""
+    return ((begin + it.start(), int.from_bytes(it[1], "little")) for it in pattern.finditer(code))
 
 
 def checks(code: bytes, begin: int, places: Iterable[int], most: int) -> list[list[int]]:

@@ -10,7 +10,7 @@ from typing import Iterable, Iterator, NamedTuple, Sequence
 import classes
 from asserted import Assertion, Assertions
 from functions import Functions, Range
-from image import LEA, MOVE, Image, checks, jumped
+from image import LEA, STORE, Image, checks, jumped, numbers
 
 # The strength of what a function refers to, the strongest first. An assertion of many functions, or of a header in several, is inlined.
 ASSERTION, CLASS, TEXT, COMMON, MANY = 0, 1, 2, 3, 8
@@ -76,16 +76,14 @@ class Landmarks:
     def texts_of(self, start: int, end: int) -> Iterator[int]:
         """The addresses of texts that a part of a function refers to."""
         code = self.image.bytes(start, end - start)
-        told = [to for _, to in jumped(code, start, LEA)]
-        told += [int.from_bytes(it[1], "little") for it in MOVE.finditer(code)] if self.image.is_fixed else []
-        yield from (it for it in told if self.image.is_constant(it) and self.image.begins(it))
+        told = (*jumped(code, start, LEA), *(numbers(code, start, STORE) if self.image.is_fixed else ()))
+        yield from (it for _, it in told if self.image.is_constant(it) and self.image.begins(it))
 
     @functools.cached_property
     def users(self) -> dict[int, set[int]]:
         """The functions that refer to what is constant, by their numbers."""
         found: dict[int, set[int]] = {}
-        moved = ((begin + it.start(), int.from_bytes(it[1], "little")) for begin, code in self.image.code for it in MOVE.finditer(code))
-        for at, to in (*self.image.found(LEA), *(moved if self.image.is_fixed else ())):
+        for at, to in (*self.image.found(LEA), *self.image.moved):
             if self.image.is_constant(to):
                 found.setdefault(to, set()).add(self.functions.number(at))
         return found

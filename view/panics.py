@@ -8,7 +8,7 @@ import struct
 from collections import Counter
 from typing import Iterable, NamedTuple, Sequence
 
-from image import LEA, MOVE, Image, checks, jumped
+from image import LEA, MOVE, Image, checks, jumped, numbers
 
 # So many files of a function are named.
 NAMED = 2
@@ -90,9 +90,7 @@ class Panics:
     def handed(self, start: int, end: int) -> list[Handed]:
         """The places that a function hands to panics, those of the standard library only where there are no others."""
         code = self.image.bytes(start, end - start)
-        told = list(jumped(code, start, LEA))
-        if self.image.is_fixed:
-            told += [(start + it.start(), int.from_bytes(it[1], "little")) for it in MOVE.finditer(code)]
+        told = [*jumped(code, start, LEA), *(numbers(code, start, MOVE) if self.image.is_fixed else ())]
         found = [(at, self.places[to]) for at, to in sorted(told) if to in self.places]
         own = [it for it in found if not it[1].is_library()] or found
         jumps = checks(code, start, (at for at, _ in own), BLOCK) if own else []

@@ -319,19 +319,20 @@ class Ways(Built):
         #define TAKES "incl (%rdi)\nincl (%rdi)\nincl (%rdi)\nincl (%rdi)\nincl (%rdi)\nincl (%rdi)\nincl (%rdi)\nnop\n"
         __asm__(".section .rodata.str1.1,\"aMS\",@progbits,1\n.Ltext: .string \"what is said\"");
         FUNCTION(says, SAYS); FUNCTION(by_lea, TAKES); FUNCTION(says2, SAYS); FUNCTION(in_table, TAKES);
-        FUNCTION(jumps, "test %edi,%edi\njne other\n"); FUNCTION(other, SAYS);
+        FUNCTION(jumps, "test %edi,%edi\njne.d32 other\n"); FUNCTION(other, SAYS);
         void (*volatile kept)(int *);
         int main(int n, char **w) { kept = by_lea; says(&n); says2(&n); other(&n); jumps(&n); return 0; }
         """
-        for unwinds in (True, False):
-            text = source if unwinds else source.replace(".cfi_startproc", "").replace(".cfi_endproc", "")
-            path, places = self.built(text, "-O1", "-w", "-fno-toplevel-reorder", *WAYS["bare"][:-1], language="c")
+        bare = source.replace(".cfi_startproc", "").replace(".cfi_endproc", "")
+        for way, text in (("pie", source), ("pie", bare), ("fixed", bare)):
+            flags = ("-O1", "-w", "-fno-toplevel-reorder", "-fno-asynchronous-unwind-tables", *WAYS[way])
+            path, places = self.built(text, *flags, language="c")
             landmarks = Landmarks(path)
             said = 'near the text "what is said"'
             wants = {"says": said, "by_lea": None, "says2": said, "in_table": "in a method of One", "jumps": None, "other": said}
             for name, told in wants.items():
                 near = landmarks.near(places[name][0] + 1)
-                self.assertEqual(near.told() if near else None, told, (name, unwinds))
+                self.assertEqual(near.told() if near else None, told, (name, way))
 
     def test_parts_that_stand_apart(self):
         source = r"""
