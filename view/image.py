@@ -53,7 +53,7 @@ class Image:
         self.parts: list[tuple[int, bytes]] = []
         self.code: list[tuple[int, bytes]] = []
         self.constant: list[tuple[int, int]] = []
-        self.dynamic, self.table, self.is_fixed = b"", 0, False
+        self.dynamic, self.table, self.is_fixed, self.is_go = b"", 0, False, False
         self.exports: tuple[int, int] = (0, 0)
         with open(path, "rb") as file:
             elf = ELFFile(file)
@@ -81,6 +81,7 @@ class Image:
         constant = [(addr, addr + size) for kind, flags, addr, size in found if kind == "SHT_PROGBITS" and flags & 7 == 2 and size]
         self.constant = constant or self.constant
         self.exports = next(((addr, size) for kind, _, addr, size in found if kind == "SHT_DYNSYM"), (0, 0))
+        self.is_go = any(it.name in (".gopclntab", ".data.rel.ro.gopclntab", ".go.buildinfo") for it in elf.iter_sections())
 
     def text(self, addr: int) -> bytes:
         """What stands at an address before the next zero byte, or none where there isn't one soon."""

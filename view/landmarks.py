@@ -178,8 +178,8 @@ class Landmarks:
 
     @functools.cache
     def near(self, addr: int) -> Marks | None:
-        """What is told of an instruction, or none."""
-        function = self.functions.function(addr)
+        """What is told of an instruction, or none. (In Go texts don't end with a zero byte.)"""
+        function = None if self.image.is_go else self.functions.function(addr)
         own = self.own(addr, function) if function else None
         # (what ran before the recording began may have been called from elsewhere)
         has_run = self.runs(addr - CALL_SIZE + 1, addr + 1)

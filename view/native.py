@@ -214,7 +214,7 @@ class NativeProgram:
         return self.panics[path]
 
     def landmarks_of(self, path: str) -> Landmarks | None:
-        """What a file's code refers to; nothing of one in Rust, whose texts don't end where they should."""
+        """What a file's code refers to; nothing of one in Rust, where texts don't end with a zero byte."""
         if path not in self.landmarks:
             image, panics = self.image_of(path), self.panics_of(path)
             is_other = image is None or panics is not None and panics.places

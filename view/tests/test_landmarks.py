@@ -467,6 +467,9 @@ class Strange(Built):
             file.seek(18)
             file.write(b"\xb7\x00")
         self.assertEqual({Landmarks(path).near(it[0]) for it in places.values()}, {None})
+        path, places = self.built(SOURCE, *CODE, *WAYS["pie"])
+        subprocess.run(["objcopy", "--add-section", ".go.buildinfo=/dev/null", path], check=True)
+        self.assertEqual({Landmarks(path).near(it[0]) for it in places.values()}, {None})
 
     def test_a_large_file(self):
         """All texts, calls and tables of sixteen megabytes of code are looked through in a second or two."""
