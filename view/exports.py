@@ -50,8 +50,8 @@ def panics(view: View, addr: int) -> Record | None:
 def landmarks(view: View, addr: int) -> Record | None:
     """What the function of an instruction without debug information refers to, or none."""
     near = view.naming.near(addr)
-    found = getattr(near, "found", None)
-    return {"called": near.is_called, "texts": [it.text for it in found]} if near and found else None
+    found, more = getattr(near, "found", None), getattr(near, "more", 0)
+    return {"called": near.is_called, "texts": [it.text for it in found], "more": more} if near and found else None
 
 
 def site(view: View, it: Site) -> Record:

@@ -25,9 +25,8 @@ PRINTED, LETTERS, SHOWN, CUT = re.compile(rb"[\x20-\x7e\t\n\r]{6,}"), 6, 40, "..
 FORMAT = re.compile(r"%[-+ #0-9.*hjlqtzL]*[A-Za-z]")
 # Texts that name nothing: of C++'s own library, of digits, and that there is no memory.
 EMPTY = re.compile(
-    r"(?:basic_string|vector|deque|list|map|array|bitset|span|optional|unordered_map|regex)\w*::?|cannot create std::|/usr/include/"
-    r"|\W*(?:out of|not enough|insufficient|no|cannot allocate|virtual)? ?memory(?: exhausted)?\W*$|.*(?:abcdef|ABCDEF)",
-    re.IGNORECASE,
+    r"basic_string(?:_view)?::?|(?:vector|deque|list|array|bitset|(?:unordered_)?(?:map|set))::(?:_|at\b)|%s: __pos|cannot create std::"
+    r"|/usr/include/|(?i:\W*(?:out of|not enough|insufficient|no|cannot allocate|virtual)? ?memory(?: exhausted)?\W*$|.*abcdef)"
 )
 
 
@@ -162,7 +161,7 @@ class Landmarks:
                 if len(found) + lost > MOST:
                     return None
                 calls = list(self.callers(it))
-                lost += not calls
+                lost += not calls or any(function is None for _, function in calls)
                 for at, function in calls:
                     if function and function[0] not in seen:
                         seen.add(function[0])

@@ -546,6 +546,10 @@ class Texts(unittest.TestCase):
             ("a text of more than forty letters, which is cut", "a text of more than forty letters, which.."),
             ("%d, %s, abcde", ""),
             ("basic_string::_M_create", ""),
+            ("basic_string: construction from null", ""),
+            ("unordered_map::at", ""),
+            ("list: it is broken", "list: it is broken"),
+            ("mapping::attach", "mapping::attach"),
             ("virtual memory exhausted", ""),
             ("out of memory for the list", "out of memory for the list"),
         ):
@@ -593,7 +597,7 @@ class Names(unittest.TestCase):
         panic = Near((Panic("src/a.rs", 7),))
         view = type("View", (), {"naming": Naming(None, Stripped(x10=own, x20=panic))})
         found = [exports.instruction(view, it) for it in (0x10, 0x20, 0x30)]
-        told = {"called": False, "texts": ["near an assertion at src/a.c:7 in work"]}
+        told = {"called": False, "texts": ["near an assertion at src/a.c:7 in work"], "more": 0}
         self.assertEqual([it["landmarks"] for it in found], [told, None, None])
         self.assertEqual([it["panics"] and it["panics"]["places"] for it in found], [None, [{"file": "src/a.rs", "line": 7}], None])
 
