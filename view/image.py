@@ -22,11 +22,14 @@ EXECUTABLE, WRITABLE, FIXED, FUNCTION = 1, 2, "ET_EXEC", 2
 TABLE, LINK, RELOCATION, SYMBOL = b"\x01\x1b\x03\x3b", struct.Struct("<ii"), struct.Struct("<QQq"), struct.Struct("<IBBHQQ")
 
 
+Pattern, Part = re.Pattern[bytes], tuple[int, bytes]
+
+
 class Form(NamedTuple):
     """How an instruction looks that ends with a distance to what it refers to: from which byte on it is looked for, and its size. (A
     pattern that begins with a byte is looked for much faster.)"""
 
-    pattern: re.Pattern[bytes]
+    pattern: Pattern
     first: int
     size: int
 
@@ -41,20 +44,24 @@ FAR, SHORT = form(rb"\x0f(?=[\x80-\x8f](....))", 0, 6), form(rb"(?=[\x70-\x7f](.
 NEAR = form(rb"\xeb(?=(.))", 0, 2)
 LEA = form(rb"\x8d(?<=[\x48\x4c]\x8d)(?=[\x05\x0d\x15\x1d\x25\x2d\x35\x3d](....))", 1, 7)
 LOAD = form(rb"\x8b(?<=[\x48\x4c]\x8b)(?=[\x05\x0d\x15\x1d\x25\x2d\x35\x3d](....))", 1, 7)
-# `mov` of a number, which is an address where a program has a fixed place; also to memory.
-MOVE = re.compile(rb"(?=[\xb8-\xbf](....))", re.DOTALL)
-STORE = re.compile(rb"(?=(?:[\xb8-\xbf]|\xc7(?:\x05....|\x04\x24|\x44\x24.|[\x40-\x43\x45-\x47].|[\x00-\x03\x06\x07]))(....))", re.DOTALL)
+# `mov` of a number, which is an address where a program has a fixed place; and of one whose last byte is none above another to a register
+# and to memory.
+MOVE = re.compile(rb"[\xb8-\xbf](?=(....))", re.DOTALL)
+MOVES = (
+    rb"[\xb8-\xbf](?=(...[\x00-%b]))",
+    rb"\xc7(?=(?:\x05....|\x04\x24|\x44\x24.|[\x40-\x43\x45-\x47].|[\x00-\x03\x06\x07])(...[\x00-%b]))",
+)
 
 
 class Image:
     """What a program for x86-64 loads, by its file; of another one nothing."""
 
     def __init__(self, path: str) -> None:
-        self.parts: list[tuple[int, bytes]] = []
-        self.code: list[tuple[int, bytes]] = []
+        self.parts: list[Part] = []
+        self.code: list[Part] = []
         self.constant: list[tuple[int, int]] = []
         self.dynamic, self.table, self.is_fixed, self.is_go = b"", 0, False, False
-        self.exports: tuple[int, int] = (0, 0)
+        self.exports, self.has_sections = (0, 0), False
         with open(path, "rb") as file:
             elf = ELFFile(file)
             if elf["e_machine"] != "EM_X86_64" or elf.elfclass != 64:
@@ -79,7 +86,7 @@ class Image:
         """Takes what is constant, and the exported symbols, from the sections, where these are still there."""
         found = [(it["sh_type"], it["sh_flags"], it["sh_addr"], it["sh_size"]) for it in elf.iter_sections()]
         constant = [(addr, addr + size) for kind, flags, addr, size in found if kind == "SHT_PROGBITS" and flags & 7 == 2 and size]
-        self.constant = constant or self.constant
+        self.constant, self.has_sections = constant or self.constant, bool(constant)
         self.exports = next(((addr, size) for kind, _, addr, size in found if kind == "SHT_DYNSYM"), (0, 0))
         self.is_go = any(it.name in (".gopclntab", ".data.rel.ro.gopclntab", ".go.buildinfo") for it in elf.iter_sections())
 
@@ -133,10 +140,15 @@ class Image:
         for addr in packed(it for (it,) in struct.iter_unpack("<Q", relr)):
             yield addr, int.from_bytes(self.bytes(addr, 8), "little")
         low, high = min((it for it, _ in self.parts), default=0), max((it + len(data) for it, data in self.parts), default=0)
-        for begin, data in self.parts if self.is_fixed else ():
+        for begin, data in filter(self.has_words, self.parts) if self.is_fixed else ():
             first = -begin % 8
             words = memoryview(data)[first : first + (len(data) - first) // 8 * 8].cast("Q")
             yield from ((begin + first + 8 * at, it) for at, it in enumerate(words) if low <= it < high and it)
+
+    def has_words(self, part: Part) -> bool:
+        """Whether a part may have addresses in words: it's more than code, as far as sections tell."""
+        begin, end = part[0], part[0] + len(part[1])
+        return part not in self.code or not self.has_sections or any(begin <= at < end for at in self.bounds)
 
     @functools.cached_property
     def words(self) -> dict[int, int]:
@@ -199,10 +211,16 @@ class Image:
         return [it for begin, code in self.code if is_small for it in jumped(code, begin, form)]
 
     @functools.cached_property
+    def moves(self) -> list[Pattern]:
+        """How numbers are loaded that may be addresses of a program with a fixed place; of another one none are."""
+        last = max((begin + len(data) for begin, data in self.parts), default=0) >> 24
+        return [re.compile(it % re.escape(bytes([min(last, 255)])), re.DOTALL) for it in MOVES] if self.is_fixed else []
+
+    @functools.cached_property
     def moved(self) -> list[tuple[int, int]]:
-        """The same of numbers that are addresses where a program has a fixed place."""
-        is_small = self.is_fixed and sum(len(code) for _, code in self.code) <= MOST
-        return [it for begin, code in self.code if is_small for it in numbers(code, begin, STORE)]
+        """Where such numbers are loaded in all code, with these."""
+        is_small = sum(len(code) for _, code in self.code) <= MOST
+        return [it for begin, code in self.code if is_small for pattern in self.moves for it in numbers(code, begin, pattern)]
 
     def called(self, starts: Iterable[int]) -> dict[int, list[int]]:
         """From where some functions are called. One whose address is taken otherwise, and so may be called from anywhere, isn't there, as
@@ -247,7 +265,7 @@ def jumped(code: bytes, begin: int, form: Form) -> Iterator[tuple[int, int]]:
         yield at, at + form.size + int.from_bytes(it[1], "little", signed=True)
 
 
-def numbers(code: bytes, begin: int, pattern: re.Pattern[bytes]) -> Iterator[tuple[int, int]]:
+def numbers(code: bytes, begin: int, pattern: Pattern) -> Iterator[tuple[int, int]]:
     """Where what looks like a `mov` of a number stands, and the number."""
     return ((begin + it.start(), int.from_bytes(it[1], "little")) for it in pattern.finditer(code))
 

@@ -10,7 +10,7 @@ from typing import Iterable, Iterator, NamedTuple, Sequence
 import classes
 from asserted import Assertion, Assertions
 from functions import Functions, Range
-from image import LEA, STORE, Image, checks, jumped, numbers
+from image import LEA, Image, checks, jumped, numbers
 
 # The strength of what a function refers to, the strongest first. An assertion of many functions, or of a header in several, is inlined.
 ASSERTION, CLASS, TEXT, COMMON, MANY = 0, 1, 2, 3, 8
@@ -75,7 +75,7 @@ class Landmarks:
     def texts_of(self, start: int, end: int) -> Iterator[int]:
         """The addresses of texts that a part of a function refers to."""
         code = self.image.bytes(start, end - start)
-        told = (*jumped(code, start, LEA), *(numbers(code, start, STORE) if self.image.is_fixed else ()))
+        told = (*jumped(code, start, LEA), *(it for pattern in self.image.moves for it in numbers(code, start, pattern)))
         yield from (it for _, it in told if self.image.is_constant(it) and self.image.begins(it))
 
     @functools.cached_property
