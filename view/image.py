@@ -22,7 +22,9 @@ EXECUTABLE, WRITABLE, FIXED, FUNCTION = 1, 2, "ET_EXEC", 2
 TABLE, LINK, RELOCATION, SYMBOL = b"\x01\x1b\x03\x3b", struct.Struct("<ii"), struct.Struct("<QQq"), struct.Struct("<IBBHQQ")
 
 
-Pattern, Part = re.Pattern[bytes], tuple[int, bytes]
+Pattern = re.Pattern[bytes]
+# An address, and what is there.
+Part = tuple[int, bytes]
 
 
 class Form(NamedTuple):
