@@ -28,8 +28,10 @@ WITH = re.compile(r" \[(?:with )?(.*)\]$")
 
 
 class Assertion(NamedTuple):
-    """A place of a source that may fail, with its function's name, empty where it isn't known, and where this and the other texts stand."""
+    """A place of a source that may fail: where code loads what its call takes, that call, the source's line and function, whose name is
+    empty where it isn't known, and where this and the other texts stand."""
 
+    begin: int
     at: int
     file: str
     line: int
@@ -98,7 +100,7 @@ class Assertions:
         if not SOURCE.fullmatch(file) or not 0 < line < 1 << 20:
             return None
         function = function_named(name.decode("latin-1")) if NAME.fullmatch(name) else ""
-        return Assertion(at, file.decode("utf-8", "replace"), line, function, texts)
+        return Assertion(at - len(loads) + told.start(), at, file.decode("utf-8", "replace"), line, function, texts)
 
     def loaded(self, told: re.Match[bytes], begin: int, what: str) -> int:
         """The address of a text that is loaded, or 0."""

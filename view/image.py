@@ -272,13 +272,9 @@ def numbers(code: bytes, begin: int, pattern: Pattern) -> Iterator[tuple[int, in
     return ((begin + it.start(), int.from_bytes(it[1], "little")) for it in pattern.finditer(code))
 
 
-def checks(code: bytes, begin: int, places: Iterable[int], most: int) -> list[list[int]]:
-    """From where the block is jumped to that each of some places is in: a block begins at most so many bytes before."""
-    jumps: dict[int, list[int]] = {}
+def conditional(code: bytes, begin: int) -> dict[int, list[int]]:
+    """Where jumps on a condition go, each with from where."""
+    found: dict[int, list[int]] = {}
     for at, to in (*jumped(code, begin, FAR), *jumped(code, begin, SHORT)):
-        jumps.setdefault(to, []).append(at)
-    blocks, found = [begin - most - 1, *sorted(jumps)], []
-    for it in places:
-        block = blocks[max(bisect.bisect_right(blocks, it) - 1, 0)]
-        found.append(jumps[block] if block >= it - most else [])
+        found.setdefault(to, []).append(at)
     return found

@@ -10,7 +10,7 @@ from typing import Iterable, Iterator, NamedTuple, Sequence
 import classes
 from asserted import Assertion, Assertions
 from functions import Functions, Range
-from image import LEA, Image, checks, jumped, numbers
+from image import LEA, Image, conditional, jumped, numbers
 
 # The strength of what a function refers to, the strongest first. An assertion of many functions, or of a header in several, is inlined.
 ASSERTION, CLASS, TEXT, COMMON, MANY = 0, 1, 2, 3, 8
@@ -18,8 +18,6 @@ ASSERTION, CLASS, TEXT, COMMON, MANY = 0, 1, 2, 3, 8
 NAMED, MOST, LEVELS, PASSED = 2, 16, 4, 400
 # A call site is the last byte of a call, which begins less than so many bytes before.
 CALL_SIZE = 8
-# A check jumps to at most so many bytes before the assertion's call.
-BLOCK = 64
 # Texts, and how many letters one has and how many are shown.
 PRINTED, LETTERS, SHOWN, CUT = re.compile(rb"[\x20-\x7e\t\n\r]{6,}"), 6, 40, ".."
 FORMAT = re.compile(r"%[-+ #0-9.*hjlqtzL]*[A-Za-z]")
@@ -91,13 +89,14 @@ class Landmarks:
         """The assertion whose check is nearest to an instruction of a function, a library's or one of many functions only where there's no
         other, or none."""
         made: list[tuple[bool, bool, int, Assertion]] = []
-        code = self.image.bytes(parts[0][0], parts[0][1] - parts[0][0]) if self.assertions.failing else b""
-        for part in parts:
-            found = self.assertions.of(*part)
-            own = checks(code, parts[0][0], (it.at for it in found), BLOCK) if found else []
-            for it, froms in zip(found, own):
-                distance = min(abs(at - addr) for at in (froms or [it.at]))
-                made.append((it.is_library(), self.users_of(it) > (1 if it.is_header() else MANY), distance, it))
+        found = [it for part in parts for it in self.assertions.of(*part)]
+        jumps = conditional(self.image.bytes(parts[0][0], parts[0][1] - parts[0][0]), parts[0][0]) if found else {}
+        # (what an assertion's call takes is loaded without a jump)
+        loaded = {at for it in found for at in range(it.begin, it.at + CALL_SIZE)}
+        for it in found:
+            checks = [at for to in jumps if it.begin <= to <= it.at for at in jumps[to] if at not in loaded]
+            distance = min(abs(at - addr) for at in (checks or [it.at]))
+            made.append((it.is_library(), self.users_of(it) > (1 if it.is_header() else MANY), distance, it))
         if not made:
             return None
         is_library, is_common, _, nearest = min(made)

@@ -2,13 +2,14 @@
 in a program that keeps no symbols. So an instruction is told by the places where its function, as the table for unwinding has it, may
 panic."""
 
+import bisect
 import functools
 import re
 import struct
 from collections import Counter
 from typing import Iterable, NamedTuple, Sequence
 
-from image import LEA, MOVE, Image, checks, jumped, numbers
+from image import LEA, MOVE, Image, conditional, jumped, numbers
 
 # So many files of a function are named.
 NAMED = 2
@@ -93,8 +94,12 @@ class Panics:
         told = [*jumped(code, start, LEA), *(numbers(code, start, MOVE) if self.image.is_fixed else ())]
         found = [(at, self.places[to]) for at, to in sorted(told) if to in self.places]
         own = [it for it in found if not it[1].is_library()] or found
-        jumps = checks(code, start, (at for at, _ in own), BLOCK) if own else []
-        return [Handed(at, place, it) for (at, place), it in zip(own, jumps)]
+        jumps = conditional(code, start) if own else {}
+        blocks, made = [start - BLOCK - 1, *sorted(jumps)], []
+        for at, place in own:
+            block = blocks[max(bisect.bisect_right(blocks, at) - 1, 0)]
+            made.append(Handed(at, place, jumps[block] if block >= at - BLOCK else ()))
+        return made
 
     def nearest(self, addr: int, handed: Sequence[Handed], most: int) -> tuple[Panic, ...]:
         """Of the files that have most of some places the one of each whose check is nearest to an instruction."""

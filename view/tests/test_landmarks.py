@@ -48,9 +48,10 @@ FUNCTION void deep3(int *it) { deep2(it); TAKES(it); }
 FUNCTION void deep4(int *it) { deep3(it); TAKES(it); }
 FUNCTION void deep5(int *it) { deep4(it); TAKES(it); }
 FUNCTION void half_known(int *it) { TAKES(it); }
+FUNCTION void below_header(int *it) { TAKES(it); }
 FUNCTION void never_called(int *it) { half_known(it); TAKES(it); }
 #line 4 "/usr/include/own.h"
-FUNCTION void of_header(int *it) { TAKES(it); assert(it != nullptr); }
+FUNCTION void of_header(int *it) { TAKES(it); assert(it != nullptr); below_header(it); TAKES(it); }
 FUNCTION int plain(int *it) { TAKES(it); return it[1]; }
 #line 12 "/build/lists-1.0/src/list.c"
 FUNCTION void asserts(int *it, int n) { TAKES(it); assert(n < 60); low_of_two(it); low_of_three(it); passed(it); jumped_to(it + n); }
@@ -71,7 +72,9 @@ FUNCTION void says(int *it) {
 /* (what calls it has a text as well) */
 FUNCTION void says_both(int *it) { say("the short one"); TAKES(it); say("the longer one of these"); say("one of these"); }
 FUNCTION void unused(int *it) { TAKES(it); }
-FUNCTION void says_two(int *it) { say("a much longer text of two functions"); TAKES(it); say("only here\n"); low_of_three(it); says_both(it); TAKES(it); }
+FUNCTION void says_two(int *it) {
+    say("a much longer text of two functions"); TAKES(it); say("only here\n"); low_of_three(it); says_both(it); TAKES(it);
+}
 FUNCTION void says_other(int *it, int n) { say("a much longer text of two functions"); TAKES(it); check(n); }
 FUNCTION void says_checked(int *it, int n) { say(": checked twice"); TAKES(it); check(n); }
 FUNCTION void checks_alone(int *it, int n) { TAKES(it); check(n); }
@@ -166,6 +169,7 @@ def wanted(way):
         "low_of_two": two[0],
         "low_of_three": three[0],
         "passed": "called near an assertion at src/list.c:12 in asserts",
+        "below_header": 'called near the text "the list is broken"',
         "half_known": 'called near the text "the list is broken" and 1 more',
         "jumped_to": "called near an assertion at src/list.c:12 in asserts",
         "deep2": 'called near the text "the list is broken"',
@@ -223,6 +227,11 @@ class Ways(Built):
         self.assertIsNone(told(low[0], low))
         self.assertIsNone(told(low[0], caller))
         self.assertEqual(told(low[0], low, caller), 'called near the text "the list is broken"')
+        # (a call in what no function is known to be is one more)
+        landmarks = Landmarks(path, [it for own in (low, caller, jumper) for it in range(*own)])
+        usual = landmarks.functions.function
+        landmarks.functions.function = lambda at: None if at in range(*jumper) else usual(at)
+        self.assertEqual(landmarks.near(low[0]).told(), 'called near the text "the list is broken" and 1 more')
         # (a jump writes nothing, so some of its function must have run)
         to = places["jumped_to"]
         self.assertIsNone(told(to[0], to, caller))

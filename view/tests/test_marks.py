@@ -47,9 +47,9 @@ class Texts(unittest.TestCase):
             ("/home/me/own/a.c", "/home/me/own/a.c"),
         ):
             self.assertEqual(asserted.built(file), told)
-        header = asserted.Assertion(0, "/usr/include/eigen3/Eigen/src/Core/Block.h", 7, "", ())
+        header = asserted.Assertion(0, 0, "/usr/include/eigen3/Eigen/src/Core/Block.h", 7, "", ())
         self.assertTrue(header.is_library() and header.is_header())
-        own = asserted.Assertion(0, "src/h.c", 7, "", ())
+        own = asserted.Assertion(0, 0, "src/h.c", 7, "", ())
         self.assertFalse(own.is_library() or own.is_header())
         self.assertEqual(own.told(), "near an assertion at src/h.c:7")
 
@@ -131,11 +131,11 @@ class Names(unittest.TestCase):
         self.assertEqual(naming.instruction(0x40), "x264+0x40 (in a method of std::ctype<char>)")
 
     def test_what_machines_read(self):
-        own = Marks((Landmark(ASSERTION, "near an assertion at src/a.c:7 in work"),))
+        own = Marks((Landmark(ASSERTION, "near an assertion at src/a.c:7 in work"),), False, 3)
         panic = Near((Panic("src/a.rs", 7),))
         view = type("View", (), {"naming": Naming(None, Stripped(x10=own, x20=panic))})
         found = [exports.instruction(view, it) for it in (0x10, 0x20, 0x30)]
-        told = {"called": False, "texts": ["near an assertion at src/a.c:7 in work"], "more": 0}
+        told = {"called": False, "texts": ["near an assertion at src/a.c:7 in work"], "more": 3}
         self.assertEqual([it["landmarks"] for it in found], [told, None, None])
         self.assertEqual([it["panics"] and it["panics"]["places"] for it in found], [None, [{"file": "src/a.rs", "line": 7}], None])
 
