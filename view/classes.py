@@ -22,7 +22,7 @@ LAMBDA, CUT = "::{lambda(", "<..>"
 
 
 class Classes:
-    """The classes of a program."""
+    """The classes of a program that have tables of virtual functions."""
 
     def __init__(self, image: Image) -> None:
         self.image = image

@@ -43,7 +43,7 @@ class Functions:
 
     def is_beginning(self, addr: int) -> bool:
         """Whether a function may begin at an address that is called."""
-        return addr % ALIGNED == 0 or bool(BEFORE.search(self.image.bytes(addr - LONGEST_BEFORE, LONGEST_BEFORE)))
+        return addr % ALIGNED == 0 or self.is_behind(addr)
 
     def outside(self, starts: list[int]) -> Iterator[int]:
         """Where jumps go that leave a function for an address that looks like a beginning."""
@@ -52,6 +52,7 @@ class Functions:
                 yield to
 
     def is_behind(self, addr: int) -> bool:
+        """Whether what is before an address ends a function, or fills up."""
         return bool(BEFORE.search(self.image.bytes(addr - LONGEST_BEFORE, LONGEST_BEFORE)))
 
     @functools.cached_property
@@ -96,6 +97,7 @@ class Functions:
 
     @functools.cache
     def unreached(self, start: int, end: int) -> list[int]:
+        """Where functions may begin so between two beginnings."""
         code = self.image.bytes(start, end - start)
         places = range((start // ALIGNED + 1) * ALIGNED, end, ALIGNED)
         found = [it for it in places if FILLED.search(code[max(it - start - FILLED_SIZE, 0) : it - start])]
