@@ -36,13 +36,22 @@ def instruction(view: View, addr: int) -> Record:
         "file": place.file if place else "",
         "line": place.line if place else 0,
         "panics": panics(view, addr),
+        "landmarks": landmarks(view, addr),
     }
 
 
 def panics(view: View, addr: int) -> Record | None:
     """The places of panics that tell an instruction without debug information, or none."""
-    near = view.naming.panics(addr)
-    return {"called": near.is_called, "places": [it._asdict() for it in near.places]} if near else None
+    near = view.naming.near(addr)
+    places = getattr(near, "places", None)
+    return {"called": near.is_called, "places": [it._asdict() for it in places]} if near and places else None
+
+
+def landmarks(view: View, addr: int) -> Record | None:
+    """What the function of an instruction without debug information refers to, or none."""
+    near = view.naming.near(addr)
+    found, more = getattr(near, "found", None), getattr(near, "more", 0)
+    return {"called": near.is_called, "texts": [it.text for it in found], "more": more} if near and found else None
 
 
 def site(view: View, it: Site) -> Record:

@@ -9,7 +9,7 @@ import os
 import struct
 from typing import Iterator, NamedTuple, Sequence
 
-from panics import Image
+from image import Image
 from source_lines import Place
 
 # How a table's header begins behind the first byte of its magic number: addresses of code go by one byte, and have eight.
@@ -49,14 +49,14 @@ class Loaded(Image):
     """A program as it is loaded."""
 
     @functools.cached_property
-    def moved(self) -> dict[int, int]:
+    def relocated(self) -> dict[int, int]:
         """The words that the loader makes addresses of the program, where that is moved."""
         return {} if self.is_fixed else dict(self.pointers())
 
     def word(self, addr: int) -> int:
-        return self.moved[addr] if addr in self.moved else int.from_bytes(self.bytes(addr, 8), "little")
+        return self.relocated[addr] if addr in self.relocated else int.from_bytes(self.bytes(addr, 8), "little")
 
-    def found(self, what: bytes) -> Iterator[int]:
+    def standing(self, what: bytes) -> Iterator[int]:
         """Where some bytes stand."""
         for begin, data in self.parts:
             at = data.find(what)
@@ -66,8 +66,8 @@ class Loaded(Image):
 
     def pointing(self, to: int) -> Iterator[int]:
         """The words that are an address."""
-        moved = (addr for addr, it in self.moved.items() if it == to)
-        return self.found(to.to_bytes(8, "little")) if self.is_fixed else moved
+        moved = (addr for addr, it in self.relocated.items() if it == to)
+        return self.standing(to.to_bytes(8, "little")) if self.is_fixed else moved
 
 
 class Function(NamedTuple):
@@ -240,7 +240,7 @@ class Table:
 def table_of(path: str) -> Table | None:
     """The table of a program, or none: the one that the runtime's record points to, or else the only one."""
     image, found = Loaded(path), list[Table]()
-    for at in itertools.islice(image.found(HEAD), HEADERS):
+    for at in itertools.islice(image.standing(HEAD), HEADERS):
         with contextlib.suppress(Exception):
             found.append(Table(image, at - 1))
     whole = next((it for it in found if it.module), None)

@@ -81,6 +81,8 @@ def lacking(native: "NativeProgram | None") -> str:
     how = f"build it with -g{package}"
     if native and native.has_panics():
         how += "; `near a panic at` is no place of the code itself, but one where its function may panic"
+    elif native and native.has_landmarks():
+        how += "; `near` and `in a method of` tell what the function that code is in refers to, and not the place itself"
     return f"no debug information, so fields and source lines are unknown: {how}"
 
 

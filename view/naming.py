@@ -14,6 +14,7 @@ if TYPE_CHECKING:
     # (which are read where a program is named alone: they want pyelftools)
     from fields import Program
     from native import NativeProgram
+    from landmarks import Marks
     from panics import Near
 
 
@@ -120,8 +121,9 @@ class Naming:
         from_file = getattr(self.program, "library", None)
         return from_file(addr) if from_file else ""
 
-    def panics(self, addr: int) -> "Near | None":
-        """What panics tell of an instruction without a function and a line, or none; reports of native programs tell it."""
+    def near(self, addr: int) -> "Near | Marks | None":
+        """What is told of an instruction without a function and a line by what its function refers to, or none; reports of native programs
+        tell it."""
         is_known = self.sources is not None and any(it.function or it.file for it in self.sources.frames(addr))
         from_file = None if is_known else getattr(self.program, "near", None)
         return from_file(addr) if from_file else None
@@ -172,8 +174,8 @@ class Naming:
         names = [self.readable(it.function) for it in frames if it.function]
         near = sources.near(addr) if sources and place is None else None
         told = place.short() if place else f"near {near.short()}" if near else self.library(addr) or f"0x{addr:08x}"
-        panics = self.panics(addr) if not names else None
-        return f"{told} ({' < '.join(names[:2])})" if names else f"{told} ({panics.told()})" if panics else told
+        beside = self.near(addr) if not names else None
+        return f"{told} ({' < '.join(names[:2])})" if names else f"{told} ({beside.told()})" if beside else told
 
     def is_of_language(self, addr: int) -> bool:
         """Whether an instruction is of a library that each program of its language has, as far as its line was looked up."""
@@ -208,14 +210,14 @@ class Naming:
         own = [it for it in sites if it.name not in ALLOCATORS] or list(sites)
         return [self.names.lasting(it.name) for it in [it for it in own if it.name not in BEGINNINGS] or own[:1]]
 
-    def near_panics(self, chain: Sequence[Site]) -> tuple[int, str]:
-        """Of a block's call sites the first whose function panics tell, if need be by what calls the last one; and what they tell."""
-        found = [None if self.site(it) or it.name != "-" else self.panics(it.addr) for it in chain]
+    def near_sites(self, chain: Sequence[Site]) -> tuple[int, str]:
+        """Of a block's call sites the first whose function refers to something, if need be by what calls the last one; and what that is."""
         last = len(chain) - 1
-        told = (at for at, it in enumerate(found) if it and it.names_source() and (at == last or not it.is_called))
-        at = next(told, None)
-        near = found[at] if at is not None else None
-        return (at or 0, f" ({near.told()})") if near else (0, "")
+        for at, it in enumerate(chain):
+            near = None if self.site(it) or it.name != "-" else self.near(it.addr)
+            if near and near.names_source() and (at == last or not near.is_called):
+                return at, f" ({near.told()})"
+        return 0, ""
 
     def block(self, sites: Sequence[Site]) -> str:
         if not sites:
@@ -224,7 +226,7 @@ class Naming:
             return "thread-local variables"
         chain = self.chain(sites)
         at = self.site(chain[0])
-        near, told = self.near_panics(chain)
+        near, told = self.near_sites(chain)
         rest = [self.called(it) + (told if at == near else "") for at, it in enumerate(chain) if at > 0]
         name = self.called(chain[0])
         first = at or ("an unknown function" if name == "-" else name)

@@ -12,7 +12,9 @@ from typing import Iterable, Iterator, NamedTuple
 from faults import Fault
 from fields import Die, Program, Variable, chosen, last_name, sound
 from golang import Table, table_of
+from image import Image
 from keys import OfFile, OfMemory, OfPlace, OfStack
+from landmarks import Landmarks, Marks
 from mangled import demangled
 from naming import Memory
 from panics import Near, Panics
@@ -168,6 +170,7 @@ class NativeProgram:
         self.back, self.files = back, [File(*it) for it in back.maps]
         self.panics: dict[str, Panics | None] = {}
         self.go_tables: dict[str, Table | None] = {}
+        self.landmarks: dict[str, Landmarks | None] = {}
         self.path = back.program
         own = next((it for it in self.files if os.path.realpath(it.path) == os.path.realpath(self.path)), None)
         self.main, self.own = own.program() if own else Program(self.path), own
@@ -205,16 +208,32 @@ class NativeProgram:
             found.setdefault(file.path, []).append(at)
         return found
 
+    @functools.cache
+    def image_of(self, path: str) -> Image | None:
+        return sound(lambda: Image(path), None)
+
     def panics_of(self, path: str) -> Panics | None:
         if path not in self.panics:
-            self.panics[path] = sound(lambda: Panics(path, self.ran.get(path, ())), None)
+            image = self.image_of(path)
+            self.panics[path] = sound(lambda: Panics(path, self.ran.get(path, ()), image), None) if image else None
         return self.panics[path]
 
-    def near(self, addr: int) -> Near | None:
-        """What panics tell of an instruction, or none."""
+    def landmarks_of(self, path: str) -> Landmarks | None:
+        """What a file's code refers to; nothing of one in Rust, where texts don't end with a zero byte."""
+        if path not in self.landmarks:
+            image, panics = self.image_of(path), self.panics_of(path)
+            is_other = image is None or panics is not None and panics.places
+            self.landmarks[path] = None if is_other else sound(lambda: Landmarks(path, self.ran.get(path, ()), image), None)
+        return self.landmarks[path]
+
+    def near(self, addr: int) -> Near | Marks | None:
+        """What panics tell of an instruction, or else what its function refers to, or none."""
         found = self.file(addr)
-        panics = self.panics_of(found[0].path) if found else None
-        return sound(functools.partial(panics.near, found[1]), None) if found and panics else None
+        if found is None:
+            return None
+        own: list[Panics | Landmarks | None] = [self.panics_of(found[0].path), self.landmarks_of(found[0].path)]
+        told = (sound(functools.partial(it.near, found[1]), None) for it in own if it)
+        return next(filter(None, told), None)
 
     def has_panics(self) -> bool:
         """Whether panics tell of the program's own code, which has no symbols."""
@@ -235,6 +254,11 @@ class NativeProgram:
     def has_go_table(self) -> bool:
         """Whether the program itself has a table of Go's."""
         return self.own is not None and self.go_table(self.own.path) is not None
+
+    def has_landmarks(self) -> bool:
+        """Whether what it refers to tells of the program's own code, which has no symbols."""
+        image = self.image_of(self.own.path) if self.own and self.own.is_stripped else None
+        return image is not None and bool(image.code) and not self.has_panics()
 
     def type_named(self, text: str) -> Die:
         """A type of the program, or else of one of its libraries."""

@@ -4,36 +4,19 @@ panic."""
 
 import bisect
 import functools
-import itertools
-import os
 import re
 import struct
 from collections import Counter
-from typing import Iterable, Iterator, NamedTuple, Sequence
+from typing import Iterable, NamedTuple, Sequence
 
-from elftools.elf.elffile import ELFFile
+from image import LEA, MOVE, Image, conditional, jumped, numbers
 
 # So many files of a function are named.
 NAMED = 2
-# Of a program with more code the calls aren't looked for.
-MOST = 32 << 20
 # A call site is the last byte of a call, which begins less than so many bytes before.
 CALL_SIZE = 8
 # A check jumps to at most so many bytes before the place is loaded.
 BLOCK = 48
-# At most so many relocations that are packed are read: each word of 8 bytes has up to 63.
-PACKED = 1 << 20
-# Tags of the dynamic section, and the type of a relocation that puts an address of the program into a word.
-RELA, RELA_SIZE, RELR_SIZE, RELR, RELATIVE = 7, 8, 35, 36, 8
-EXECUTABLE, FIXED, LOADED = 1, "ET_EXEC", ("PT_LOAD", "PT_DYNAMIC")
-# `lea` of an address beside the code, `mov` of one that is fixed, calls and jumps to other functions, and jumps within one.
-LEA = re.compile(rb"(?=[\x48\x4c]\x8d[\x05\x0d\x15\x1d\x25\x2d\x35\x3d](....))", re.DOTALL)
-MOVE = re.compile(rb"(?=[\xb8-\xbf](....))", re.DOTALL)
-CALL, THROUGH = re.compile(rb"(?=[\xe8\xe9](....))", re.DOTALL), re.compile(rb"(?=\xff[\x15\x25](....))", re.DOTALL)
-LOAD = re.compile(rb"(?=[\x48\x4c]\x8b[\x05\x0d\x15\x1d\x25\x2d\x35\x3d](....))", re.DOTALL)
-FAR, SHORT = re.compile(rb"(?=\x0f[\x80-\x8f](....))", re.DOTALL), re.compile(rb"(?=[\x70-\x7f](.))", re.DOTALL)
-# How tables for unwinding and their entries are written, as all linkers do.
-TABLE, LINK = b"\x01\x1b\x03\x3b", struct.Struct("<ii")
 PATH = re.compile(rb"[^\x00-\x1f\x7f]+\.rs")
 # The standard library's sources, and those that are linked into it.
 LIBRARY = re.compile(r"^(?:/rustc/\w+/|.*/rustlib/src/rust/|/usr/src/rustc-[^/]+/|/rust/(?=deps/)|/cargo/(?=registry/)|)(?:library/)?")
@@ -84,84 +67,12 @@ class Handed(NamedTuple):
         return min(abs(it - addr) for it in (self.checks or (self.at,)))
 
 
-class Image:
-    """What a program for x86-64 loads, by its file; of another one nothing."""
-
-    def __init__(self, path: str) -> None:
-        self.parts: list[tuple[int, bytes]] = []
-        self.code: list[tuple[int, bytes]] = []
-        self.dynamic, self.table, self.is_fixed = b"", 0, False
-        with open(path, "rb") as file:
-            elf = ELFFile(file)
-            if elf["e_machine"] != "EM_X86_64" or elf.elfclass != 64:
-                return
-            self.is_fixed = elf["e_type"] == FIXED
-            left = 2 * os.fstat(file.fileno()).st_size
-            for it in elf.iter_segments():
-                # (what is loaded lies in the file side by side, and has what tells of relocations)
-                left -= it["p_filesz"] if it["p_type"] in LOADED else 0
-                if left < 0:
-                    return
-                if it["p_type"] == "PT_LOAD":
-                    self.parts.append((it["p_vaddr"], it.data()))
-                    if it["p_flags"] & EXECUTABLE:
-                        self.code.append(self.parts[-1])
-                elif it["p_type"] == "PT_DYNAMIC":
-                    self.dynamic = it.data()
-                elif it["p_type"] == "PT_GNU_EH_FRAME":
-                    self.table = it["p_vaddr"]
-
-    def bytes(self, addr: int, size: int) -> bytes:
-        """So many bytes at an address, or none where these aren't in the file."""
-        for begin, data in self.parts:
-            if begin <= addr and addr + size <= begin + len(data):
-                return data[addr - begin : addr - begin + size]
-        return b""
-
-    def pointers(self) -> Iterator[tuple[int, int]]:
-        """Each word that the loader makes an address of the program, with that; of a program that isn't moved each that may be one."""
-        tags: dict[int, int] = {tag: value for tag, value in struct.iter_unpack("<qQ", self.dynamic[: len(self.dynamic) // 16 * 16])}
-        rela = self.bytes(tags.get(RELA, 0), tags.get(RELA_SIZE, 0) // 24 * 24)
-        for addr, info, to in struct.iter_unpack("<QQq", rela):
-            if info & 0xFFFFFFFF == RELATIVE:
-                yield addr, to
-        relr = self.bytes(tags.get(RELR, 0), tags.get(RELR_SIZE, 0) // 8 * 8)
-        for addr in itertools.islice(packed(it for (it,) in struct.iter_unpack("<Q", relr)), PACKED):
-            yield addr, int.from_bytes(self.bytes(addr, 8), "little")
-        for begin, data in self.parts if self.is_fixed else ():
-            first = -begin % 8
-            words = memoryview(data)[first : first + (len(data) - first) // 8 * 8].cast("Q")
-            yield from ((begin + first + 8 * at, it) for at, it in enumerate(words) if it)
-
-
-def packed(words: Iterable[int]) -> Iterator[int]:
-    """The addresses of relocations that are packed: an even word is one, and an odd one has a bit for each of the 63 words that follow."""
-    base = 0
-    for it in words:
-        if it % 2 == 0:
-            yield it
-            base = it + 8
-        else:
-            yield from (base + 8 * bit for bit in range(63) if it >> (bit + 1) & 1)
-            base += 8 * 63
-
-
-def jumped(code: bytes, begin: int, pattern: re.Pattern[bytes], size: int) -> Iterator[tuple[int, int]]:
-    """Where what looks like an instruction of some bytes stands, and the address that its last bytes name from its end on."""
-    for it in pattern.finditer(code):
-        yield begin + it.start(), begin + it.start() + size + int.from_bytes(it[1], "little", signed=True)
-
-
 class Panics:
     """The places of a program's panics, by its functions. What is no program of Rust for x86-64 has none."""
 
-    def __init__(self, path: str, ran: Iterable[int] = ()) -> None:
-        self.image, self.ran = Image(path), frozenset(ran)
-        self.pointers = dict(self.image.pointers())
-        self.places = {addr: place for addr, to in self.pointers.items() if (place := self.place(addr, to))}
-        self.starts: list[int] = []
-        self.entries: list[int] = []
-        self.read_table()
+    def __init__(self, path: str, ran: Iterable[int] = (), image: Image | None = None) -> None:
+        self.image, self.ran = image or Image(path), frozenset(ran)
+        self.places = {addr: place for addr, to in self.image.words.items() if (place := self.place(addr, to))}
 
     def place(self, addr: int, to: int) -> Panic | None:
         """The place at an address whose first word points to a text, or none where that is no place of a source."""
@@ -176,40 +87,14 @@ class Panics:
             return None
         return Panic(name.decode("utf-8", "replace"), line)
 
-    def read_table(self) -> None:
-        """Where functions begin and what unwinds each, by the table that is searched when a program unwinds."""
-        head = self.image.bytes(self.image.table, 12) if self.places else b""
-        if head[:4] != TABLE:
-            return
-        count = int.from_bytes(head[8:], "little")
-        for start, entry in LINK.iter_unpack(self.image.bytes(self.image.table + 12, 8 * count)):
-            self.starts.append(self.image.table + start)
-            self.entries.append(self.image.table + entry)
-
-    def function(self, addr: int) -> tuple[int, int] | None:
-        """Where the function of an instruction begins and ends, or none."""
-        at = bisect.bisect_right(self.starts, addr) - 1
-        told = self.image.bytes(self.entries[at] + 8, 8) if at >= 0 else b""
-        if not told:
-            return None
-        start, size = LINK.unpack(told)
-        # (an entry that is written otherwise begins elsewhere)
-        if start + self.entries[at] + 8 != self.starts[at] or addr >= self.starts[at] + size:
-            return None
-        return self.starts[at], self.starts[at] + size
-
     @functools.cache
     def handed(self, start: int, end: int) -> list[Handed]:
         """The places that a function hands to panics, those of the standard library only where there are no others."""
         code = self.image.bytes(start, end - start)
-        told = list(jumped(code, start, LEA, 7))
-        if self.image.is_fixed:
-            told += [(start + it.start(), int.from_bytes(it[1], "little")) for it in MOVE.finditer(code)]
+        told = [*jumped(code, start, LEA), *(numbers(code, start, MOVE) if self.image.is_fixed else ())]
         found = [(at, self.places[to]) for at, to in sorted(told) if to in self.places]
         own = [it for it in found if not it[1].is_library()] or found
-        jumps: dict[int, list[int]] = {}
-        for at, to in (*jumped(code, start, FAR, 6), *jumped(code, start, SHORT, 2)) if own else ():
-            jumps.setdefault(to, []).append(at)
+        jumps = conditional(code, start) if own else {}
         blocks, made = [start - BLOCK - 1, *sorted(jumps)], []
         for at, place in own:
             block = blocks[max(bisect.bisect_right(blocks, at) - 1, 0)]
@@ -224,27 +109,12 @@ class Panics:
 
     @functools.cached_property
     def calls(self) -> dict[int, list[int]]:
-        """From where each function is called. One whose address is taken otherwise, and so may be called from anywhere, isn't there, as all
-        of a program that isn't moved: any number may be an address there."""
-        found: dict[int, list[int]] = {it: [] for it in self.starts if not self.image.is_fixed}
-        words = {addr: to for addr, to in self.pointers.items() if to in found}
-        called, taken = set[int](), set[int]()
-        for begin, code in self.image.code if sum(len(code) for _, code in self.image.code) <= MOST else ():
-            for at, to in jumped(code, begin, CALL, 5):
-                if to in found:
-                    found[to].append(at)
-            for at, word in jumped(code, begin, THROUGH, 6):
-                if word in words:
-                    found[words[word]].append(at)
-                    called.add(word)
-            taken.update(to for _, to in jumped(code, begin, LEA, 7) if to in found)
-            taken.update(words[word] for _, word in jumped(code, begin, LOAD, 7) if word in words)
-        taken.update(to for word, to in words.items() if word not in called)
-        return {start: calls for start, calls in found.items() if start not in taken}
+        """From where each function is called, as far as that is known."""
+        return self.image.called(self.image.unwound[0])
 
     def has_run(self, at: int) -> bool:
         """Whether a call has run, which writes the place to come back to; a jump, which writes nothing, may have."""
-        return at in self.ran or self.image.bytes(at, 2)[:1] == b"\xe9" or self.image.bytes(at, 2) == b"\xff\x25"
+        return at in self.ran or self.image.is_jump(at)
 
     def caller(self, start: int) -> Panic | None:
         """A place of the one file that a function was called from, or none where that isn't known, or there are several."""
@@ -252,7 +122,7 @@ class Panics:
         calls = self.calls.get(start, ()) if self.ran else ()
         # (a trace without pcs tells of no call that it has run)
         for at in filter(self.has_run, calls if any(it in self.ran for it in calls) else ()):
-            function = self.function(at)
+            function = self.image.function(at)
             own = self.nearest(at, self.handed(*function), 1) if function else ()
             if not own or own[0].is_library():
                 return None
@@ -262,7 +132,7 @@ class Panics:
     @functools.cache
     def near(self, addr: int) -> Near | None:
         """What panics tell of an instruction, or none."""
-        function = self.function(addr) if self.places else None
+        function = self.image.function(addr) if self.places else None
         if function is None:
             return None
         own = self.nearest(addr, self.handed(*function), NAMED)

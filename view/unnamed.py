@@ -48,7 +48,7 @@ def name(thing: Thing, pcs: Sequence[int], naming: Naming) -> None:
     functions = list(dict.fromkeys(it for it in map(naming.frame, pcs) if it))
     it = thing.example
     if isinstance(thing.key, OfStack):
-        used = f", used at {users}" if any(map(naming.panics, pcs)) else ""
+        used = f", used at {users}" if any(map(naming.near, pcs)) else ""
         thing.name += f", used in {listing(functions)}" if functions else used
     elif isinstance(thing.key, OfFile):
         thing.name += f", used at {users}"

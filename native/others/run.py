@@ -193,10 +193,11 @@ def recorded(study: Study, program: str, folder: str) -> str:
 
 def is_named(name: str) -> bool:
     """Whether an object is called by a name or a line of a source, and not by places alone, as `block made in fd+0x1e42e2 < fd+0x34231`. A
-    place of a panic counts, but for one of the standard library; that a file has the memory doesn't, where its own code alone uses that."""
+    place of a panic, an assertion and a class count, but for those of a library, and so does a text, but for that of a caller; that a file
+    has the memory doesn't, where its own code alone uses that."""
     if re.match("memory at|block without", name):
         return False
-    if re.search(r"near (?:a panic|panics) at (?!library/)", name):
+    if re.search(r'near (?:a panic|panics) at (?!library/)|near an assertion at |in a method of (?!std::|tbb::)|\(near the text "', name):
         return True
     name = re.sub(r"^memory of (.+), used at (?=\1\+0x)", "memory used at ", name)
     parts = re.split(r" < | and ", re.sub(r"^(?:block (?:of \S+ )?made|block used|memory used) (?:in|at) | \([^)]*\)", "", name))

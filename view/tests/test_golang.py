@@ -467,13 +467,15 @@ class Names(OfBytes):
         none = "no debug information, so fields and source lines are unknown: build it with -g"
         near = "; `near a panic at` is no place of the code itself, but one where its function may panic"
         self.assertEqual(lacking(None), none)
-        for has_table, has_panics, wanted in (
-            (False, False, none + package),
-            (False, True, none + package + near),
-            (True, False, f"{go}: leave it unstripped, without -s and -w in -ldflags{package}"),
+        refers = "; `near` and `in a method of` tell what the function that code is in refers to, and not the place itself"
+        for has_table, has_panics, has_landmarks, wanted in (
+            (False, False, False, none + package),
+            (False, True, True, none + package + near),
+            (False, False, True, none + package + refers),
+            (True, False, True, f"{go}: leave it unstripped, without -s and -w in -ldflags{package}"),
         ):
-            native = mock.Mock(has_go_table=lambda told=has_table: told, has_panics=lambda told=has_panics: told)
-            self.assertEqual(lacking(native), wanted)
+            asked = {"has_go_table": has_table, "has_panics": has_panics, "has_landmarks": has_landmarks}
+            self.assertEqual(lacking(mock.Mock(**{it: lambda told=told: told for it, told in asked.items()})), wanted)
 
 
 SOURCE = os.path.join(TOP, "native", "tries", "golang.go")

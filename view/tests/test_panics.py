@@ -13,8 +13,9 @@ sys.path.insert(0, os.path.join(TOP, "view"))
 
 from elftools.elf.elffile import ELFFile  # noqa: E402
 
+from image import packed  # noqa: E402
 from naming import Naming  # noqa: E402
-from panics import Near, Panic, Panics, packed  # noqa: E402
+from panics import Near, Panic, Panics  # noqa: E402
 from reports import Site  # noqa: E402
 
 sys.path.insert(0, os.path.join(TOP, "native", "others"))
