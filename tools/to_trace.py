@@ -82,7 +82,7 @@ def write(found, harts, table, path):
 def back(path, words):
     pages, code = {}, {}
     with open(path, errors="surrogateescape") as file:
-        # (of a program of this machine other lines say more, and some name instructions: docs/NATIVE.md)
+        # (of a program of this machine other lines say more, and some name instructions: docs/FORMATS.md)
         for words_of_line in map(str.split, file):
             if words_of_line[0].startswith("0x"):
                 pages[int(words_of_line[0], 16)] = int(words_of_line[1], 16)

@@ -1,5 +1,5 @@
 """The names of a program of this machine: by the table back that native/ writes with a trace. Each address of the trace is one of the
-program or of a library that it loaded, and their debug information says the rest. docs/NATIVE.md has the table."""
+program or of a library that it loaded, and their debug information says the rest. docs/FORMATS.md has the table."""
 
 import contextlib
 import functools
