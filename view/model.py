@@ -219,12 +219,14 @@ class View:
 
     def listed(self) -> list[Thing]:
         """Those of them that have a row each."""
-        return [it for it in self.chosen() if it not in self.folded()]
+        folded = {it.key for it in self.folded()}
+        return [it for it in self.chosen() if it.key not in folded]
 
     def folded(self) -> list[Thing]:
         """The objects of the C library and of Go's runtime, which have one row, unless the call asks for them."""
         is_asked = "library" in self.call.options or "object" in self.call.options
-        return [] if is_asked else [it for it in self.things if it.key in self.foreign | self.runtime]
+        folded = self.foreign | self.runtime
+        return [] if is_asked else [it for it in self.things if it.key in folded]
 
     def foretold(self) -> list[Foretold]:
         """The predicted lines of the objects that the call wants to see."""

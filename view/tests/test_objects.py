@@ -386,6 +386,14 @@ class Objects(unittest.TestCase):
         for has_runtime, whose in ((False, "the C library"), (True, "the C library or of Go's runtime")):
             self.assertEqual(library.row_of([], False, has_runtime)[1], f"0 objects of {whose}: --library shows them")
 
+    def test_what_is_folded_is_found_once(self):
+        rows = [f"line observed {it:#010x} 64 start 0 count 9 verdict false" for it in range(0x1000, 0x9000, 0x1000)]
+        view, calls = view_of(rows), []
+        view.runtime, folded = {view.things[1].key, view.things[4].key}, view.folded
+        view.folded = lambda: calls.append(1) or folded()
+        self.assertEqual(view.listed(), [it for at, it in enumerate(view.things) if at not in (1, 4)])
+        self.assertEqual(len(calls), 1)
+
     def test_true_sharing_below_the_first_rows_is_told(self):
         def told(*useful):
             rows, lines = [], []
