@@ -19,7 +19,7 @@ NAMED, MOST, LEVELS, PASSED = 2, 16, 4, 400
 # A call site is the last byte of a call, which begins less than so many bytes before.
 CALL_SIZE = 8
 # Texts, and how many letters one has and how many are shown.
-PRINTED, LETTERS, SHOWN, CUT = re.compile(rb"[\x20-\x7e\t\n\r]{6,}"), 6, 40, ".."
+PRINTED, LETTERS, SHOWN, CUT = re.compile(rb"[\x20-\x7e\t\n\r]{6,}"), 6, 60, ".."
 FORMAT = re.compile(r"%[-+ #0-9.*hjlqtzL]*[A-Za-z]")
 # Texts that name nothing: of C++'s own library, of digits, and that there is no memory.
 EMPTY = re.compile(

@@ -219,6 +219,11 @@ class Naming:
                 return at, f" ({near.told()})"
         return 0, ""
 
+    def is_told(self, sites: Sequence[Site]) -> bool:
+        """Whether a function, a line, or what stripped code refers to tells any of a block's call sites."""
+        chain = self.chain(sites) if sites else []
+        return any(it.name != "-" or self.site(it) for it in chain) or bool(self.near_sites(chain)[1])
+
     def block(self, sites: Sequence[Site]) -> str:
         if not sites:
             return "block without call sites"

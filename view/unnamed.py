@@ -8,7 +8,7 @@ from objects import Thing
 from reports import Blame, Block, Takings
 
 # So many objects are named so, the worst first, each by so many instructions; one of the program's own is looked for in so many pairs.
-MOST, NAMED, SOUGHT = 1000, 2, 16
+MOST, NAMED, SOUGHT = 4000, 2, 16
 USED = "memory used at"
 # What the C library's allocator keeps beside the blocks that it hands out.
 HEAP = "malloc's own memory"
@@ -34,7 +34,8 @@ def is_unnamed(thing: Thing, naming: Naming) -> bool:
     """Whether instructions may say more of an object than its name does."""
     it = thing.example
     if isinstance(it, Block):
-        return not it.sites or it.size >= ARENA and it.sites[0].name != OWN and naming.type_of_block(it) is None
+        is_large = it.size >= ARENA and bool(it.sites) and it.sites[0].name != OWN and naming.type_of_block(it) is None
+        return is_large or not naming.is_told(it.sites)
     return isinstance(thing.key, (OfFile, OfMemory, OfStack))
 
 
@@ -56,6 +57,8 @@ def name(thing: Thing, pcs: Sequence[int], naming: Naming) -> None:
         thing.name = HEAP if pcs and all(map(naming.is_allocator, pcs)) else f"{USED} {users}"
     elif not it.sites:
         thing.name = f"block used at {users}"
+    elif not naming.is_told(it.sites):
+        thing.name += f", used at {users}"
     elif len(functions) > 1:
         # (the elements of an array are mostly used by one function, and what an arena hands out by several)
         thing.name = thing.name.replace("block made", f"block of {it.size:,} made", 1)

@@ -199,7 +199,7 @@ def is_named(name: str) -> bool:
         return False
     if re.search(r'near (?:a panic|panics) at (?!library/)|near an assertion at |in a method of (?!std::|tbb::)|\(near the text "', name):
         return True
-    name = re.sub(r"^memory of (.+), used at (?=\1\+0x)", "memory used at ", name)
+    name = re.sub(r"^memory of (.+), used at (?=\1\+0x)", "memory used at ", name).replace(", used at ", " and ")
     parts = re.split(r" < | and ", re.sub(r"^(?:block (?:of \S+ )?made|block used|memory used) (?:in|at) | \([^)]*\)", "", name))
     return not all(re.fullmatch(r"\S+\+0x[0-9a-f]+|0x[0-9a-f]+", it) for it in parts)
 

@@ -81,7 +81,7 @@ class Texts(unittest.TestCase):
             (": common local symbol?\n", "common local symbol?"),
             ("can't open\nanother line", "can't open"),
             ("%s\n%s: wrong number", "%s: wrong number"),
-            ("a text of more than forty letters, which is cut", "a text of more than forty letters, which.."),
+            (f"a text of more letters than sixty {26 * '-'} these", f"a text of more letters than sixty {26 * '-'}.."),
             ("%d, %s, abcde", ""),
             ("basic_string::_M_create", ""),
             ("basic_string: construction from null", ""),

@@ -13,10 +13,13 @@ sys.path.insert(0, os.path.join(TOP, "view"))
 
 from elftools.elf.elffile import ELFFile  # noqa: E402
 
+import unnamed  # noqa: E402
 from image import packed  # noqa: E402
+from keys import OfBlocks  # noqa: E402
 from naming import Naming  # noqa: E402
+from objects import Thing  # noqa: E402
 from panics import Near, Panic, Panics  # noqa: E402
-from reports import Site  # noqa: E402
+from reports import Block, Site  # noqa: E402
 
 sys.path.insert(0, os.path.join(TOP, "native", "others"))
 from run import is_named  # noqa: E402
@@ -254,6 +257,24 @@ class Names(unittest.TestCase):
         self.assertEqual(block((0x10, "work"), (0x40, "-")), "block made in work < fd+0x40")
         self.assertEqual(block((0x10, "work"), (0x20, "-"), (0x10, "-")), f"block made in work < fd+0x20 < fd+0x10{told}")
 
+    def test_blocks_that_no_call_site_tells(self):
+        naming = Naming(None, Stripped(x10=Near((Panic("src/a.rs", 7),)), x30=Near((Panic("library/std/src/a.rs", 9),))))
+        for sites, is_told in (
+            ([(0x40, "-"), (0x10, "-")], True),
+            ([(0x40, "-"), (0x50, "work")], True),
+            ([(0x40, "-"), (0x30, "-")], False),
+            ([(0x40, "-")], False),
+            ([], False),
+        ):
+            block = Block(0x1000, 64, 0, None, tuple(Site(*it) for it in sites))
+            thing = Thing(OfBlocks("block", ("0x40",)), block)
+            thing.name = naming.block(block.sites)
+            own = "block used at" if not sites else thing.name if is_told else f"{thing.name}, used at"
+            self.assertEqual((naming.is_told(block.sites), unnamed.is_unnamed(thing, naming)), (is_told, not is_told))
+            unnamed.name(thing, [0x70, 0x10], naming)
+            used = "" if is_told else " fd+0x70 and fd+0x10 (near a panic at src/a.rs:7)"
+            self.assertEqual(thing.name, own + used)
+
     def test_what_counts_as_named(self):
         made = "block made in fd+0x40 < fd+0x10"
         for name, wanted in (
@@ -268,6 +289,9 @@ class Names(unittest.TestCase):
             ("memory used at a.c:7 (work < main) and fd+0x20", True),
             ("memory at 0x00010000", False),
             ("block made in work < fd+0x50", True),
+            (f"{made}, used at fd+0x70 and fd+0x80", False),
+            (f"{made}, used at fd+0x70 and a.c:7 (work)", True),
+            ("memory of data.bin, used at fd+0x70", True),
         ):
             self.assertEqual(is_named(name), wanted, name)
 
