@@ -84,7 +84,7 @@ if command -v go >/dev/null; then
     "$run" --pcs --trace n -- ./golang.bare >/dev/null 2>go.log
     said=$(view replay n --top 30 --json n.json | tr -s '\n ' ' ')
     line=$(grep -n "t.sum += by" "$here/tries/golang.go" | cut -d: -f1)
-    has "stripped Go: memory of the program" "memory of golang.bare, used at golang.go:$line (main.(*tally).add < main.work)" "$said"
+    has "stripped Go: memory of the program" "memory used at golang.go:$line (main.(*tally).add < main.work)" "$said"
     has "stripped Go: what is lacking" "golang.bare has Go's table of functions and lines, but no types, so fields are unknown" "$said"
     same "stripped Go: nothing else is said" "" "$(grep -o "no debug information\|golang.bare+0x[0-9a-f]*" <<<"$said" | head -n 1)"
     has "stripped Go: JSON" "\"function\": \"main.(*tally).add\"" "$(tr -s '\n ' ' ' <n.json)"
