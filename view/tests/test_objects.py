@@ -17,16 +17,16 @@ from calls import Call  # noqa: E402
 from fields import Program  # noqa: E402
 from model import Seen, View  # noqa: E402
 from judge_report import Access, Case, Ending, trace_of  # noqa: E402
-from keys import OfMemory, OfStack, OfSymbol  # noqa: E402
+from keys import OfSymbol  # noqa: E402
 from mangled import Names, short  # noqa: E402
 from naming import Memory, Naming, WordKind  # noqa: E402
 from objects import Spot, Thing, Told, holder  # noqa: E402
 from overflow import overflow  # noqa: E402
 from predicted import can_lie, judged, together  # noqa: E402
-from reports import Block, Line, Misses, Pair, Report, Site, Symbol, Takings  # noqa: E402
+from reports import Block, Line, Misses, Pair, Report, Site, Symbol  # noqa: E402
 from screen import Paint, prediction, screen  # noqa: E402
 from source_lines import Place  # noqa: E402
-from unnamed import HEAP, SOUGHT, name, of_runtime, worst_users  # noqa: E402
+from unnamed import HEAP, name  # noqa: E402
 
 HEAD = "predator report 1\noutcome exit 0\nsteps 9\naccesses 900\nlayout 64 0\nthresholds 16 64 100\n"
 
@@ -335,56 +335,6 @@ class Objects(unittest.TestCase):
             name(view.things[0], [0x100, 0x104], view.naming)
             self.assertEqual(view.things[0].name, wanted)
             self.assertEqual("link another allocator" in view.advised(view.things[0], []), wanted == HEAP)
-
-    def test_instructions_of_the_program_lead_those_of_locks(self):
-        files = {0x10: "libc.so.6+0x10", 0x20: "libc.so.6+0x20", 0x30: "db+0x30", 0x40: "", 0x50: "libc.so.6+0x50", 0x60: "libcx.so+0x60"}
-        naming = Naming(None, SimpleNamespace(library=files.get))
-        locks, waits = Pair(0x10, 0x20, 90, 0), Pair(0x20, 0x10, 80, 0)
-        for others, wanted in (
-            ([], [0x20, 0x10]),
-            ([Pair(0x30, 0x50, 70, 0), Pair(0x40, 0x40, 60, 0)], [0x30, 0x20, 0x10]),
-            ([Pair(0x40, 0x40, 70, 69), Pair(0x30, 0x50, 9, 0)], [0x30, 0x20, 0x10]),
-            ([Pair(0x60, 0x50, 70, 0)], [0x60, 0x20, 0x10]),
-            # (one of the worst two is the program's already)
-            ([Pair(0x40, 0x10, 85, 0), Pair(0x30, 0x50, 70, 0)], [0x20, 0x10, 0x40]),
-        ):
-            self.assertEqual(worst_users(Takings(0, [waits, *others, locks], {}), naming), wanted)
-        many = [Pair(0x50, 0x50, 60, it) for it in range(SOUGHT - 2)]
-        for own, wanted in ((61, [0x40, 0x20, 0x10]), (1, [0x20, 0x10])):
-            self.assertEqual(worst_users(Takings(0, [*many, waits, Pair(0x40, 0x40, own, 0), locks], {}), naming), wanted)
-        # (of Go by the function, in which another one may be inlined)
-        go = [Pair(0x30, 0x30, 99, 0), waits, locks, Pair(0x40, 0x30, 9, 0)]
-        for runtime in ("runtime.lock2", "runtime/internal/atomic.Xadd", "internal/poll.(*FD).Read"):
-            places = {0x30: runtime, 0x40: "github.com/junegunn/fzf/src.(*Matcher).scan"}
-            naming.sources = SimpleNamespace(frames=lambda at, of=places: [Place("runtime.x", "", 1), Place(of.get(at, ""), "", 9)])
-            self.assertEqual(worst_users(Takings(0, go, {}), naming), [0x40, 0x30, 0x20, 0x10])
-
-    def test_what_go_s_runtime_alone_fights_over(self):
-        functions = {0x10: "runtime.lock2", 0x20: "runtime.mallocgc", 0x30: "main.work", 0x40: "sync.(*Mutex).Lock"}
-        sources = SimpleNamespace(frames=lambda at: [Place(functions[at], "", 9)], find=lambda _: None)
-        lines = {0: [(0x10, 0x20)], 64: [(0x10, 0x30)], 128: [(0x20, 0x20)], 192: [(0x40, 0x10)], 256: [(0x10, 0x20)] * 2 + [(0x30, 0x30)]}
-        taken = {at: Takings(at, [Pair(*it, 9, 0) for it in pairs], {}) for at, pairs in lines.items()}
-        for bases, key, is_go, wanted in (
-            ([0, 128], OfMemory("memory", 0), True, True),
-            ([0, 64], OfMemory("memory", 0), True, False),
-            ([192], OfMemory("memory", 0), True, False),
-            # (of a line that nothing takes nothing is known)
-            ([0, 320], OfMemory("memory", 0), True, True),
-            ([320], OfMemory("memory", 0), True, False),
-            # (the worst two pairs of a line)
-            ([256], OfMemory("memory", 0), True, True),
-            ([0], OfStack("stack", 1), True, True),
-            ([0], OfSymbol("symbol", "lock", 0), True, False),
-            ([0], OfMemory("memory", 0), False, False),
-        ):
-            naming = Naming(None, SimpleNamespace(has_go_table=lambda is_go=is_go: is_go, library=lambda _: "fzf+0x0"), sources)
-            thing = SimpleNamespace(key=key, spots=[SimpleNamespace(base=it) for it in bases])
-            found = of_runtime([thing], SimpleNamespace(takings=taken.get), naming)
-            self.assertEqual(found, {key} if wanted else set())
-        guest = Naming(None, SimpleNamespace(), sources)
-        self.assertEqual(of_runtime([thing], SimpleNamespace(takings=taken.get), guest), set())
-        for has_runtime, whose in ((False, "the C library"), (True, "the C library or of Go's runtime")):
-            self.assertEqual(library.row_of([], False, has_runtime)[1], f"0 objects of {whose}: --library shows them")
 
     def test_what_is_folded_is_found_once(self):
         rows = [f"line observed {it:#010x} 64 start 0 count 9 verdict false" for it in range(0x1000, 0x9000, 0x1000)]
