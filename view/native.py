@@ -19,7 +19,7 @@ from mangled import demangled
 from naming import Memory
 from panics import Near, Panics
 from reports import Report
-from source_lines import Place, Sources, places
+from source_lines import NEAR, Place, Sources, places
 
 from elftools.elf.elffile import ELFFile
 from elftools.elf.sections import SymbolTableSection
@@ -343,12 +343,8 @@ class NativeSources(Sources):
         wanted = sorted({it for it in addresses if it not in self.places})
         self.places.update({it: [] for it in wanted})
         asked = [(it, *where) for it in wanted if (where := self.native.file(it))]
-        if asked:
-            rows = "".join(f'"{own.debug}" {addr:#x}\n' for _, own, addr in asked)
-            words = [self.tool, "--output-style=JSON", "--inlines"]
-            ran = subprocess.run(words, input=os.fsencode(rows), stdout=subprocess.PIPE, stderr=subprocess.DEVNULL)
-            for (it, _, _), row in zip(asked, ran.stdout.decode("utf-8", "replace").splitlines()):
-                self.places[it] = places(json.loads(row))
+        for (it, _, _), found in zip(asked, self.symbolized((own, addr) for _, own, addr in asked)):
+            self.places[it] = found
         for it, own, addr in asked:
             if not has_line(self.places[it]):
                 found = self.native.go_frames(own, addr)
@@ -357,6 +353,27 @@ class NativeSources(Sources):
             if not has_line(self.places[it]):
                 told: list[Site] = self.native.back.frames.get(it) or self.native.back.sites.get(it) or []
                 self.places[it] = [place for own in told for place in told_by(own)] or self.places[it]
+
+    def symbolized(self, addresses: Iterable[tuple[File, int]]) -> list[list[Place]]:
+        """What debug information tells of addresses of files."""
+        rows = "".join(f'"{own.debug}" {addr:#x}\n' for own, addr in addresses)
+        words = [self.tool, "--output-style=JSON", "--inlines"]
+        ran = subprocess.run(words, input=os.fsencode(rows), stdout=subprocess.PIPE, stderr=subprocess.DEVNULL) if rows else None
+        return [places(json.loads(it)) for it in ran.stdout.decode("utf-8", "replace").splitlines()] if ran else []
+
+    def near(self, address: int) -> Place | None:
+        """The same by the file's own addresses: an instruction's number says nothing of those before it."""
+        function = next((it.function for it in reversed(self.frames(address))), "")
+        where = self.native.file(address) if function else None
+        if where is None or where[0].is_stripped:
+            return None
+        own, at = where
+        for frames in self.symbolized((own, it) for it in range(at - 4, max(at - 4 * NEAR, 0) - 1, -4)):
+            if not frames or frames[-1].function != function:
+                return None
+            if has_line(frames):
+                return next(it for it in frames if it.file and it.line)
+        return None
 
 
 def has_line(frames: Iterable[Place]) -> bool:

@@ -74,9 +74,9 @@ class Sources:
         """Where the compiler has made one instruction of several lines and so told none: the line of the nearest one before it in its
         function."""
         function = next((it.function for it in reversed(self.frames(address))), "")
-        before = range(address - 4, max(address - 4 * NEAR, 0) - 1, -4)
+        before = range(address - 4, max(address - 4 * NEAR, 0) - 1, -4) if function else range(0)
         self.find(before)
-        for it in before if function else ():
+        for it in before:
             frames = self.frames(it)
             if not frames or frames[-1].function != function:
                 return None

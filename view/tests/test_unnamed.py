@@ -10,6 +10,7 @@ sys.path.insert(0, os.path.join(os.path.dirname(os.path.abspath(__file__)), ".."
 import library  # noqa: E402
 from keys import OfMemory, OfStack, OfSymbol  # noqa: E402
 from naming import Naming  # noqa: E402
+from native import NativeSources  # noqa: E402
 from reports import Pair, Takings  # noqa: E402
 from source_lines import Place  # noqa: E402
 from unnamed import SOUGHT, of_runtime, worst_users  # noqa: E402
@@ -65,6 +66,34 @@ class Unnamed(unittest.TestCase):
         self.assertEqual(of_runtime([thing], SimpleNamespace(takings=taken.get), guest), set())
         for has_runtime, whose in ((False, "the C library"), (True, "the C library or of Go's runtime")):
             self.assertEqual(library.row_of([], False, has_runtime)[1], f"0 objects of {whose}: --library shows them")
+
+    def test_lines_near_an_instruction(self):
+        def place(*found):
+            """What is told of an instruction of `f` at 0x1040, whose number says nothing, by what lies 4, 8 .. before it."""
+            asked = []
+
+            def symbolized(addresses):
+                asked.extend(addresses)
+                return [*found, *[[]] * (len(asked) - len(found))]
+
+            sources = NativeSources.__new__(NativeSources)
+            sources.frames = lambda _: [Place("g", "", 0), Place("f", "", 0)]
+            sources.native, sources.symbolized = SimpleNamespace(file=lambda _: (file, 0x1040)), symbolized
+            told = NativeSources.near(sources, 0xFFFFFF00)
+            self.assertEqual(asked, [] if file.is_stripped else [(file, at) for at in range(0x103C, 0xFFF, -4)])
+            return told
+
+        own, other = Place("f", "a.c", 7), Place("f", "a.c", 8)
+        for is_stripped, found, wanted in (
+            (False, ([own],), own),
+            (False, ([Place("f", "", 0)], [other], [own]), other),
+            (False, ([Place("h", "", 0), other],), other),
+            (False, ([Place("h", "b.c", 1)], [own]), None),
+            (False, ([], [own]), None),
+            (True, ([own],), None),
+        ):
+            file = SimpleNamespace(is_stripped=is_stripped)
+            self.assertEqual(place(*found), wanted)
 
 
 if __name__ == "__main__":
