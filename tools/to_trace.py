@@ -83,11 +83,13 @@ def back(path, words):
     pages, code = {}, {}
     with open(path, errors="surrogateescape") as file:
         # (of a program of this machine other lines say more, and some name instructions: docs/FORMATS.md)
-        for words_of_line in map(str.split, file):
-            if words_of_line[0].startswith("0x"):
-                pages[int(words_of_line[0], 16)] = int(words_of_line[1], 16)
-            elif words_of_line[0] == "site":
-                code[int(words_of_line[1], 16)] = int(words_of_line[2], 16)
+        for line in file:
+            if line.startswith("0x"):
+                place, was = line.split()
+                pages[int(place, 16)] = int(was, 16)
+            elif line.startswith("site "):
+                _, number, was, *_ = line.split()
+                code[int(number, 16)] = int(was, 16)
     for word in words:
         addr = int(word, 16)
         page = pages.get(addr // PAGE * PAGE)

@@ -51,7 +51,7 @@ class Loaded(Image):
     @functools.cached_property
     def relocated(self) -> dict[int, int]:
         """The words that the loader makes addresses of the program, where that is moved."""
-        return {} if self.is_fixed else dict(self.pointers())
+        return {} if self.is_fixed else self.words
 
     def word(self, addr: int) -> int:
         return self.relocated[addr] if addr in self.relocated else int.from_bytes(self.bytes(addr, 8), "little")

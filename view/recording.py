@@ -73,10 +73,10 @@ def status_of(words: Sequence[str]) -> int:
     runs: list[subprocess.Popen[bytes]] = []
 
     def take(number: int, frame: FrameType | None) -> None:
-        if number in HANDED_ON:
+        if number in HANDED_ON and not runs:
             came.append(number)
-            for it in runs:
-                it.send_signal(number)
+        for it in runs if number in HANDED_ON else ():
+            it.send_signal(number)
 
     # (what is ignored stays so, here and in the program)
     before = {it: old for it in (*HANDED_ON, *FROM_TERMINAL) if (old := signal.getsignal(it)) is not signal.SIG_IGN}
