@@ -33,8 +33,29 @@ TEN = [0x00138393] * 8 + [0x05E00893, 0x00000073]
 def program_of(code):
     """A program file of one segment with these instructions."""
     words = b"".join(struct.pack("<I", word) for word in code)
-    header = struct.pack("<4sBBB9xHHIIIIIHHHHHH", b"\x7fELF", 1, 1, 1, 2, 243, 1, 0x10000, 52, 0, 0, 52, 32, 1, 40, 0, 0)
-    return header + struct.pack("<IIIIIIII", 1, 84, 0x10000, 0, len(words), len(words), 7, 4) + words
+    header = struct.pack(
+        "<4sBBB9xHHIIIIIHHHHHH",
+        b"\x7fELF",
+        1,
+        1,
+        1,
+        2,
+        243,
+        1,
+        0x10000,
+        52,
+        0,
+        0,
+        52,
+        32,
+        1,
+        40,
+        0,
+        0,
+    )
+    return (
+        header + struct.pack("<IIIIIIII", 1, 84, 0x10000, 0, len(words), len(words), 7, 4) + words
+    )
 
 
 def timed(words):
@@ -61,7 +82,9 @@ def made_files(work, program):
     subprocess.run(build, check=True, stdout=subprocess.DEVNULL)
     subprocess.run([f"{TOP}/bench/make_trace.py", "8000000", random, "random"], check=True)
     subprocess.run([program, "gen", str(MADE), made], check=True, stdout=subprocess.DEVNULL)
-    subprocess.run([program, "convert", made, f"{work}/made2.trace"], check=True, stdout=subprocess.DEVNULL)
+    subprocess.run(
+        [program, "convert", made, f"{work}/made2.trace"], check=True, stdout=subprocess.DEVNULL
+    )
     return sort, made, random
 
 
@@ -83,13 +106,26 @@ def commands(work, program, sort, made, random):
         "many": run_of(work, program, "many", ALL, budget + in_turn + "harts = 256\n"),
         "traced": loop + ["--trace", f"{work}/loop.trace"],
         "ten": run_of(work, program, "ten", TEN, ""),
-        "sort": [program, "run", sort, "--settings", write(f"{work}/sort.toml", b"budget = 2000000000\n")],
+        "sort": [
+            program,
+            "run",
+            sort,
+            "--settings",
+            write(f"{work}/sort.toml", b"budget = 2000000000\n"),
+        ],
         "gen": [program, "gen", str(MADE), f"{work}/again.trace"],
         "replay": [program, "replay", made],
         "random": [program, "replay", random],
         "replay2": [program, "replay", f"{work}/made2.trace"],
         "convert": [program, "convert", made, f"{work}/again.trace"],
-        "split": [program, "split", made, str(MADE // 2), f"{work}/again.trace", f"{work}/rest.trace"],
+        "split": [
+            program,
+            "split",
+            made,
+            str(MADE // 2),
+            f"{work}/again.trace",
+            f"{work}/rest.trace",
+        ],
         "nothing": ["true"],
     }
 
@@ -102,7 +138,10 @@ def steps_of(words):
 def figures(least, peak, rate, sizes, steps):
     """What was measured of one program, row by row, as it stands in the table."""
     made, random = sizes
-    per = {name: MADE / least[name] / 1e6 / rate for name in ("loop", "lone", "eight", "many", "traced")}
+    per = {
+        name: MADE / least[name] / 1e6 / rate
+        for name in ("loop", "lone", "eight", "many", "traced")
+    }
     per["sort"] = steps / least["sort"] / 1e6 / rate
     beside = {name: least[name] * rate * 1e6 / made for name in ("replay", "convert", "split")}
     beside["random"] = least["random"] * rate * 1e6 / random

@@ -28,15 +28,29 @@ def traces(name: str, folder: str) -> list[str]:
     """The traces of a program's run, in each version, and its own file behind them."""
     many, count, quantum = PROGRAMS[name]
     source, elf = (os.path.join(folder, f"{name}.{it}") for it in ("c", "elf"))
-    with open(os.path.join(TOP, "view", "tests", "programs", "known", f"{name}.c"), encoding="utf-8") as file:
+    with open(
+        os.path.join(TOP, "view", "tests", "programs", "known", f"{name}.c"), encoding="utf-8"
+    ) as file:
         text = re.sub(rf"(#define {many}) \d+", rf"\1 {count}", file.read())
     with open(source, "w", encoding="utf-8") as file:
         file.write(text)
     subprocess.run([os.path.join(TOP, "guest", "build.sh"), elf, source], check=True)
     first, second, third = (os.path.join(folder, f"{name}.{it}") for it in (1, 2, 3))
     for trace, pcs in ((first, []), (third, ["--pcs"])):
-        words = ["run", elf, "--set", f"quantum={quantum},budget=200000000", *pcs, "--trace", trace, "--output", os.devnull]
-        subprocess.run([PREDATOR, *words], stdout=subprocess.DEVNULL, stderr=subprocess.DEVNULL, check=True)
+        words = [
+            "run",
+            elf,
+            "--set",
+            f"quantum={quantum},budget=200000000",
+            *pcs,
+            "--trace",
+            trace,
+            "--output",
+            os.devnull,
+        ]
+        subprocess.run(
+            [PREDATOR, *words], stdout=subprocess.DEVNULL, stderr=subprocess.DEVNULL, check=True
+        )
     subprocess.run([PREDATOR, "convert", first, second], stdout=subprocess.DEVNULL, check=True)
     return [first, second, third, elf]
 
@@ -57,13 +71,21 @@ def main(words: list[str]) -> int:
             for version, trace in enumerate(own, 1):
                 calls = ["replay", trace], ["view", "replay", trace, "--program", elf]
                 times = [[taken(it) for it in calls] for _ in range(rounds)]
-                replay, view = ([statistics.median(it[at][of] for it in times) for of in (0, 1)] for at in (0, 1))
+                replay, view = (
+                    [statistics.median(it[at][of] for it in times) for of in (0, 1)]
+                    for at in (0, 1)
+                )
                 ratios = [it / other for it, other in zip(view, replay)]
                 worst = max(worst, ratios[0])
-                told = (f"{spent:.2f} s{of}, {ratio:.1f} times" for spent, of, ratio in zip(view, (" of processors", ""), ratios))
+                told = (
+                    f"{spent:.2f} s{of}, {ratio:.1f} times"
+                    for spent, of, ratio in zip(view, (" of processors", ""), ratios)
+                )
                 print(f"{name}, version {version}: {'; '.join(told)}")
                 os.unlink(trace)
-    print(f"at most {worst:.1f} times a replay's time of processors, the aim is {AIM}{'' if worst <= AIM else ': missed'}")
+    print(
+        f"at most {worst:.1f} times a replay's time of processors, the aim is {AIM}{'' if worst <= AIM else ': missed'}"
+    )
     return 0
 
 

@@ -90,7 +90,10 @@ def crates():
 
 
 def table(rows):
-    shown = ["| Crate | Library | Tests | Edits | Number of edits | Measured |", "|---|---|---|---|---|---|"]
+    shown = [
+        "| Crate | Library | Tests | Edits | Number of edits | Measured |",
+        "|---|---|---|---|---|---|",
+    ]
     sums = [0.0, 0.0, 0.0, 0]
     for name in crates():
         if name in rows:
@@ -98,7 +101,9 @@ def table(rows):
             for at in range(4):
                 sums[at] += float(rows[name][at] or 0)
     all_ = [f"{it:.1f}" for it in sums[:3]]
-    shown.append(f"| all | {' | '.join(all_)} | {int(sums[3])} | {sum(sums[:3]):.0f} minutes in all |")
+    shown.append(
+        f"| all | {' | '.join(all_)} | {int(sums[3])} | {sum(sums[:3]):.0f} minutes in all |"
+    )
     return "\n".join(shown) + "\n"
 
 
@@ -117,16 +122,22 @@ def main(names):
     rows, today = old_rows(), datetime.date.today().isoformat()
     for crate, found in took.items():
         folder = os.path.join(TOP, "crates", crate, "must-fail")
-        edits = sum(it.endswith(".edit") for it in os.listdir(folder)) if os.path.isdir(folder) else 0
+        edits = (
+            sum(it.endswith(".edit") for it in os.listdir(folder)) if os.path.isdir(folder) else 0
+        )
         # Where the library was kept, so was what isn't among these times.
         old = rows.get(crate, ["0.0"] * 3) if "library" not in found else ["0.0"] * 3
-        rows[crate] = [f"{found[it]:.1f}" if it in found else kept for it, kept in zip(PARTS, old)] + [str(edits), today]
+        rows[crate] = [
+            f"{found[it]:.1f}" if it in found else kept for it, kept in zip(PARTS, old)
+        ] + [str(edits), today]
     made = table(rows)
     text = read(PAGE).decode()
     text = re.sub(r"(?ms)^\| Crate \|.*?\n(?!\|)", lambda _: made, text + "\n").rstrip("\n") + "\n"
     with open(PAGE, "w") as file:
         file.write(text)
-    print(f"gate.py: {wall:.1f} minutes of wall time, {sum(seconds.values()) / 60:.1f} of the processors, for {len(took)} crates")
+    print(
+        f"gate.py: {wall:.1f} minutes of wall time, {sum(seconds.values()) / 60:.1f} of the processors, for {len(took)} crates"
+    )
     return gate.returncode
 
 

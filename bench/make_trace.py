@@ -25,7 +25,9 @@ def ends(r, hart):
 
 def main():
     count, name = int(sys.argv[1]), sys.argv[2]
-    place = {"dense": dense, "random": random, "ends": ends}[sys.argv[3] if len(sys.argv) > 3 else "dense"]
+    place = {"dense": dense, "random": random, "ends": ends}[
+        sys.argv[3] if len(sys.argv) > 3 else "dense"
+    ]
     record = struct.Struct("<BHIB")
     state = 1
     with open(name, "wb") as out:

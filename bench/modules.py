@@ -15,7 +15,11 @@ TOP = os.path.join(os.path.dirname(os.path.abspath(__file__)), "..")
 
 def times(folder):
     """The seconds of each module, by the files' times."""
-    files = sorted((os.stat(os.path.join(at, it)).st_mtime, it) for at, _, names in os.walk(folder) for it in names)
+    files = sorted(
+        (os.stat(os.path.join(at, it)).st_mtime, it)
+        for at, _, names in os.walk(folder)
+        for it in names
+    )
     return [(now - before, name) for (before, _), (now, name) in zip(files, files[1:])]
 
 
@@ -26,7 +30,9 @@ def main(name, count=20):
     if os.path.isdir(out):
         os.rename(out, aside)
     try:
-        status = subprocess.run(["rt", "check", "--jobs", "1"], cwd=crate, stdout=subprocess.DEVNULL).returncode
+        status = subprocess.run(
+            ["rt", "check", "--jobs", "1"], cwd=crate, stdout=subprocess.DEVNULL
+        ).returncode
         found = times(os.path.join(out, "incremental"))
     finally:
         shutil.rmtree(out, ignore_errors=True)

@@ -74,7 +74,11 @@ def write(path: str, touches: Iterable[Touch]) -> str:
     with open(path, "wb") as out:
         out.write(struct.pack("<8sQHH", b"PRDTRC03", 0, HARTS, 0))
         for it in touches:
-            piece += bytes((0x24 if it.writes else 0x14, it.hart)) + spelled(it.addr - addr) + spelled(it.pc - pcs[it.hart])
+            piece += (
+                bytes((0x24 if it.writes else 0x14, it.hart))
+                + spelled(it.addr - addr)
+                + spelled(it.pc - pcs[it.hart])
+            )
             addr, pcs[it.hart], count = it.addr, it.pc, count + 1
             if len(piece) > 1 << 20:
                 out.write(piece)
@@ -130,10 +134,14 @@ def measure(program: str, work: str, are_apart: bool) -> None:
         }
     )
     print("a pc of its own for each line:" if are_apart else "any pc at any line:")
-    print(f"{os.path.getsize(three) / MADE:.2f} bytes an access in version 3, {os.path.getsize(two) / MADE:.2f} in version 2")
+    print(
+        f"{os.path.getsize(three) / MADE:.2f} bytes an access in version 3, {os.path.getsize(two) / MADE:.2f} in version 2"
+    )
     for name, took in least.items():
         beside = took / least["replay"], took / least["replay of version 2"]
-        print(f"{name}: {took:.2f} s, {beside[0]:.2f} of replay, {beside[1]:.2f} of that of version 2")
+        print(
+            f"{name}: {took:.2f} s, {beside[0]:.2f} of replay, {beside[1]:.2f} of that of version 2"
+        )
     judged("blame beside replay", least["blame"] / least["replay"], AIMS["blame"])
     judged("move beside convert", least["move"] / least["convert"], AIMS["move"])
 
@@ -142,13 +150,17 @@ def measure_pairs(program: str, work: str) -> None:
     """What many pairs take."""
     took, memory = timed([program, "blame", write(f"{work}/pairs", paired())])
     missed = "" if memory <= ROOM else ": missed"
-    print(f"blame of {SIDE * SIDE} pairs: {took:.2f} s, {memory / 1e6:.0f} MB, at most {ROOM / 1e6:.0f}{missed}")
+    print(
+        f"blame of {SIDE * SIDE} pairs: {took:.2f} s, {memory / 1e6:.0f} MB, at most {ROOM / 1e6:.0f}{missed}"
+    )
 
 
 def measure_reading() -> None:
     """What reading alone takes, without what sees the records."""
     if not os.access(BENCHES, os.X_OK):
-        print("reading alone: not measured, for crates/benches isn't built (`rt run` there builds it)")
+        print(
+            "reading alone: not measured, for crates/benches isn't built (`rt run` there builds it)"
+        )
         return
     least = least_of({it: [BENCHES, "traces", it, str(PIECES)] for it in ("2", "3")})
     judged("reading version 3 beside version 2", least["3"] / least["2"], AIMS["reading"])

@@ -26,13 +26,18 @@ COUNTERS = os.path.join(TOP, "guest/built/counters.elf")
 
 
 def run_of(work, guest, quantum, seed, budget):
-    settings = write(f"{work}/{quantum}-{seed}-{budget}.toml", f"{USUAL}budget = {budget}\nquantum = {quantum}\nseed = {seed}\n".encode())
+    settings = write(
+        f"{work}/{quantum}-{seed}-{budget}.toml",
+        f"{USUAL}budget = {budget}\nquantum = {quantum}\nseed = {seed}\n".encode(),
+    )
     return [PROGRAM, "run", guest, "--settings", settings]
 
 
 def user(words):
     """Nanoseconds of a processor that a step took, in the program itself."""
-    child = subprocess.Popen(words, stdout=subprocess.PIPE, stderr=subprocess.DEVNULL, encoding="utf-8")
+    child = subprocess.Popen(
+        words, stdout=subprocess.PIPE, stderr=subprocess.DEVNULL, encoding="utf-8"
+    )
     with child.stdout:
         steps = int(re.search(r"^steps (\d+)", child.stdout.read(), re.MULTILINE).group(1))
     _, _, usage = os.wait4(child.pid, 0)
@@ -42,7 +47,9 @@ def user(words):
 def counted(work, words):
     """Machine instructions of the whole run."""
     told = subprocess.run(
-        ["valgrind", "--tool=callgrind", f"--callgrind-out-file={work}/out", *words], capture_output=True, encoding="utf-8"
+        ["valgrind", "--tool=callgrind", f"--callgrind-out-file={work}/out", *words],
+        capture_output=True,
+        encoding="utf-8",
     )
     return int(re.search(r"Collected : (\d+)", told.stderr).group(1))
 
@@ -53,23 +60,37 @@ def compared(usual, drawn):
 
 def times(work, guest, quantum, rounds):
     runs = [run_of(work, guest, quantum, seed, STEPS) for seed in (0, 1)]
-    return compared(*(min(it) for it in zip(*([user(words) for words in runs] for _ in range(rounds)))))
+    return compared(
+        *(min(it) for it in zip(*([user(words) for words in runs] for _ in range(rounds))))
+    )
 
 
 def instructions(work, guest, quantum):
-    found = ([counted(work, run_of(work, guest, quantum, seed, budget)) for budget in FEW] for seed in (0, 1))
+    found = (
+        [counted(work, run_of(work, guest, quantum, seed, budget)) for budget in FEW]
+        for seed in (0, 1)
+    )
     return compared(*((many - few) / (FEW[1] - FEW[0]) for few, many in found))
 
 
 def main(rounds=9):
     with tempfile.TemporaryDirectory() as work:
-        turns, loop = (write(f"{work}/{name}.elf", program_of(code)) for name, code in (("turns", ALL), ("loop", ALL[:-1] + LOOP)))
-        print("| Guest | `quantum` | ns a step, seed 0 | seed 1 | Ratio | Instructions a step, seed 0 | seed 1 | Ratio |")
+        turns, loop = (
+            write(f"{work}/{name}.elf", program_of(code))
+            for name, code in (("turns", ALL), ("loop", ALL[:-1] + LOOP))
+        )
+        print(
+            "| Guest | `quantum` | ns a step, seed 0 | seed 1 | Ratio | Instructions a step, seed 0 | seed 1 | Ratio |"
+        )
         print("|---|---|---|---|---|---|---|---|", flush=True)
         for name, guest in (("turns alone", turns), ("a loop", loop), ("counters", COUNTERS)):
             for quantum in (1, 10, 100):
                 row = times(work, guest, quantum, int(rounds)) if int(rounds) else ["-"] * 3
-                row += instructions(work, guest, quantum) if shutil.which("valgrind") and guest != COUNTERS else ["-"] * 3
+                row += (
+                    instructions(work, guest, quantum)
+                    if shutil.which("valgrind") and guest != COUNTERS
+                    else ["-"] * 3
+                )
                 print("|", " | ".join([name, str(quantum), *row]), "|", flush=True)
 
 

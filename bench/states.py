@@ -71,19 +71,25 @@ def main():
         runs = [in_parts(work, trace) for _ in range(ROUNDS)]
         same = all(run[1] == report for run in runs)
         parts = min(run[0] for run in runs)
-        print(f"| ten parts with nine states, beside the whole of {MADE:,} accesses | {parts / whole:.2f} | 1.3 |")
+        print(
+            f"| ten parts with nine states, beside the whole of {MADE:,} accesses | {parts / whole:.2f} | 1.3 |"
+        )
         print(f"the report is {'the same' if same else 'ANOTHER ONE'}")
         settings = f"{work}/settings"
         with open(settings, "w") as out:
             out.write("tracking = 1\nreport = 1000\n")
-        first, none = written_lines(f"{work}/lines", (0, LINES)), written_lines(f"{work}/none", (LINES, 0))
+        first, none = written_lines(f"{work}/lines", (0, LINES)), written_lines(
+            f"{work}/none", (LINES, 0)
+        )
         state = f"{work}/state"
         plain = [PROGRAM, "replay", first, "--settings", settings]
         resumed = [PROGRAM, "replay", none, "--settings", settings, "--resume", state]
         saved = least(plain + ["--save", state])
         print(f"the state has {os.path.getsize(state):,} bytes")
         sums = least(["sha256sum", state])
-        print(f"| a state of {LINES:,} lines saved, beside sha256sum of it | {(saved - least(plain)) / sums:.2f} | 4 |")
+        print(
+            f"| a state of {LINES:,} lines saved, beside sha256sum of it | {(saved - least(plain)) / sums:.2f} | 4 |"
+        )
         print(f"| and taken up again | {least(resumed) / sums:.2f} | 4 |")
 
 

@@ -71,7 +71,9 @@ class Stage:
 
     def __init__(self, top, at):
         self.at, self.crates, self.minutes = at, crates_of(top), minutes(top)
-        self.kit = os.path.dirname(subprocess.run(["rt", "doc"], capture_output=True, text=True, check=True).stdout.strip())
+        self.kit = os.path.dirname(
+            subprocess.run(["rt", "doc"], capture_output=True, text=True, check=True).stdout.strip()
+        )
         for it in ("crates", "built"):
             os.makedirs(f"{at}/{it}", exist_ok=True)
         shutil.copyfile(f"{top}/crates.txt", f"{at}/crates.txt")
@@ -111,12 +113,16 @@ class Stage:
             for at, folders, files in os.walk(self.folder(name, part)):
                 folders.sort()
                 for it in sorted(files):
-                    sum.update(repr((os.path.relpath(f"{at}/{it}", self.at), read(f"{at}/{it}"))).encode())
+                    sum.update(
+                        repr((os.path.relpath(f"{at}/{it}", self.at), read(f"{at}/{it}"))).encode()
+                    )
         sum.update(repr([self.sums[it] for it in self.crates[name][0]]).encode())
         return sum.hexdigest().encode()
 
     def is_built(self, name):
-        return os.path.exists(self.built(name)) and read(f"{self.built(name)}.sum") == self.sums[name]
+        return (
+            os.path.exists(self.built(name)) and read(f"{self.built(name)}.sum") == self.sums[name]
+        )
 
     def words(self, name, jobs):
         """What the prover is called with for a crate."""
@@ -128,8 +134,17 @@ class Stage:
         for it in own:
             words += ["--extern", f"{it}={self.built(it)}"]
         words += ["-L", f"dependency={self.kit}/rlibs", "-L", f"dependency={self.at}/built"]
-        words += ["--antt-project", f"{self.kit}/rattle/logic/antt-project.json", "--logic-built", f"{self.kit}/logic_built"]
-        words += ["--toolchain", f"{self.kit}/toolchain", "--backend", "llvm"] if name == PROGRAM else ["--statements"]
+        words += [
+            "--antt-project",
+            f"{self.kit}/rattle/logic/antt-project.json",
+            "--logic-built",
+            f"{self.kit}/logic_built",
+        ]
+        words += (
+            ["--toolchain", f"{self.kit}/toolchain", "--backend", "llvm"]
+            if name == PROGRAM
+            else ["--statements"]
+        )
         return [*words, "--links", f"{name}=", "--jobs", str(jobs), "-o", self.built(name)]
 
     def begin(self, name, jobs, log):
@@ -154,9 +169,26 @@ class Stage:
 
     def link(self, log):
         """Links the program, and says whether that was done."""
-        words = [f"{self.kit}/bin/rattle-link", "--target", "x86_64-unknown-linux-gnu", "--toolchain", f"{self.kit}/toolchain"]
-        words += ["-o", f"{self.at}/{PROGRAM}", self.built(PROGRAM), f"{self.kit}/c/libos_c.a", f"{self.kit}/c/liblibc_c.a"]
-        return subprocess.run(words, stdin=subprocess.DEVNULL, stdout=log, stderr=subprocess.STDOUT).returncode == 0
+        words = [
+            f"{self.kit}/bin/rattle-link",
+            "--target",
+            "x86_64-unknown-linux-gnu",
+            "--toolchain",
+            f"{self.kit}/toolchain",
+        ]
+        words += [
+            "-o",
+            f"{self.at}/{PROGRAM}",
+            self.built(PROGRAM),
+            f"{self.kit}/c/libos_c.a",
+            f"{self.kit}/c/liblibc_c.a",
+        ]
+        return (
+            subprocess.run(
+                words, stdin=subprocess.DEVNULL, stdout=log, stderr=subprocess.STDOUT
+            ).returncode
+            == 0
+        )
 
 
 def memory():
@@ -178,7 +210,9 @@ def ranks(stage):
 def to_begin(stage, waiting, running, done, lanes):
     """The crates to begin with now, and with how many processors each."""
     free = lanes - sum(jobs for _, jobs, _ in running.values())
-    ready = [it for it in waiting if all(below in done for below in stage.crates[it][0])][: max(free, 0)]
+    ready = [it for it in waiting if all(below in done for below in stage.crates[it][0])][
+        : max(free, 0)
+    ]
     found = []
     for left, name in zip(range(len(ready), 0, -1), ready):
         # A crate gets the processors that nothing else wants, and all where nothing else can begin before it is done; the program
@@ -220,7 +254,11 @@ def build(stage, log):
                     return name
                 done.append(name)
                 took = f"{int(time.monotonic() - begun) // 60} min {int(time.monotonic() - begun) % 60} s"
-                print(f"predator: crate {len(done)} of {len(stage.crates)}: {name} ({took})", file=sys.stderr, flush=True)
+                print(
+                    f"predator: crate {len(done)} of {len(stage.crates)}: {name} ({took})",
+                    file=sys.stderr,
+                    flush=True,
+                )
     finally:
         for ran, _, _ in running.values():
             with contextlib.suppress(ProcessLookupError):

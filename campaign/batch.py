@@ -24,7 +24,11 @@ TRIES = 3
 GOOD = {"run": (0, 10, 11, 12), "replay": (0, 10, 11, 12)}
 # An access in a trace of each version, by its tag, and as many as follow each other.
 TAGS, DISTANCE = rb"[\x11\x12\x14\x21\x22\x24].", rb"[\x80-\xff]*[\0-\x7f]"
-ONE = {b"PRDTRC01": rb"[\1\2].{7}", b"PRDTRC02": TAGS + DISTANCE, b"PRDTRC03": TAGS + DISTANCE + DISTANCE}
+ONE = {
+    b"PRDTRC01": rb"[\1\2].{7}",
+    b"PRDTRC02": TAGS + DISTANCE,
+    b"PRDTRC03": TAGS + DISTANCE + DISTANCE,
+}
 SPANS = {magic: re.compile(b"(?:" + it + b")+", re.DOTALL) for magic, it in ONE.items()}
 BLOCK = re.compile(r"^object block (0x[0-9a-f]+) \d+ born (\d+)", re.MULTILINE)
 
@@ -45,13 +49,22 @@ class Caller:
         self.predator = predator
         self.out, self.said = (open(os.path.join(work, it), "w+b", 0) for it in ("out", "said"))
         # (the launcher asks for large pages as well: a short run takes half the time with them)
-        self.env = {**os.environ, "GLIBC_TUNABLES": os.environ.get("GLIBC_TUNABLES", "glibc.malloc.hugetlb=1")}
+        self.env = {
+            **os.environ,
+            "GLIBC_TUNABLES": os.environ.get("GLIBC_TUNABLES", "glibc.malloc.hugetlb=1"),
+        }
 
     def once(self, words: Sequence[str], said: IO[bytes] | int) -> int:
         for it in (self.out, self.said):
             it.seek(0)
             it.truncate()
-        return subprocess.run([self.predator, *words], stdin=subprocess.DEVNULL, stdout=self.out, stderr=said, env=self.env).returncode
+        return subprocess.run(
+            [self.predator, *words],
+            stdin=subprocess.DEVNULL,
+            stdout=self.out,
+            stderr=said,
+            env=self.env,
+        ).returncode
 
     def text(self, file: IO[bytes]) -> str:
         file.seek(0)
@@ -63,10 +76,15 @@ class Caller:
         loud = [*words, "--output", os.devnull] if words[0] == "run" else words
         for at in range(TRIES):
             is_last = at == TRIES - 1
-            status = self.once(loud if is_last else words, self.said if is_last else subprocess.DEVNULL)
+            status = self.once(
+                loud if is_last else words, self.said if is_last else subprocess.DEVNULL
+            )
             if status in GOOD.get(words[0], (0,)):
                 return status, self.text(self.out)
-        said = [*self.text(self.out).strip().split("\n")[:1], *self.text(self.said).strip().split("\n")]
+        said = [
+            *self.text(self.out).strip().split("\n")[:1],
+            *self.text(self.said).strip().split("\n"),
+        ]
         raise Failed(status, "; ".join(it for it in said if it))
 
 
@@ -80,7 +98,10 @@ def makings(trace: str, wanted: set[tuple[int, int]]) -> dict[tuple[int, int], i
         while data[place] != 6:
             tag = data[place]
             if tag == 3:
-                fields = [int.from_bytes(data[at : at + 4], "little") for at in range(place + 1, place + 25, 4)]
+                fields = [
+                    int.from_bytes(data[at : at + 4], "little")
+                    for at in range(place + 1, place + 25, 4)
+                ]
                 sites = tuple(fields[2:])
                 made[sites] = made.get(sites, 0) + 1
                 if (fields[0], position) in wanted:
@@ -95,7 +116,11 @@ def makings(trace: str, wanted: set[tuple[int, int]]) -> dict[tuple[int, int], i
                 if run is None:
                     raise SystemExit(f"batch.py: {trace}: it is no trace")
                 end = run.end()
-                position += (end - place) // 8 if magic == b"PRDTRC01" else len(one.findall(data, place, end))
+                position += (
+                    (end - place) // 8
+                    if magic == b"PRDTRC01"
+                    else len(one.findall(data, place, end))
+                )
                 place = end
     return found
 
@@ -112,25 +137,42 @@ class Batch:
     def is_same(self, record: Record) -> bool:
         """Whether a record is of the same runs but for its seed."""
         schedule = record["schedule"]["sha256"] if record["schedule"] else None
-        own = {"predator": record["predator"]["sha256"], "program": record["program"]["sha256"], "schedule": schedule}
+        own = {
+            "predator": record["predator"]["sha256"],
+            "program": record["program"]["sha256"],
+            "schedule": schedule,
+        }
         return {**own, "settings": record["settings"]} == self.base
 
     def empty(self, seed: int) -> Record:
-        program = {"name": self.group["program"], "file": self.program["file"], "sha256": self.program["sha256"]}
+        program = {
+            "name": self.group["program"],
+            "file": self.program["file"],
+            "sha256": self.program["sha256"],
+        }
         predator = {it: self.campaign["predator"][it] for it in ("version", "sha256")}
-        head = {"program": program, "schedule": self.program["schedule"], "settings": self.group["settings"], "seed": seed}
+        head = {
+            "program": program,
+            "schedule": self.program["schedule"],
+            "settings": self.group["settings"],
+            "seed": seed,
+        }
         return {**head, "predator": predator, "results": {}, "blocks": {}, "failed": []}
 
     def words(self, settings: str, trace: str | None) -> list[str]:
         words = ["run", self.program["file"], "--settings", settings]
-        words += ["--schedule", self.program["schedule"]["file"]] if self.program["schedule"] else []
+        words += (
+            ["--schedule", self.program["schedule"]["file"]] if self.program["schedule"] else []
+        )
         return words + (["--trace", trace, *(["--pcs"] if self.has_pcs else [])] if trace else [])
 
     def make(self, seed: int, known: Record | None, work: str) -> Record:
         """The record of a run: what is known of it, and what is still to make."""
         record = self.empty(seed)
         calls = [" ".join(it) for it in self.group["calls"]]
-        record["results"] = {it: known["results"][it] for it in ["run", *calls] if known and it in known["results"]}
+        record["results"] = {
+            it: known["results"][it] for it in ["run", *calls] if known and it in known["results"]
+        }
         record["blocks"] = known["blocks"] if known else {}
         missing = [it for it in calls if it not in record["results"]]
         if "run" in record["results"] and not missing:
@@ -153,7 +195,9 @@ class Batch:
             return os.path.join(work, "trace")
         folder = os.path.join("traces", os.path.dirname(self.name))
         os.makedirs(folder, exist_ok=True)
-        return os.path.join(folder, f"{seed}.{short(self.base)}.{'pcs' if self.has_pcs else 'trace'}")
+        return os.path.join(
+            folder, f"{seed}.{short(self.base)}.{'pcs' if self.has_pcs else 'trace'}"
+        )
 
     def run(self, record: Record, work: str, trace: str | None) -> None:
         settings = os.path.join(work, "settings")
@@ -169,7 +213,9 @@ class Batch:
             os.replace(beside, trace)
         before = record["results"].get("run")
         if before and before["text"] != text:
-            raise SystemExit(f"batch.py: {command_of(record)}: it printed another report than before")
+            raise SystemExit(
+                f"batch.py: {command_of(record)}: it printed another report than before"
+            )
         record["results"]["run"] = {"status": status, "text": text}
 
     def count(self, record: Record, call: str, trace: str | None) -> None:
@@ -183,14 +229,27 @@ class Batch:
         record["results"][call] = {"status": status, "text": text}
 
     def put_down(self, record: Record, call: str, failed: Failed) -> None:
-        record["failed"].append({"call": call, "command": command_of(record, call), "status": failed.status, "said": failed.said})
+        record["failed"].append(
+            {
+                "call": call,
+                "command": command_of(record, call),
+                "status": failed.status,
+                "said": failed.said,
+            }
+        )
 
     def note_blocks(self, record: Record, trace: str | None) -> None:
         """Puts down the order of making of each block that a text names."""
-        wanted = {(int(addr, 16), int(born)) for it in record["results"].values() for addr, born in BLOCK.findall(it["text"])}
+        wanted = {
+            (int(addr, 16), int(born))
+            for it in record["results"].values()
+            for addr, born in BLOCK.findall(it["text"])
+        }
         if wanted and trace and os.path.exists(trace):
             found = makings(trace, wanted)
-            record["blocks"] = {f"{addr:#010x} {born}": order for (addr, born), order in sorted(found.items())}
+            record["blocks"] = {
+                f"{addr:#010x} {born}": order for (addr, born), order in sorted(found.items())
+            }
 
     def known(self, own: Iterable[Record]) -> dict[int, Record]:
         """The best record of each seed that a file has: the one with the most results."""
@@ -204,7 +263,9 @@ class Batch:
         """Makes all runs of the batch. Another job that is at the same batch, left by a call that was killed, is waited for."""
         path, done = results.finished(self.name), []
         os.makedirs(os.path.dirname(path), exist_ok=True)
-        with open(results.journal(self.name), "a+b") as journal, tempfile.TemporaryDirectory(prefix="predator-campaign-") as work:
+        with open(results.journal(self.name), "a+b") as journal, tempfile.TemporaryDirectory(
+            prefix="predator-campaign-"
+        ) as work:
             self.caller = Caller(self.campaign["predator"]["file"], work)
             fcntl.flock(journal, fcntl.LOCK_EX)
             if os.path.exists(path):

@@ -7,7 +7,10 @@ from folder import Record
 
 def settings_text(record: Record) -> str:
     """The settings file of a run."""
-    return "".join(f"{key} = {value}\n" for key, value in {**record["settings"], "seed": record["seed"]}.items())
+    return "".join(
+        f"{key} = {value}\n"
+        for key, value in {**record["settings"], "seed": record["seed"]}.items()
+    )
 
 
 def command_of(record: Record, call: str = "run") -> str:
@@ -17,7 +20,9 @@ def command_of(record: Record, call: str = "run") -> str:
     if record["schedule"]:
         words += f" --schedule {shlex.quote(record['schedule']['file'])}"
     pcs = " --pcs" if wants_pcs(call) else ""
-    return words if call == "run" else f"{words} --trace trace{pcs} >report; predator {call} -- trace"
+    return (
+        words if call == "run" else f"{words} --trace trace{pcs} >report; predator {call} -- trace"
+    )
 
 
 def wants_pcs(call: str) -> bool:

@@ -78,7 +78,9 @@ class Told:
         if self.report is None:
             return
         own = self.report.size, self.report.offset
-        observed = {own: self.report.observed()} | {layout: it.observed() for layout, it in self.replays.items()}
+        observed = {own: self.report.observed()} | {
+            layout: it.observed() for layout, it in self.replays.items()
+        }
         for layout in dict.fromkeys([*observed, *self.misses]):
             for line in self.of_layout(observed.get(layout, []), self.misses.get(layout)):
                 yield layout, "observed", line
@@ -106,8 +108,14 @@ class Told:
         """The names of the objects on a line, each with its share of the accesses and where the line begins in it."""
         found: dict[Party, float] = {}
         for key, (thing, share) in parties(spot, spot.rows(), self.naming).items():
-            name, addr = (self.block_name(thing), thing.addr) if isinstance(thing, Block) else (self.naming.key_name(key, thing), spot.base)
-            found[name, spot.base - (thing.addr if isinstance(thing, Symbol) else addr)] = max(share, 0)
+            name, addr = (
+                (self.block_name(thing), thing.addr)
+                if isinstance(thing, Block)
+                else (self.naming.key_name(key, thing), spot.base)
+            )
+            found[name, spot.base - (thing.addr if isinstance(thing, Symbol) else addr)] = max(
+                share, 0
+            )
         return found
 
     def pairs(self) -> dict[Taking, tuple[int, int]]:

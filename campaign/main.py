@@ -69,13 +69,19 @@ class Call:
                     raise Fault(f"the option '{name}' stands twice")
                 self.options[name[2:]] = value if has_value else words.pop(0)
             elif word.startswith("-"):
-                raise Fault(f"'{word}' is no option of campaign; those of snakemake stand behind `--`\n{USAGE}")
+                raise Fault(
+                    f"'{word}' is no option of campaign; those of snakemake stand behind `--`\n{USAGE}"
+                )
             else:
                 names.append(word)
         if "help" in self.options:
             return
         if len(names) != 1:
-            raise Fault(f"a plan is wanted, one\n{USAGE}" if not names else f"'{names[1]}' is one word more than is wanted\n{USAGE}")
+            raise Fault(
+                f"a plan is wanted, one\n{USAGE}"
+                if not names
+                else f"'{names[1]}' is one word more than is wanted\n{USAGE}"
+            )
         self.plan = names[0]
         self.folder = self.options.get("to") or os.path.splitext(self.plan)[0] + ".campaign"
         cores = self.options.get("cores", "all")
@@ -86,7 +92,14 @@ class Call:
         """The words of Snakemake. A job's result is whole where it is there, and the lock is this call's own."""
         profile = self.options.get("profile")
         own = os.path.join(PROFILES, profile) if profile else ""
-        words = ["--snakefile", os.path.join(HERE, "Snakefile"), "--nolock", "--ignore-incomplete", "--rerun-triggers", "mtime"]
+        words = [
+            "--snakefile",
+            os.path.join(HERE, "Snakefile"),
+            "--nolock",
+            "--ignore-incomplete",
+            "--rerun-triggers",
+            "mtime",
+        ]
         words += ["--keep-going", "--scheduler", "greedy"]
         words += (
             ["--profile", own if os.path.isdir(own) else profile]
@@ -103,9 +116,15 @@ def predator() -> Record:
 
     if not os.access(program, os.X_OK):
         raise Fault(f"there is no program {program}", 127)
-    told = subprocess.run([launcher, "--version"], capture_output=True, encoding="utf-8", stdin=subprocess.DEVNULL).stdout.strip()
+    told = subprocess.run(
+        [launcher, "--version"], capture_output=True, encoding="utf-8", stdin=subprocess.DEVNULL
+    ).stdout.strip()
     # (the launcher's version is that of its own program)
-    version = "unknown, named by PREDATOR_PROGRAM" if os.environ.get("PREDATOR_PROGRAM") else told or "unknown"
+    version = (
+        "unknown, named by PREDATOR_PROGRAM"
+        if os.environ.get("PREDATOR_PROGRAM")
+        else told or "unknown"
+    )
     return {"file": os.path.abspath(program), "sha256": sum_of(program), "version": version}
 
 
@@ -118,9 +137,16 @@ def check_of(program: str) -> "Check":
             file.write(settings_text({"settings": settings, "seed": 0}))
             file.flush()
             ran = subprocess.run(
-                [program, "check", path, "--settings", file.name], capture_output=True, encoding="latin-1", stdin=subprocess.DEVNULL
+                [program, "check", path, "--settings", file.name],
+                capture_output=True,
+                encoding="latin-1",
+                stdin=subprocess.DEVNULL,
             )
-        return (ran.stdout or ran.stderr).strip().partition("\n")[0].removeprefix("predator: ") if ran.returncode else None
+        return (
+            (ran.stdout or ran.stderr).strip().partition("\n")[0].removeprefix("predator: ")
+            if ran.returncode
+            else None
+        )
 
     return told
 
@@ -172,7 +198,10 @@ def note_failed(folder: str, campaign: Record, table: Record) -> None:
     found = []
     for it in campaign["batches"] if failed else []:
         group = campaign["groups"][it["group"]]
-        if any((group["program"], json.dumps(group["settings"]), seed) in failed for seed in seeds_in(it)):
+        if any(
+            (group["program"], json.dumps(group["settings"]), seed) in failed
+            for seed in seeds_in(it)
+        ):
             found.append(it["name"])
     results.write_beside(os.path.join(folder, "failed.json"), json.dumps(found).encode())
 
@@ -199,7 +228,9 @@ class Progress:
     def __init__(self, folder: str, campaign: Record) -> None:
         import results
 
-        self.files = [os.path.join(folder, results.finished(it["name"])) for it in campaign["batches"]]
+        self.files = [
+            os.path.join(folder, results.finished(it["name"])) for it in campaign["batches"]
+        ]
         self.ended = threading.Event()
 
     def __enter__(self) -> None:
@@ -221,7 +252,9 @@ def tables(folder: str) -> Record:
     from folder import CAMPAIGN, campaign_of
 
     made = os.path.join(folder, "table.json")
-    if not os.path.exists(made) or os.path.getmtime(made) < os.path.getmtime(os.path.join(folder, CAMPAIGN)):
+    if not os.path.exists(made) or os.path.getmtime(made) < os.path.getmtime(
+        os.path.join(folder, CAMPAIGN)
+    ):
         import table
 
         before = os.getcwd()
@@ -250,7 +283,9 @@ def work(call: Call, campaign: Record) -> int:
     tell_failed(call.folder, table)
     if "html" in call.options:
         write_page(call.folder, campaign, call.options["html"])
-    print(f"{table['runs']} runs, {len(table['failed'])} failed calls, {len(table['missing'])} missing jobs: {call.folder}/table.tsv")
+    print(
+        f"{table['runs']} runs, {len(table['failed'])} failed calls, {len(table['missing'])} missing jobs: {call.folder}/table.tsv"
+    )
     return 1 if table["failed"] or table["missing"] else 2 if status else 0
 
 
@@ -289,15 +324,23 @@ def check_page(call: Call) -> None:
 
 
 def is_dry(words: Sequence[str]) -> bool:
-    return any(it in ("-n", "--dry-run", "--dryrun", "--version", "--help", "--list", "--summary", "--dag") for it in words)
+    return any(
+        it in ("-n", "--dry-run", "--dryrun", "--version", "--help", "--list", "--summary", "--dag")
+        for it in words
+    )
 
 
 def check(campaign: Record) -> int:
     from folder import seeds_in
 
     runs = sum(len(seeds_in(it)) for it in campaign["batches"])
-    counts = sum(len(campaign["groups"][it["group"]]["calls"]) * len(seeds_in(it)) for it in campaign["batches"])
-    print(f"{len(campaign['programs'])} programs, {runs} runs, {counts} counts of their traces, {len(campaign['batches'])} jobs")
+    counts = sum(
+        len(campaign["groups"][it["group"]]["calls"]) * len(seeds_in(it))
+        for it in campaign["batches"]
+    )
+    print(
+        f"{len(campaign['programs'])} programs, {runs} runs, {counts} counts of their traces, {len(campaign['batches'])} jobs"
+    )
     return 0
 
 

@@ -102,13 +102,17 @@ def strange_key(error: Error) -> str:
 
 
 def place_of(error: Error) -> list[str | int]:
-    path: list[str | int] = [str(it) if not isinstance(it, int) else it for it in error.absolute_path]
+    path: list[str | int] = [
+        str(it) if not isinstance(it, int) else it for it in error.absolute_path
+    ]
     if error.validator == "additionalProperties":
         return [*path, strange_key(error)]
     # (the fault of a name is that of its mapping)
     return (
         [*path, error.instance]
-        if isinstance(error.instance, str) and error.parent is None and "propertyNames" in error.schema_path
+        if isinstance(error.instance, str)
+        and error.parent is None
+        and "propertyNames" in error.schema_path
         else path
     )
 
@@ -119,7 +123,11 @@ def told(error: Error) -> str:
     what = f"'{at}'" if at else "a plan"
     if error.validator == "additionalProperties":
         known = ", ".join(error.schema.get("properties", {}))
-        more = "; the plan's `seeds` has those" if strange_key(error) == "seed" else f"; there are: {known}"
+        more = (
+            "; the plan's `seeds` has those"
+            if strange_key(error) == "seed"
+            else f"; there are: {known}"
+        )
         return f"'{strange_key(error)}' is no key of {what}{more}"
     if error.validator == "required":
         lacks = next(it for it in error.validator_value if it not in error.instance)
@@ -129,7 +137,9 @@ def told(error: Error) -> str:
     if error.validator == "enum":
         return f"{what} is one of {', '.join(str(it) for it in error.validator_value)}, and not {json.dumps(error.instance)}"
     meant = error.schema.get("description")
-    return f"{what} can't be {json.dumps(error.instance)}" + (f": it is {meant}" if meant else f": {error.message}")
+    return f"{what} can't be {json.dumps(error.instance)}" + (
+        f": it is {meant}" if meant else f": {error.message}"
+    )
 
 
 def sum_of(path: str) -> str:
@@ -148,7 +158,9 @@ def seeds_of(data: Record, lines: Lines) -> list[int]:
         where: list[str | int] = ["seeds", at] if isinstance(data["seeds"], list) else ["seeds"]
         first, last = (it, it) if isinstance(it, int) else (int(part) for part in it.split("-"))
         if first > last or last > MOST_SEED:
-            raise lines.fault(where, f"'{it}' is no range of seeds: they go up, to {MOST_SEED} at most")
+            raise lines.fault(
+                where, f"'{it}' is no range of seeds: they go up, to {MOST_SEED} at most"
+            )
         found.update(dict.fromkeys(range(first, last + 1)))
     return list(found)
 
@@ -159,8 +171,12 @@ def layouts_of(data: Record, key: str, lines: Lines) -> list[tuple[int, int]]:
     for at, it in enumerate(data.get(key, [])):
         size, shift = (it, 0) if isinstance(it, int) else (it["size"], it.get("shift", 0))
         if shift != "all" and shift >= size:
-            raise lines.fault((key, at), f"a shift is below the size of the line, and {shift} isn't below {size}")
-        found.update(dict.fromkeys((size, own) for own in (range(0, size, 4) if shift == "all" else [shift])))
+            raise lines.fault(
+                (key, at), f"a shift is below the size of the line, and {shift} isn't below {size}"
+            )
+        found.update(
+            dict.fromkeys((size, own) for own in (range(0, size, 4) if shift == "all" else [shift]))
+        )
     return list(found)
 
 
@@ -176,15 +192,29 @@ def counts_of(data: Record, line: int, lines: Lines) -> list[list[str]]:
     calls += [["sweep", "--size", str(it)] for it in data.get("sweeps", [])]
     for at, it in enumerate(data.get("caches", [])):
         if it["sets"] * it["ways"] > 4096 or it["sets"] & (it["sets"] - 1):
-            raise lines.fault(("caches", at), "sets are a power of two, and sets times ways at most 4096")
-        calls.append(["caches", "--size", str(it["size"]), "--sets", str(it["sets"]), "--ways", str(it["ways"])])
+            raise lines.fault(
+                ("caches", at), "sets are a power of two, and sets times ways at most 4096"
+            )
+        calls.append(
+            [
+                "caches",
+                "--size",
+                str(it["size"]),
+                "--sets",
+                str(it["sets"]),
+                "--ways",
+                str(it["ways"]),
+            ]
+        )
     return calls
 
 
 def choices(settings: Record) -> list[Record]:
     """Each choice of one value for each key, the last key changing fastest."""
     keys = list(settings)
-    return [dict(zip(keys, it)) for it in itertools.product(*(listed(settings[key]) for key in keys))]
+    return [
+        dict(zip(keys, it)) for it in itertools.product(*(listed(settings[key]) for key in keys))
+    ]
 
 
 def named_file(path: str, base: str, where: Where, lines: Lines) -> Record:
@@ -203,17 +233,31 @@ def programs_of(data: Record, base: str, lines: Lines) -> Record:
         it = {"file": it} if isinstance(it, str) else it
         where = ("programs", name)
         found[name] = named_file(it["file"], base, (*where, "file"), lines)
-        found[name]["schedule"] = named_file(it["schedule"], base, (*where, "schedule"), lines) if "schedule" in it else None
+        found[name]["schedule"] = (
+            named_file(it["schedule"], base, (*where, "schedule"), lines)
+            if "schedule" in it
+            else None
+        )
         found[name]["settings"] = it.get("settings", {})
     return found
 
 
-def batches_of(campaign: Record, group: Record, at: int, seeds: list[int], size: int) -> Iterator[Record]:
-    folder = group["program"] + "/" + ("_".join(f"{key}-{value}" for key, value in group["settings"].items()) or "usual")
+def batches_of(
+    campaign: Record, group: Record, at: int, seeds: list[int], size: int
+) -> Iterator[Record]:
+    folder = (
+        group["program"]
+        + "/"
+        + ("_".join(f"{key}-{value}" for key, value in group["settings"].items()) or "usual")
+    )
     for first in range(0, len(seeds), size):
         own = seeds[first : first + size]
         stands_on = {**of_group(campaign, group), "seeds": own, "calls": group["calls"]}
-        yield {"name": f"{folder}/{min(own)}-{max(own)}.{short(stands_on)}", "group": at, "seeds": spans(own)}
+        yield {
+            "name": f"{folder}/{min(own)}-{max(own)}.{short(stands_on)}",
+            "group": at,
+            "seeds": spans(own),
+        }
 
 
 def judge_group(group: Record, program: Record, check: Check, lines: Lines) -> None:
@@ -221,7 +265,11 @@ def judge_group(group: Record, program: Record, check: Check, lines: Lines) -> N
     said = check(program["file"], group["settings"])
     if said:
         name, key = group["program"], said.split()[-1]
-        places: list[tuple[str, ...]] = [("programs", name, "settings", key), ("settings", key), ("programs", name)]
+        places: list[tuple[str, ...]] = [
+            ("programs", name, "settings", key),
+            ("settings", key),
+            ("programs", name),
+        ]
         where = next((it for it in places if it in lines.of), ())
         raise lines.fault(where, f"predator refuses {name} under these settings: {said}")
 
@@ -236,7 +284,13 @@ def expanded(path: str, predator: Record, check: Check = lambda program, setting
     groups: list[Record] = []
     for name, it in programs.items():
         for settings in choices({**it.pop("settings"), **data.get("settings", {})}):
-            groups.append({"program": name, "settings": settings, "calls": counts_of(data, settings.get("line", USUAL["line"]), lines)})
+            groups.append(
+                {
+                    "program": name,
+                    "settings": settings,
+                    "calls": counts_of(data, settings.get("line", USUAL["line"]), lines),
+                }
+            )
             judge_group(groups[-1], it, check, lines)
     campaign: Record = {
         "format": "predator campaign 1",
@@ -246,5 +300,9 @@ def expanded(path: str, predator: Record, check: Check = lambda program, setting
         "groups": groups,
     }
     campaign["traces"] = data.get("traces", "lost")
-    campaign["batches"] = [it for at, group in enumerate(groups) for it in batches_of(campaign, group, at, seeds, data.get("batch", BATCH))]
+    campaign["batches"] = [
+        it
+        for at, group in enumerate(groups)
+        for it in batches_of(campaign, group, at, seeds, data.get("batch", BATCH))
+    ]
     return campaign

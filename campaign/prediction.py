@@ -26,7 +26,20 @@ from naming import Memory  # noqa: E402
 from predicted import inside  # noqa: E402
 from table import settings_of  # noqa: E402
 
-HEADS = ("program", "settings", "seed", "there", "exactly", "near", "new", "exactly", "near", "predicted", "there", "new")
+HEADS = (
+    "program",
+    "settings",
+    "seed",
+    "there",
+    "exactly",
+    "near",
+    "new",
+    "exactly",
+    "near",
+    "predicted",
+    "there",
+    "new",
+)
 
 
 class Range(NamedTuple):
@@ -36,7 +49,9 @@ class Range(NamedTuple):
 
 def is_near(line: Range, others: Iterable[Range]) -> bool:
     """Whether another line has half of a line's bytes or more."""
-    shared = (min(line.base + line.size, it.base + it.size) - max(line.base, it.base) for it in others)
+    shared = (
+        min(line.base + line.size, it.base + it.size) - max(line.base, it.base) for it in others
+    )
     return any(2 * it >= line.size for it in shared)
 
 
@@ -45,9 +60,17 @@ def found_of(told: Told) -> tuple[set[Range], set[Range], set[Range]]:
     report = told.report
     assert report  # (a record without a failed call has one)
     own = told.misses[report.size, report.offset]
-    useless = {Range(size, base): it.useless for (size, _), found in told.misses.items() for base, it in found.lines.items()}
+    useless = {
+        Range(size, base): it.useless
+        for (size, _), found in told.misses.items()
+        for base, it in found.lines.items()
+    }
     threshold = int(report.thresholds[2])
-    there = {it for it, many in useless.items() if many >= threshold and (it.size, it.base % it.size) != (own.size, own.offset)}
+    there = {
+        it
+        for it, many in useless.items()
+        if many >= threshold and (it.size, it.base % it.size) != (own.size, own.offset)
+    }
     new = {it for it in there if useless[it] >= inside([it], own) + threshold}
     return there, new, {Range(it.size, it.base) for it in report.predicted()}
 
@@ -56,7 +79,13 @@ def judged(record: Record) -> list[int]:
     """The numbers of one run, under the heads behind `seed`."""
     there, new, predicted = found_of(Told(record, Memory()))
     told = [
-        number for lines in (there, new) for number in (len(lines), len(lines & predicted), sum(is_near(it, predicted) for it in lines))
+        number
+        for lines in (there, new)
+        for number in (
+            len(lines),
+            len(lines & predicted),
+            sum(is_near(it, predicted) for it in lines),
+        )
     ]
     return [*told, len(predicted), len(predicted & there), len(predicted & new)]
 

@@ -79,7 +79,12 @@ def older(name: str) -> Iterator[Record]:
     first, last = (int(it) for it in os.path.basename(name).partition(".")[0].split("-"))
     for it in sorted(os.listdir(folder)):
         found = NAME.fullmatch(it)
-        if not found or int(found[1]) > last or int(found[2]) < first or it.startswith(os.path.basename(name) + ".part"):
+        if (
+            not found
+            or int(found[1]) > last
+            or int(found[2]) < first
+            or it.startswith(os.path.basename(name) + ".part")
+        ):
             continue
         path = os.path.join(folder, it)
         if it.endswith(".part"):

@@ -26,7 +26,9 @@ def command_of(campaign: Record, group: int, seed: int) -> str:
     own = campaign["groups"][group]
     program = campaign["programs"][own["program"]]
     values = ",".join(f"{key}={value}" for key, value in {**own["settings"], "seed": seed}.items())
-    schedule = f" --schedule {shlex.quote(program['schedule']['file'])}" if program["schedule"] else ""
+    schedule = (
+        f" --schedule {shlex.quote(program['schedule']['file'])}" if program["schedule"] else ""
+    )
     return f"predator view run {shlex.quote(program['file'])} --set {values}{schedule}"
 
 
@@ -43,7 +45,10 @@ def outcomes(campaign: Record, part: Part) -> Iterator[Given]:
     runs = Counter(it[0] for it in part.runs)
     for (group, outcome), seeds in sorted(ends.items(), key=lambda it: (-len(it[1]), it[0])):
         if outcome != "exit 0":
-            first, much = min(seeds), f"{len(seeds)} of {runs[group]} runs of {name_of(campaign, group)}"
+            first, much = (
+                min(seeds),
+                f"{len(seeds)} of {runs[group]} runs of {name_of(campaign, group)}",
+            )
             text = f"{much} didn't end by exit 0, but by {outcome}, as with seed {first}:"
             yield {"text": text, "command": command_of(campaign, group, first)}
 
@@ -52,14 +57,27 @@ def loud(campaign: Record, part: Part, missing: Sequence[str]) -> list[Given]:
     """All that went wrong, as far as there is room."""
     found = list(outcomes(campaign, part))
     for it in part.failed:
-        found.append({"text": f"a call failed three times, with status {it['status']}: {short(it['said'])}", "command": it["command"]})
+        found.append(
+            {
+                "text": f"a call failed three times, with status {it['status']}: {short(it['said'])}",
+                "command": it["command"],
+            }
+        )
     found += [{"text": f"there is no result of the job {it}", "command": ""} for it in missing]
     more = len(found) - LOUD
-    return found[:LOUD] + ([{"text": f"and {more} more, which runs.tsv and table.json have", "command": ""}] if more > 0 else [])
+    return found[:LOUD] + (
+        [{"text": f"and {more} more, which runs.tsv and table.json have", "command": ""}]
+        if more > 0
+        else []
+    )
 
 
 def numbers(values: Sequence[int | None]) -> str:
-    return "-" if all(it is None for it in values) else ", ".join("-" if it is None else str(it) for it in values)
+    return (
+        "-"
+        if all(it is None for it in values)
+        else ", ".join("-" if it is None else str(it) for it in values)
+    )
 
 
 class Shown(NamedTuple):
@@ -74,13 +92,19 @@ class Shown(NamedTuple):
 def where(under: Under) -> str:
     """Of which lines a row is."""
     _, (size, shift), kind = under
-    return f"lines of {size} bytes" + (f" at offset {shift}" if shift else "") + ("" if kind == "observed" else f", predicted ({kind})")
+    return (
+        f"lines of {size} bytes"
+        + (f" at offset {shift}" if shift else "")
+        + ("" if kind == "observed" else f", predicted ({kind})")
+    )
 
 
 def row(campaign: Record, shown: Shown, seeds: Sequence[int]) -> Given:
     """An object under some settings, and its strip."""
     under, name, family, told = shown
-    counts, useless = ([family.seeds.get(seed, (seed, None, None))[at] for seed in seeds] for at in (1, 2))
+    counts, useless = (
+        [family.seeds.get(seed, (seed, None, None))[at] for seed in seeds] for at in (1, 2)
+    )
     layout = where(under)
     said = f"{short(name)}, {layout}: useless misses {numbers(told['useless'])} (least, middle, greatest), count {numbers(told['count'])}"
     return {
@@ -109,22 +133,42 @@ def side_by_side(campaign: Record, found: Sequence[Shown]) -> Given:
         objects.setdefault((it.name, *it.under[1:]), {})[it.under[0]] = it
     made = [beside(own, groups, heads[:COLUMNS]) for own in list(objects.values())[:ROWS]]
     left = {"objects": len(objects) - len(made), "settings": len(heads) - len(heads[:COLUMNS])}
-    return {"heads": [short(it.replace(",", ", ")) for it in heads[:COLUMNS]], "objects": made, "left": left}
+    return {
+        "heads": [short(it.replace(",", ", ")) for it in heads[:COLUMNS]],
+        "objects": made,
+        "left": left,
+    }
 
 
-def beside(own: Mapping[int, Shown], groups: Mapping[tuple[str, str], int], heads: Sequence[str]) -> Given:
+def beside(
+    own: Mapping[int, Shown], groups: Mapping[tuple[str, str], int], heads: Sequence[str]
+) -> Given:
     """One object, by the groups in which it is seen: its programs, those in which it isn't, and its cells under each of the settings."""
     first = next(iter(own.values()))
     of = "useless" if any(it.row["useless"][2] is not None for it in own.values()) else "count"
     most = max(it.row[of][2] or 0 for it in own.values())
-    programs = {program: any(at in own for (it, _), at in groups.items() if it == program) for program, _ in groups}
-    there, absent = ([it for it, is_seen in programs.items() if is_seen == wanted] for wanted in (True, False))
+    programs = {
+        program: any(at in own for (it, _), at in groups.items() if it == program)
+        for program, _ in groups
+    }
+    there, absent = (
+        [it for it, is_seen in programs.items() if is_seen == wanted] for wanted in (True, False)
+    )
     rows = []
     for program in there[:PROGRAMS]:
         places = [groups.get((program, it)) for it in heads]
-        cells = [None if at is None else greatest(own[at].row, of, most) if at in own else {} for at in places]
+        cells = [
+            None if at is None else greatest(own[at].row, of, most) if at in own else {}
+            for at in places
+        ]
         rows.append({"program": program, "cells": cells})
-    told = {"object": short(first.name), "where": where(first.under), "of": of, "rows": rows, "more": len(there) - len(rows)}
+    told = {
+        "object": short(first.name),
+        "where": where(first.under),
+        "of": of,
+        "rows": rows,
+        "more": len(there) - len(rows),
+    }
     return {**told, "absent": absent[:PROGRAMS], "others": max(0, len(absent) - PROGRAMS)}
 
 
@@ -147,16 +191,33 @@ def title_of(campaign: Record, part: Part, found: Sequence[Shown]) -> str:
     seeds = len({it[1] for it in part.runs if it[0] == group})
     what = "seed lists" if seeds == 1 else "seeds list"
     on = "" if kind == "observed" else f" on a line that is predicted ({kind})"
-    much = f"{told['useless'][2]} useless misses" if told["useless"][2] is not None else f"a count of {told['count'][2]}"
+    much = (
+        f"{told['useless'][2]} useless misses"
+        if told["useless"][2] is not None
+        else f"a count of {told['count'][2]}"
+    )
     worst = f"seed {told['worst']} is the worst, with {much}"
-    more = len({(campaign["groups"][it.under[0]]["program"], it.name) for it in found if it.under[2] == kind}) - 1
+    more = (
+        len(
+            {
+                (campaign["groups"][it.under[0]]["program"], it.name)
+                for it in found
+                if it.under[2] == kind
+            }
+        )
+        - 1
+    )
     end = f"; {more} more {'object is' if more == 1 else 'objects are'} {'fought over' if kind == 'observed' else 'on such lines'}"
     return f"{begin}{told['listed']} of {seeds} {what} {short(name)} of {name_of(campaign, group)}{on}: {worst}{end if more else ''}"
 
 
 def sheet(campaign: Record, part: Part, missing: Sequence[str]) -> str:
     """The whole page."""
-    found = [Shown(under, name, it, it.row(name)) for under, own in families(part).items() for name, it in own.items()]
+    found = [
+        Shown(under, name, it, it.row(name))
+        for under, own in families(part).items()
+        for name, it in own.items()
+    ]
     found.sort(key=lambda it: (it.under[2] != "observed", weight(it.row)))
     drawn, groups = found[:STRIPS], []
     for at in range(len(campaign["groups"])):

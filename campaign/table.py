@@ -40,10 +40,40 @@ LINES: tuple[str, ...] = (
     "count greatest",
 )
 LINES += ("missed", "useless least", "useless middle", "useless greatest", "worst seed", "beside")
-PAIRS: tuple[str, ...] = ("program", "settings", "size", "shift", "object", "offset", "victim", "taker", "seeds", "taken in")
-PAIRS += ("taken least", "taken middle", "taken greatest", "same least", "same middle", "same greatest", "worst seed")
+PAIRS: tuple[str, ...] = (
+    "program",
+    "settings",
+    "size",
+    "shift",
+    "object",
+    "offset",
+    "victim",
+    "taker",
+    "seeds",
+    "taken in",
+)
+PAIRS += (
+    "taken least",
+    "taken middle",
+    "taken greatest",
+    "same least",
+    "same middle",
+    "same greatest",
+    "worst seed",
+)
 OBJECTS = tuple("lines" if it == "offset" else it for it in LINES[:-1])
-RUNS = ("program", "settings", "seed", "outcome", "steps", "accesses", "lines", "cold", "useful", "useless")
+RUNS = (
+    "program",
+    "settings",
+    "seed",
+    "outcome",
+    "steps",
+    "accesses",
+    "lines",
+    "cold",
+    "useful",
+    "useless",
+)
 SHIFT = re.compile(r"^shift (\d+) total (\d+) lines (\d+)$", re.MULTILINE)
 LEAST = re.compile(r"^least (\d+) total \d+$", re.MULTILINE)
 TOTAL = re.compile(r"^total bounded (\d+) unbounded (\d+) evicted (\d+)$", re.MULTILINE)
@@ -72,7 +102,11 @@ class Part:
         self.pairs: dict[tuple[int, Taking], list[tuple[int, int, int]]] = {}
 
     def note(self, group: int, record: Record, memory: Memory) -> None:
-        head = {"program": record["program"]["name"], "settings": record["settings"], "seed": record["seed"]}
+        head = {
+            "program": record["program"]["name"],
+            "settings": record["settings"],
+            "seed": record["seed"],
+        }
         self.failed += [{**head, **it} for it in record["failed"]]
         told = Told(record, memory)
         if told.report is None:
@@ -86,13 +120,27 @@ class Part:
             self.pairs.setdefault((group, place), []).append((told.seed, taken, same))
         own = told.misses.get((told.report.size, told.report.offset))
         costs = [own.total[it] if own else None for it in ("cold", "useful", "useless")]
-        self.runs.append((group, told.seed, told.report.outcome, told.report.steps, told.report.accesses, len(told.report.lines), *costs))
+        self.runs.append(
+            (
+                group,
+                told.seed,
+                told.report.outcome,
+                told.report.steps,
+                told.report.accesses,
+                len(told.report.lines),
+                *costs,
+            )
+        )
         for call, it in record["results"].items():
             if call.startswith("sweep"):
                 found = {int(shift): int(total) for shift, total, _ in SHIFT.findall(it["text"])}
-                self.sweeps.setdefault((group, call), []).append((told.seed, found, int(LEAST.findall(it["text"])[0])))
+                self.sweeps.setdefault((group, call), []).append(
+                    (told.seed, found, int(LEAST.findall(it["text"])[0]))
+                )
             elif call.startswith("caches"):
-                self.caches.setdefault((group, call), []).append((told.seed, *map(int, TOTAL.findall(it["text"])[0])))
+                self.caches.setdefault((group, call), []).append(
+                    (told.seed, *map(int, TOTAL.findall(it["text"])[0]))
+                )
 
     def add(self, other: "Part") -> None:
         for key, (names, seen) in other.lines.items():
@@ -117,14 +165,22 @@ def middle(values: Iterable[Number]) -> tuple[Number, Number, Number]:
 
 def worst(seen: Sequence[Seen]) -> int:
     """The seed whose line has most useless misses, then the greatest count; the least of several."""
-    return -max((-1 if useless is None else useless, -1 if count is None else count, -seed) for seed, count, useless in seen)[2]
+    return -max(
+        (-1 if useless is None else useless, -1 if count is None else count, -seed)
+        for seed, count, useless in seen
+    )[2]
 
 
 def numbers(seen: Sequence[Seen]) -> Record:
     """What the seeds say of a line: in how many it is listed and missed, and the least, middle and greatest of both numbers."""
     counts, useless = [count for _, count, _ in seen], [useless for _, _, useless in seen]
     told: Record = {"listed": sum(it is not None for it in counts), "count": middle(counts)}
-    return {**told, "missed": sum(it is not None for it in useless), "useless": middle(useless), "worst": worst(seen)}
+    return {
+        **told,
+        "missed": sum(it is not None for it in useless),
+        "useless": middle(useless),
+        "worst": worst(seen),
+    }
 
 
 def weight(row: Record) -> tuple[int, int, str, int]:
@@ -143,10 +199,15 @@ def rows_of(part: Part) -> tuple[Rows, Rows]:
     lines: Rows = {}
     for under, (name, offset), ranked, seen in named(part):
         beside = list(dict.fromkeys(it[0] for it in ranked if it[0] != name))
-        lines.setdefault(under, []).append({"object": name, "offset": offset, "beside": beside, **numbers(seen)})
+        lines.setdefault(under, []).append(
+            {"object": name, "offset": offset, "beside": beside, **numbers(seen)}
+        )
     return (
         {under: sorted(own, key=weight) for under, own in lines.items()},
-        {under: sorted((of.row(it) for it, of in own.items()), key=weight) for under, own in families(part).items()},
+        {
+            under: sorted((of.row(it) for it, of in own.items()), key=weight)
+            for under, own in families(part).items()
+        },
     )
 
 
@@ -171,10 +232,21 @@ def pair_rows(part: Part) -> Pairs:
     names = {(under[:2], key): own for under, key, own in line_names(part)}
     found: Pairs = {}
     for (group, (layout, key, victim, taker)), seen in part.pairs.items():
-        name, offset = names.get(((group, layout), key)) or (address(key.base) if isinstance(key, At) else "-", 0)
+        name, offset = names.get(((group, layout), key)) or (
+            address(key.base) if isinstance(key, At) else "-",
+            0,
+        )
         told = {"taken": middle(it[1] for it in seen), "same": middle(it[2] for it in seen)}
         worst_of = -max((taken, -seed) for seed, taken, _ in seen)[1]
-        row = {"object": name, "offset": offset, "victim": victim, "taker": taker, "taken in": len(seen), **told, "worst": worst_of}
+        row = {
+            "object": name,
+            "offset": offset,
+            "victim": victim,
+            "taker": taker,
+            "taken in": len(seen),
+            **told,
+            "worst": worst_of,
+        }
         found.setdefault((group, layout), []).append(row)
     return {key: sorted(own, key=pair_weight) for key, own in sorted(found.items())}
 
@@ -186,7 +258,9 @@ def pair_weight(row: Record) -> tuple[int, str, int, str, str]:
 def line_names(part: Part) -> Iterator[tuple[Under, Key, Party]]:
     """The object of each line that a report lists or that has misses."""
     for (group, layout, kind, key), (names, _) in part.lines.items():
-        yield (group, layout, kind), key, own_name(key, sorted(names, key=lambda it: (-names[it], it)))
+        yield (group, layout, kind), key, own_name(
+            key, sorted(names, key=lambda it: (-names[it], it))
+        )
 
 
 class Family:
@@ -211,7 +285,9 @@ def own_name(key: Key, ranked: Sequence[Party]) -> Party:
     """The object that a line is told under: that of its key where blocks alone are there, and else the one that most accesses went to."""
     if isinstance(key, InBlock):
         which = f"block {key.order} of " if key.order else "block of "
-        return next((it for it in ranked if it[0].startswith(which) and it[1] == key.offset), ranked[0])
+        return next(
+            (it for it in ranked if it[0].startswith(which) and it[1] == key.offset), ranked[0]
+        )
     return ranked[0]
 
 
@@ -238,46 +314,91 @@ def settings_of(group: Record) -> str:
 def cells(campaign: Record, key: Under, row: Record, seeds: Mapping[int, int]) -> list[Any]:
     group = campaign["groups"][key[0]]
     own = [row["offset"]] if "offset" in row else [row["lines"]]
-    told = [seeds[key[0]], row["listed"], *row["count"], row["missed"], *row["useless"], row["worst"]]
+    told = [
+        seeds[key[0]],
+        row["listed"],
+        *row["count"],
+        row["missed"],
+        *row["useless"],
+        row["worst"],
+    ]
     return [group["program"], settings_of(group), *key[1], key[2], row["object"], *own, *told] + (
         [", ".join(row["beside"])] if "beside" in row else []
     )
 
 
-def pair_cells(campaign: Record, key: tuple[int, Layout], row: Record, seeds: Mapping[int, int]) -> list[Any]:
+def pair_cells(
+    campaign: Record, key: tuple[int, Layout], row: Record, seeds: Mapping[int, int]
+) -> list[Any]:
     group = campaign["groups"][key[0]]
-    head = [group["program"], settings_of(group), *key[1], row["object"], row["offset"], row["victim"], row["taker"]]
+    head = [
+        group["program"],
+        settings_of(group),
+        *key[1],
+        row["object"],
+        row["offset"],
+        row["victim"],
+        row["taker"],
+    ]
     return [*head, seeds[key[0]], row["taken in"], *row["taken"], *row["same"], row["worst"]]
 
 
 def record_of(campaign: Record, at: int, seed: int) -> Record:
     group = campaign["groups"][at]
     program = campaign["programs"][group["program"]]
-    return {"program": program, "schedule": program["schedule"], "settings": group["settings"], "seed": seed}
+    return {
+        "program": program,
+        "schedule": program["schedule"],
+        "settings": group["settings"],
+        "seed": seed,
+    }
 
 
 def with_names(row: Record) -> Record:
-    return {key: dict(zip(("least", "middle", "greatest"), it)) if key in TRIPLES else it for key, it in row.items()}
+    return {
+        key: dict(zip(("least", "middle", "greatest"), it)) if key in TRIPLES else it
+        for key, it in row.items()
+    }
 
 
-def json_of_group(campaign: Record, part: Part, at: int, lines: Rows, objects: Rows, pairs: Pairs) -> Record:
+def json_of_group(
+    campaign: Record, part: Part, at: int, lines: Rows, objects: Rows, pairs: Pairs
+) -> Record:
     group, runs = campaign["groups"][at], [it for it in part.runs if it[0] == at]
     outcomes: dict[str, list[int]] = {}
     for it in sorted(runs, key=lambda it: it[1]):
         outcomes.setdefault(it[2], []).append(it[1])
     layouts = []
     for key in ordered(it for it in lines if it[0] == at):
-        own = [{**with_names(it), "again": command_of(record_of(campaign, at, it["worst"]))} for it in lines[key]]
+        own = [
+            {**with_names(it), "again": command_of(record_of(campaign, at, it["worst"]))}
+            for it in lines[key]
+        ]
         things = [with_names(it) for it in objects[key]]
-        layouts.append({"size": key[1][0], "shift": key[1][1], "kind": key[2], "objects": things, "lines": own})
-    found = {"program": group["program"], "settings": group["settings"], "seeds": len(runs), "layouts": layouts}
+        layouts.append(
+            {"size": key[1][0], "shift": key[1][1], "kind": key[2], "objects": things, "lines": own}
+        )
+    found = {
+        "program": group["program"],
+        "settings": group["settings"],
+        "seeds": len(runs),
+        "layouts": layouts,
+    }
     found["outcomes"] = [
-        {"outcome": it, "seeds": len(own), "first": own[0]} for it, own in sorted(outcomes.items(), key=lambda it: -len(it[1]))
+        {"outcome": it, "seeds": len(own), "first": own[0]}
+        for it, own in sorted(outcomes.items(), key=lambda it: -len(it[1]))
     ]
     blamed = ((layout, own) for (of, layout), own in pairs.items() if of == at)
-    found["blame"] = [{"size": layout[0], "shift": layout[1], "pairs": [with_names(it) for it in own]} for layout, own in blamed]
-    found["sweeps"] = [sweep_of(call, own) for (of, call), own in sorted(part.sweeps.items()) if of == at]
-    found["caches"] = [caches_of(call, own) for (of, call), own in sorted(part.caches.items()) if of == at]
+    found["blame"] = [
+        {"size": layout[0], "shift": layout[1], "pairs": [with_names(it) for it in own]}
+        for layout, own in blamed
+    ]
+    found["sweeps"] = [
+        sweep_of(call, own) for (of, call), own in sorted(part.sweeps.items()) if of == at
+    ]
+    found["caches"] = [
+        caches_of(call, own) for (of, call), own in sorted(part.caches.items()) if of == at
+    ]
     return found
 
 
@@ -289,12 +410,21 @@ def sweep_of(call: str, own: Sequence[tuple[int, dict[int, int], int]]) -> Recor
     """Of each shift the totals over the seeds, and in how many seeds it has the least one."""
     told: list[Record] = []
     for it in own[0][1]:
-        told.append({"shift": it, **triple(found[it] for _, found, _ in own), "best": sum(least == it for _, _, least in own)})
+        told.append(
+            {
+                "shift": it,
+                **triple(found[it] for _, found, _ in own),
+                "best": sum(least == it for _, _, least in own),
+            }
+        )
     return {"size": int(call.split()[-1]), "seeds": len(own), "shifts": told}
 
 
 def caches_of(call: str, own: Sequence[tuple[int, ...]]) -> Record:
-    told = {it: triple(one[at] for one in own) for at, it in enumerate(("bounded", "unbounded", "evicted"), 1)}
+    told = {
+        it: triple(one[at] for one in own)
+        for at, it in enumerate(("bounded", "unbounded", "evicted"), 1)
+    }
     return {"shape": call.partition(" ")[2], "seeds": len(own), **told}
 
 
@@ -341,15 +471,46 @@ def write(campaign: Record) -> Record:
     lines, objects = rows_of(part)
     pairs = pair_rows(part)
     seeds = Counter(it[0] for it in part.runs)
-    head = {"format": "predator campaign table 1", "predator": campaign["predator"], "programs": campaign["programs"]}
-    groups = [json_of_group(campaign, part, at, lines, objects, pairs) for at in range(len(campaign["groups"]))]
-    whole = {**head, "runs": len(part.runs), "failed": part.failed, "missing": missing, "groups": groups}
+    head = {
+        "format": "predator campaign table 1",
+        "predator": campaign["predator"],
+        "programs": campaign["programs"],
+    }
+    groups = [
+        json_of_group(campaign, part, at, lines, objects, pairs)
+        for at in range(len(campaign["groups"]))
+    ]
+    whole = {
+        **head,
+        "runs": len(part.runs),
+        "failed": part.failed,
+        "missing": missing,
+        "groups": groups,
+    }
     runs = sorted(part.runs, key=lambda it: it[:2])
     told = {
-        "table.tsv": tsv(LINES, (cells(campaign, key, it, seeds) for key in ordered(lines) for it in lines[key])),
-        "objects.tsv": tsv(OBJECTS, (cells(campaign, key, it, seeds) for key in ordered(objects) for it in objects[key])),
-        "pairs.tsv": tsv(PAIRS, (pair_cells(campaign, key, it, seeds) for key, own in pairs.items() for it in own)),
-        "runs.tsv": tsv(RUNS, ((campaign["groups"][it[0]]["program"], settings_of(campaign["groups"][it[0]]), *it[1:]) for it in runs)),
+        "table.tsv": tsv(
+            LINES, (cells(campaign, key, it, seeds) for key in ordered(lines) for it in lines[key])
+        ),
+        "objects.tsv": tsv(
+            OBJECTS,
+            (cells(campaign, key, it, seeds) for key in ordered(objects) for it in objects[key]),
+        ),
+        "pairs.tsv": tsv(
+            PAIRS,
+            (pair_cells(campaign, key, it, seeds) for key, own in pairs.items() for it in own),
+        ),
+        "runs.tsv": tsv(
+            RUNS,
+            (
+                (
+                    campaign["groups"][it[0]]["program"],
+                    settings_of(campaign["groups"][it[0]]),
+                    *it[1:],
+                )
+                for it in runs
+            ),
+        ),
         "table.json": json.dumps(whole, indent=1) + "\n",
     }
     for name, text in told.items():

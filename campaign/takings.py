@@ -4,7 +4,10 @@ import re
 from typing import NamedTuple
 
 LAYOUT = re.compile(r"^layout (\d+) (\d+)$", re.MULTILINE)
-ROW = re.compile(r"^line (-?0x[0-9a-f]+) |^pair (0x[0-9a-f]+) (0x[0-9a-f]+) taken (\d+) same (\d+)$", re.MULTILINE)
+ROW = re.compile(
+    r"^line (-?0x[0-9a-f]+) |^pair (0x[0-9a-f]+) (0x[0-9a-f]+) taken (\d+) same (\d+)$",
+    re.MULTILINE,
+)
 
 
 class Pair(NamedTuple):

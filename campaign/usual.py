@@ -23,8 +23,28 @@ sys.path[:0] = [HERE, os.path.join(HERE, "..", "view")]
 from folder import Record, campaign_of  # noqa: E402
 from table import Part, family, middle, own_name, read, settings_of  # noqa: E402
 
-HEADS = ("program", "settings", "seeds", "usual", "in every seed", "in fewer than half", "others", "in half or more", "in a tenth or fewer")
-APART = ("program", "settings", "object", "usual count", "seeds", "least", "middle", "greatest", "worst seed")
+HEADS = (
+    "program",
+    "settings",
+    "seeds",
+    "usual",
+    "in every seed",
+    "in fewer than half",
+    "others",
+    "in half or more",
+    "in a tenth or fewer",
+)
+APART = (
+    "program",
+    "settings",
+    "object",
+    "usual count",
+    "seeds",
+    "least",
+    "middle",
+    "greatest",
+    "worst seed",
+)
 
 
 # Of each object its counts by their seeds.
@@ -39,7 +59,9 @@ def listed(part: Part, groups: Iterable[int], by_lines: bool) -> dict[int, Objec
         counts = {seed: count for seed, count, _ in seen if count is not None}
         if kind == "observed" and counts:
             name, offset = own_name(key, sorted(names, key=lambda it: (-names[it], it)))
-            own = found[group].setdefault(f"{name} {offset:+}" if by_lines else family(name), Counter())
+            own = found[group].setdefault(
+                f"{name} {offset:+}" if by_lines else family(name), Counter()
+            )
             for seed, count in counts.items():
                 own[seed] = max(own[seed], count)
     return found
@@ -53,7 +75,13 @@ def told(name: str, counts: Mapping[int, int]) -> Row:
     """An object's count in the usual schedule, in how many seeds it is listed, its counts there, and the seed of the greatest."""
     seeds = drawn_of(counts)
     worst = max(seeds, key=lambda it: (seeds[it], -it)) if seeds else "-"
-    return name, counts.get(0, "-"), len(seeds), *("-" if it is None else it for it in middle(seeds.values())), worst
+    return (
+        name,
+        counts.get(0, "-"),
+        len(seeds),
+        *("-" if it is None else it for it in middle(seeds.values())),
+        worst,
+    )
 
 
 def worst(objects: Objects) -> str:
@@ -63,10 +91,16 @@ def worst(objects: Objects) -> str:
 
 def apart(objects: Objects, drawn: int) -> list[str]:
     """The objects that the usual schedule lists and fewer than a half of the seeds do, and those that seeds alone list."""
-    return [name for name, counts in sorted(objects.items()) if 0 not in counts or 2 * (len(counts) - 1) < drawn]
+    return [
+        name
+        for name, counts in sorted(objects.items())
+        if 0 not in counts or 2 * (len(counts) - 1) < drawn
+    ]
 
 
-def found_in(campaign: Record, part: Part, by_lines: bool) -> tuple[list[Row], list[Row], list[Row]]:
+def found_in(
+    campaign: Record, part: Part, by_lines: bool
+) -> tuple[list[Row], list[Row], list[Row]]:
     """The rows of the numbers, of the worst objects, and of those that set the schedules apart, each behind its program and settings."""
     runs = Counter(it[0] for it in part.runs)
     numbers: list[Row] = []
@@ -78,7 +112,11 @@ def found_in(campaign: Record, part: Part, by_lines: bool) -> tuple[list[Row], l
         usual = [len(counts) - 1 for counts in objects.values() if 0 in counts]
         others = [len(counts) for counts in objects.values() if 0 not in counts]
         row = [len(usual), sum(it == drawn for it in usual), sum(2 * it < drawn for it in usual)]
-        row += [len(others), sum(2 * it >= drawn for it in others), sum(10 * it <= drawn for it in others)]
+        row += [
+            len(others),
+            sum(2 * it >= drawn for it in others),
+            sum(10 * it <= drawn for it in others),
+        ]
         numbers.append((*head, drawn, *row))
         first += [(*head, *told(it, objects[it])) for it in ([worst(objects)] if objects else [])]
         rows += [(*head, *told(it, objects[it])) for it in apart(objects, drawn)]
@@ -114,7 +152,17 @@ def renew_page(campaign: Record, part: Part) -> None:
         "in a tenth or fewer",
     ]
     parts = {"usual": report.table(heads, folded(map(of_quantum, numbers)))}
-    heads = ["Program", "`quantum`", "Object", "Usual count", "Seeds", "least", "middle", "greatest", "Seed of the greatest"]
+    heads = [
+        "Program",
+        "`quantum`",
+        "Object",
+        "Usual count",
+        "Seeds",
+        "least",
+        "middle",
+        "greatest",
+        "Seed of the greatest",
+    ]
     for name, found in (("worst", first), ("apart", rows)):
         named = [(*it[:2], f"`{it[2]}`", *it[3:]) for it in map(of_quantum, found)]
         parts[name] = report.table(heads, named)
@@ -122,7 +170,11 @@ def renew_page(campaign: Record, part: Part) -> None:
 
 
 def main(words: list[str]) -> int:
-    by_lines, is_page, names = "--lines" in words, "--renew" in words, [it for it in words if it not in ("--lines", "--renew")]
+    by_lines, is_page, names = (
+        "--lines" in words,
+        "--renew" in words,
+        [it for it in words if it not in ("--lines", "--renew")],
+    )
     if len(names) != 1 or names[0].startswith("-"):
         print(__doc__)
         return 0 if names in (["-h"], ["--help"]) else 1

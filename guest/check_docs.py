@@ -30,7 +30,13 @@ MANUAL = "docs/predator.1"
 
 
 def run(command, work):
-    ran = subprocess.run(["bash", "-c", command], cwd=work, stdout=subprocess.PIPE, stderr=subprocess.STDOUT, text=True)
+    ran = subprocess.run(
+        ["bash", "-c", command],
+        cwd=work,
+        stdout=subprocess.PIPE,
+        stderr=subprocess.STDOUT,
+        text=True,
+    )
     return ran.stdout.rstrip("\n").split("\n") if ran.stdout else []
 
 
@@ -39,7 +45,10 @@ def is_there(tool):
     if tool != "view":
         return shutil.which(tool) is not None
     wants = ["/usr/bin/python3", "-c", "import elftools, jinja2"]
-    return shutil.which("llvm-symbolizer") is not None and subprocess.run(wants, stderr=subprocess.DEVNULL).returncode == 0
+    return (
+        shutil.which("llvm-symbolizer") is not None
+        and subprocess.run(wants, stderr=subprocess.DEVNULL).returncode == 0
+    )
 
 
 def check(name, renew):
@@ -56,7 +65,11 @@ def check(name, renew):
             if not line.startswith(f"{BLOCK}$ "):
                 continue
             command, wanted = line[len(BLOCK) + 2 :], []
-            while at < len(lines) and lines[at].startswith(BLOCK) and not lines[at].startswith(f"{BLOCK}$ "):
+            while (
+                at < len(lines)
+                and lines[at].startswith(BLOCK)
+                and not lines[at].startswith(f"{BLOCK}$ ")
+            ):
                 wanted.append(lines[at][len(BLOCK) :])
                 at += 1
             lacks = [it for it in re.findall(r"# \[(\w[\w-]*)\]", command) if not is_there(it)]
@@ -105,7 +118,10 @@ def main(words):
     names = [it for it in words if not it.startswith("--")]
     renew = "--renew" in words
     wrong = 0 if names else check_manual(renew)
-    wrong += sum(check(it, renew) for it in names or [it for it in FILES if os.path.exists(os.path.join(TOP, it))])
+    wrong += sum(
+        check(it, renew)
+        for it in names or [it for it in FILES if os.path.exists(os.path.join(TOP, it))]
+    )
     return 1 if wrong else 0
 
 

@@ -18,7 +18,9 @@ sys.path.insert(0, os.path.join(TOP, "tools"))
 from commands import call as call_of, known  # noqa: E402
 from traces import with_pcs  # noqa: E402
 
-PROGRAM = os.path.abspath(os.environ.get("PREDATOR_PROGRAM") or os.path.join(TOP, "crates/predator/out/predator"))
+PROGRAM = os.path.abspath(
+    os.environ.get("PREDATOR_PROGRAM") or os.path.join(TOP, "crates/predator/out/predator")
+)
 DATA = os.path.join(TOP, "crates/worked_runs/data")
 LINE = b"predator: no memory\n"
 
@@ -99,7 +101,11 @@ REFUSED = [
 ]
 NAMES = {"PROGRAM": "symbols.elf", "TRACE": "given.trace", "TABLE": "table"}
 OWN_NAMES = {words[0] for words in OWN}
-CALLS = OWN + REFUSED + [tuple(call_of(it, **NAMES)) for it in known()["command"] if it["name"] not in OWN_NAMES]
+CALLS = (
+    OWN
+    + REFUSED
+    + [tuple(call_of(it, **NAMES)) for it in known()["command"] if it["name"] not in OWN_NAMES]
+)
 WRITTEN = ("t", "o", "f", "a", "b")
 
 
@@ -115,7 +121,12 @@ def files():
 
 def call(words, refused):
     """How the call ends, what it prints and writes, and how many allocations it made."""
-    chosen = dict(os.environ, LD_PRELOAD=os.path.abspath("shim.so"), REFUSED=str(refused), TOLD=os.path.abspath("told"))
+    chosen = dict(
+        os.environ,
+        LD_PRELOAD=os.path.abspath("shim.so"),
+        REFUSED=str(refused),
+        TOLD=os.path.abspath("told"),
+    )
     told = subprocess.run([PROGRAM, *words], env=chosen, capture_output=True)
     with open("told") as made:
         return told.returncode, told.stdout, files(), int(made.read())
@@ -150,7 +161,9 @@ def try_call(words):
             ended += 1
         else:
             went_on += 1
-    print(f"{' '.join(words)}: status {good[0]}, {good[3]} allocations; refused, {ended} ended with 9 and {went_on} went on")
+    print(
+        f"{' '.join(words)}: status {good[0]}, {good[3]} allocations; refused, {ended} ended with 9 and {went_on} went on"
+    )
     return wrong
 
 
@@ -168,13 +181,20 @@ def main():
                 out.write(line)
         with open("shim.c", "w") as out:
             out.write(SHIM)
-        subprocess.run(["cc", "-shared", "-fPIC", "-O1", "-o", "shim.so", "shim.c", "-ldl"], check=True)
-        for words in (("gen", "200", "given.trace"), ("run", "words.elf", "--trace", "objects.trace")):
+        subprocess.run(
+            ["cc", "-shared", "-fPIC", "-O1", "-o", "shim.so", "shim.c", "-ldl"], check=True
+        )
+        for words in (
+            ("gen", "200", "given.trace"),
+            ("run", "words.elf", "--trace", "objects.trace"),
+        ):
             subprocess.run([PROGRAM, *words], check=True, stdout=subprocess.DEVNULL)
         with open("given.trace", "rb") as given, open("sited.trace", "wb") as out:
             # (so many instructions that lines of many pairs are there)
             trace = given.read()
-            out.write(with_pcs(trace, lambda it, before: 0x10000 + 4 * (it.hart + it.addr // 4 % 8)))
+            out.write(
+                with_pcs(trace, lambda it, before: 0x10000 + 4 * (it.hart + it.addr // 4 % 8))
+            )
         with open("cut.trace", "wb") as out:
             out.write(trace[:-30])
         sys.exit(1 if sum(try_call(words) for words in CALLS) else 0)
@@ -184,5 +204,7 @@ if len(sys.argv) > 1:
     print(__doc__)
     sys.exit(0 if sys.argv[1] in ("--help", "-h") else 1)
 if not os.access(PROGRAM, os.X_OK):
-    sys.exit("refuse_memory.py: build the program first: bin/predator replay examples/counters.trace")
+    sys.exit(
+        "refuse_memory.py: build the program first: bin/predator replay examples/counters.trace"
+    )
 main()

@@ -36,15 +36,20 @@ def room_of(data):
     segment_size, segments, section_size, sections = struct.unpack_from("<HHHH", data, 42)
     if segment_size < 32 or sections and section_size < 40:
         raise Strange
-    sections = [struct.unpack_from("<10I", it) for it in table(data, sections_at, section_size, sections)]
+    sections = [
+        struct.unpack_from("<10I", it) for it in table(data, sections_at, section_size, sections)
+    ]
     for _, kind, _, _, at, size, link, _, _, _ in sections:
         if kind != SYMBOLS or link >= len(sections):
             continue
         names = data[sections[link][4] : sections[link][4] + sections[link][5]]
-        for name, addr, length, info, _, _ in (struct.unpack("<IIIBBH", it) for it in table(data, at, 16, size // 16)):
+        for name, addr, length, info, _, _ in (
+            struct.unpack("<IIIBBH", it) for it in table(data, at, 16, size // 16)
+        ):
             if info & 15 == OBJECT and length == ROOM and names[name:].startswith(NAME + b"\0"):
                 for kind, begin, base, _, filled, *_ in (
-                    struct.unpack_from("<8I", it) for it in table(data, segments_at, segment_size, segments)
+                    struct.unpack_from("<8I", it)
+                    for it in table(data, segments_at, segment_size, segments)
                 ):
                     if kind == LOADED and base <= addr and addr + ROOM <= base + filled:
                         return addr, begin + addr - base

@@ -22,8 +22,16 @@ def memcached(key, value):
 
 
 def redis(key, value):
-    yield b"*3\r\n$3\r\nSET\r\n$%d\r\n%s\r\n$%d\r\n%s\r\n" % (len(key), key, len(value), value), b"+OK\r\n"
-    yield b"*2\r\n$3\r\nGET\r\n$%d\r\n%s\r\n" % (len(key), key), b"$%d\r\n%s\r\n" % (len(value), value)
+    yield b"*3\r\n$3\r\nSET\r\n$%d\r\n%s\r\n$%d\r\n%s\r\n" % (
+        len(key),
+        key,
+        len(value),
+        value,
+    ), b"+OK\r\n"
+    yield b"*2\r\n$3\r\nGET\r\n$%d\r\n%s\r\n" % (len(key), key), b"$%d\r\n%s\r\n" % (
+        len(value),
+        value,
+    )
 
 
 def http(key, value):
@@ -33,7 +41,13 @@ def http(key, value):
 def dns(key, value):
     question = b"".join(bytes([len(it)]) + it for it in (key, b"here")) + b"\0\0\1\0\1"
     asked = b"\x12\x34\1\0\0\1\0\0\0\0\0\0" + question
-    told = b"\x12\x34\x85\x80\0\1\0\1\0\0\0\0" + question + b"\xc0\x0c\0\1\0\1" + (3600).to_bytes(4, "big") + b"\0\4\x0a\0\0\1"
+    told = (
+        b"\x12\x34\x85\x80\0\1\0\1\0\0\0\0"
+        + question
+        + b"\xc0\x0c\0\1\0\1"
+        + (3600).to_bytes(4, "big")
+        + b"\0\4\x0a\0\0\1"
+    )
     yield len(asked).to_bytes(2, "big") + asked, len(told).to_bytes(2, "big") + told
 
 
@@ -86,8 +100,17 @@ def in_step(clients, asked):
 def main(words, options):
     kind, port, count, times = KINDS[words[0]], *map(int, words[1:])
     until = time.monotonic() + 60
-    keys = [[b"key-%d-%d" % (it, turn) if "--anew" in options else b"key-%d" % it for turn in range(times)] for it in range(count)]
-    asked = [[it for turn, key in enumerate(own) for it in kind(key, bytes([97 + turn % 26]) * 100)] for own in keys]
+    keys = [
+        [
+            b"key-%d-%d" % (it, turn) if "--anew" in options else b"key-%d" % it
+            for turn in range(times)
+        ]
+        for it in range(count)
+    ]
+    asked = [
+        [it for turn, key in enumerate(own) for it in kind(key, bytes([97 + turn % 26]) * 100)]
+        for own in keys
+    ]
     with ThreadPoolExecutor(count) as pool:
         if "--again" in options:
             list(pool.map(again, [port] * count, [until] * count, asked))

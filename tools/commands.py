@@ -24,7 +24,11 @@ WIDTH = 137
 NUMBERS = "crates/command_files/specs/Numbers.antt"
 USAGE = "crates/worked_runs/data/usage.txt"
 # The pages of help of what the launcher answers itself.
-PAGES = {"view": "view/calls.py", "campaign": "campaign/main.py", "native": "native/predator-native"}
+PAGES = {
+    "view": "view/calls.py",
+    "campaign": "campaign/main.py",
+    "native": "native/predator-native",
+}
 # Crates that repeat lines of usage, to test them.
 COPIES = ("_tests",)
 LAUNCHER = ("--help", "--version", "--prove")
@@ -52,7 +56,9 @@ def plain(text: str) -> str:
 
 def options_of(command: Row) -> list[str]:
     """The options of a command, with `--set` beside `--settings`, which the line of usage leaves out."""
-    return re.findall(r"--[a-z]+", command["usage"].replace("[--settings F]", "[--settings F] [--set]"))
+    return re.findall(
+        r"--[a-z]+", command["usage"].replace("[--settings F]", "[--settings F] [--set]")
+    )
 
 
 def names_of(command: Row) -> list[str]:
@@ -79,15 +85,24 @@ def help_parts(table: dict[str, list[Row]]) -> dict[str, str]:
     return {
         "Usage": usage + f"  predator {' | '.join(LAUNCHER)}\n",
         "Commands": "".join(column(9, it["name"], plain(it["does"])) for it in table["command"]),
-        "Beside the program": "".join(column(9, it["name"], plain(it["does"])) for it in table["beside"]),
-        "Options": "".join(column(15, f"{it['name']} {it.get('value', '')}".strip(), plain(it["does"])) for it in table["option"]),
-        "Exit status": "".join(column(5, str(it["number"]), plain(it["comes"])) for it in table["status"]),
+        "Beside the program": "".join(
+            column(9, it["name"], plain(it["does"])) for it in table["beside"]
+        ),
+        "Options": "".join(
+            column(15, f"{it['name']} {it.get('value', '')}".strip(), plain(it["does"]))
+            for it in table["option"]
+        ),
+        "Exit status": "".join(
+            column(5, str(it["number"]), plain(it["comes"])) for it in table["status"]
+        ),
     }
 
 
 def renew_help(text: str, table: dict[str, list[Row]]) -> str:
     for title, part in help_parts(table).items():
-        text = re.sub(rf"(?<=^{title}:\n)(?:  .*\n)+", part.replace("\\", r"\\"), text, flags=re.MULTILINE)
+        text = re.sub(
+            rf"(?<=^{title}:\n)(?:  .*\n)+", part.replace("\\", r"\\"), text, flags=re.MULTILINE
+        )
     return text
 
 
@@ -109,7 +124,9 @@ def sentence(row: Row) -> str:
 
 def synopsis(command: Row) -> str:
     found = [f".B predator {command['name']}"]
-    for word in re.findall(r"\[--[a-z]+(?: [A-Z]+)?\]|--[a-z]+ [A-Z]+|[A-Z ]+[A-Z](?![a-z])|[A-Z]", command["usage"]):
+    for word in re.findall(
+        r"\[--[a-z]+(?: [A-Z]+)?\]|--[a-z]+ [A-Z]+|[A-Z ]+[A-Z](?![a-z])|[A-Z]", command["usage"]
+    ):
         name, _, value = word.strip("[] ").partition(" ")
         if word.startswith("[") and not value:
             found.append(".RB [ " + name.replace("-", "\\-") + " ]")
@@ -133,12 +150,21 @@ def manual_parts(table: dict[str, list[Row]]) -> dict[str, str]:
     own = [f".B predator {it['name']}\n" + roff(it["synopsis"]).rstrip() for it in table["beside"]]
     own.append(".B predator " + "\n|\n.B ".join(it.replace("-", "\\-") for it in LAUNCHER))
     options = (manual_option(it) for it in table["option"])
-    ends = ((it["number"], f"{it['comes'][0].upper()}{it['comes'][1:]}. It prints {it['printed']}.") for it in table["status"])
+    ends = (
+        (it["number"], f"{it['comes'][0].upper()}{it['comes'][1:]}. It prints {it['printed']}.")
+        for it in table["status"]
+    )
     statuses = (f".TP\n.B {number}\n" + roff(text) for number, text in ends)
-    keys = ",\n".join(f"`{it['key']}` ({it['is']}: {values(it)}, usually {it['usual']})" for it in table["setting"])
+    keys = ",\n".join(
+        f"`{it['key']}` ({it['is']}: {values(it)}, usually {it['usual']})"
+        for it in table["setting"]
+    )
     return {
         "synopsis": "\n.br\n".join([*map(synopsis, table["command"]), *own]) + "\n",
-        "commands": "".join(f".TP\n.B {it['name']}\n" + roff(sentence(it)) for it in [*table["command"], *table["beside"]]),
+        "commands": "".join(
+            f".TP\n.B {it['name']}\n" + roff(sentence(it))
+            for it in [*table["command"], *table["beside"]]
+        ),
         "options": "".join(options),
         "statuses": "".join(statuses),
         "settings": roff(keys + "."),
@@ -154,17 +180,28 @@ def values(setting: Row) -> str:
         *first, last = setting["only"]
         return ", ".join(map(str, first)) + f" or {last}"
     least = f"`{setting['least']}`" if isinstance(setting["least"], str) else setting["least"]
-    return f"{least} to {setting['greatest']}" + (f", a multiple of {setting['step']}" if "step" in setting else "")
+    return f"{least} to {setting['greatest']}" + (
+        f", a multiple of {setting['step']}" if "step" in setting else ""
+    )
 
 
 def format_parts(table: dict[str, list[Row]]) -> dict[str, str]:
     """The parts of docs/FORMATS.md, by the names of their marks."""
-    keys = [f"| `{it['key']}`{it.get('also', '')} | {values(it)} | {it['usual']}{it.get('usually', '')} |" for it in table["setting"]]
-    statuses = [f"| {it['number']} | {plain(it['comes'])} | {plain(it['printed'])} |" for it in table["status"]]
+    keys = [
+        f"| `{it['key']}`{it.get('also', '')} | {values(it)} | {it['usual']}{it.get('usually', '')} |"
+        for it in table["setting"]
+    ]
+    statuses = [
+        f"| {it['number']} | {plain(it['comes'])} | {plain(it['printed'])} |"
+        for it in table["status"]
+    ]
     return {
         "usage": "".join(f"    predator {it['name']} {it['usage']}\n" for it in table["command"]),
         "settings": "\n".join(["| Key | Values | Usual |", "|---|---|---|", *keys]) + "\n",
-        "statuses": "\n".join(["| Exit status | Comes where | Printed |", "|---|---|---|", *statuses]) + "\n",
+        "statuses": "\n".join(
+            ["| Exit status | Comes where | Printed |", "|---|---|---|", *statuses]
+        )
+        + "\n",
     }
 
 
@@ -173,7 +210,9 @@ def format_parts(table: dict[str, list[Row]]) -> dict[str, str]:
 
 def view_options(table: dict[str, list[Row]]) -> dict[str, list[str]]:
     """The options of view, by what it does with a file: for a report alone, and for a program or a trace beside those of its command."""
-    own, recorder = (next(it for it in table["beside"] if it["name"] == name) for name in ("view", "native"))
+    own, recorder = (
+        next(it for it in table["beside"] if it["name"] == name) for name in ("view", "native")
+    )
     of = {it["name"]: options_of(it) for it in table["command"]}
     layout = [it for it in of["replay"] if it not in ("--save", "--resume")]
     return {
@@ -189,10 +228,16 @@ def view_options(table: dict[str, list[Row]]) -> dict[str, list[str]]:
 def completion_parts(table: dict[str, list[Row]]) -> dict[str, str]:
     """The parts of the completion, by the names of their marks."""
     names = " ".join(it["name"] for it in [*table["command"], *table["beside"]])
-    options = {it["name"]: options_of(it) for it in table["command"]} | {it["name"]: it["options"] for it in table["beside"]}
+    options = {it["name"]: options_of(it) for it in table["command"]} | {
+        it["name"]: it["options"] for it in table["beside"]
+    }
     options |= view_options(table)
     arms = [f"        '{name}') options=\"{' '.join(own)}\" ;;" for name, own in options.items()]
-    complete = [f"        {it['name']}) known=\"{' '.join(map(str, it['values']))}\" ;;" for it in table["option"] if "values" in it]
+    complete = [
+        f"        {it['name']}) known=\"{' '.join(map(str, it['values']))}\" ;;"
+        for it in table["option"]
+        if "values" in it
+    ]
     complete += ["        --set) known= ;;"]
     return {
         "names": f'    local commands="{names}" own="{" ".join(LAUNCHER)}"\n',
@@ -203,7 +248,9 @@ def completion_parts(table: dict[str, list[Row]]) -> dict[str, str]:
 
 def launcher_parts(table: dict[str, list[Row]]) -> dict[str, str]:
     """What the launcher knows, by the names of its marks."""
-    counts = " ".join(f"[{it['name']}]={len(names_of(it))}" for it in table["command"] if it.get("main"))
+    counts = " ".join(
+        f"[{it['name']}]={len(names_of(it))}" for it in table["command"] if it.get("main")
+    )
     outputs = " ".join(it["name"] for it in table["option"] if it.get("writes"))
     readers = " ".join(it["name"] for it in table["command"] if "TRACE" in it.get("reads", ()))
     keys = " ".join(it["key"] for it in table["setting"])
@@ -215,14 +262,28 @@ def launcher_parts(table: dict[str, list[Row]]) -> dict[str, str]:
 
 def view_parts(table: dict[str, list[Row]]) -> dict[str, str]:
     """What view and campaign know, by the names of its marks."""
-    usual = ", ".join(f'"{it["key"]}": {it["usual"]}' for it in table["setting"] if isinstance(it["usual"], int))
-    run = {it for command in table["command"] if command["name"] == "run" for it in options_of(command)}
+    usual = ", ".join(
+        f'"{it["key"]}": {it["usual"]}' for it in table["setting"] if isinstance(it["usual"], int)
+    )
+    run = {
+        it for command in table["command"] if command["name"] == "run" for it in options_of(command)
+    }
     written = [it["name"] for it in table["option"] if it["name"] in run and it.get("writes")]
     bare = [it for it in flags(table) if it in run]
-    asked = [it["name"] for it in table["option"] if it["name"] in run and not it.get("writes") and it["name"] not in bare]
+    asked = [
+        it["name"]
+        for it in table["option"]
+        if it["name"] in run and not it.get("writes") and it["name"] not in bare
+    ]
     lines, keys = textwrap.wrap(usual, 130), ", ".join(quoted(it["key"]) for it in table["setting"])
-    shown = {it["name"]: options_of(it) for it in table["command"] if it["name"] in ("run", "replay", "sweep")}
-    own = "".join(f"    {quoted(name)}: [{', '.join(map(quoted, of))}],\n" for name, of in shown.items())
+    shown = {
+        it["name"]: options_of(it)
+        for it in table["command"]
+        if it["name"] in ("run", "replay", "sweep")
+    }
+    own = "".join(
+        f"    {quoted(name)}: [{', '.join(map(quoted, of))}],\n" for name, of in shown.items()
+    )
     return {
         "usual": "USUAL = {\n" + "\n".join(f"    {it}" for it in lines) + ",\n}\n",
         "keys": f"KEYS = ({keys})\n",
@@ -236,7 +297,9 @@ def quoted(text: str) -> str:
     return f'"{text}"'
 
 
-def marked(begin: str, end: str, parts: Callable[[dict[str, list[Row]]], dict[str, str]]) -> Callable[[str, dict[str, list[Row]]], str]:
+def marked(
+    begin: str, end: str, parts: Callable[[dict[str, list[Row]]], dict[str, str]]
+) -> Callable[[str, dict[str, list[Row]]], str]:
     """Writes parts between two lines each, the first of which has the part's name."""
 
     def renew(text: str, table: dict[str, list[Row]]) -> str:
@@ -273,7 +336,11 @@ def usage_of_crates() -> list[str]:
     found: list[str] = []
     for crate in sorted(os.listdir(os.path.join(TOP, "crates"))):
         folder = os.path.join(TOP, "crates", crate, "src")
-        for name in sorted(os.listdir(folder)) if os.path.isdir(folder) and not crate.endswith(COPIES) else ():
+        for name in (
+            sorted(os.listdir(folder))
+            if os.path.isdir(folder) and not crate.endswith(COPIES)
+            else ()
+        ):
             for text in re.findall(r'"(?:[^"\\]|\\.)*"', read(f"crates/{crate}/src/{name}")):
                 found += re.findall(r"usage: (predator [a-z]+ [^\\\"]+)", text)
     return found
@@ -291,7 +358,11 @@ def bounds(setting: Row, usual: dict[str, int]) -> Iterator[tuple[int, bool]]:
         for it in setting["only"]:
             yield from ((it - 1, False), (it, True), (it + 1, False))
         return
-    least, greatest, step = usual.get(setting["least"], setting["least"]), number(setting["greatest"]), setting.get("step", 1)
+    least, greatest, step = (
+        usual.get(setting["least"], setting["least"]),
+        number(setting["greatest"]),
+        setting.get("step", 1),
+    )
     yield from ((it, True) for it in (least, greatest))
     yield from ((it, False) for it in (least - step, greatest + step) if it >= 0)
     if step > 1:
@@ -303,7 +374,13 @@ def check_settings(program: str, table: dict[str, list[Row]]) -> Iterator[str]:
     usual = {it["key"]: it["usual"] for it in table["setting"]}
     for setting in table["setting"]:
         for value, is_allowed in bounds(setting, usual):
-            words = [program, "check", os.path.join(TOP, "guest/built/apart.elf"), "--set", f"{setting['key']}={value}"]
+            words = [
+                program,
+                "check",
+                os.path.join(TOP, "guest/built/apart.elf"),
+                "--set",
+                f"{setting['key']}={value}",
+            ]
             ran = subprocess.run(words, capture_output=True, text=True, stdin=subprocess.DEVNULL)
             if (ran.stdout != f"predator: settings OutOfRange {setting['key']}\n") != is_allowed:
                 yield f"commands.toml: the program {'refuses' if is_allowed else 'takes'} {setting['key']} = {value}"
@@ -314,9 +391,14 @@ def check_pages(table: dict[str, list[Row]]) -> Iterator[str]:
     for it in table["beside"]:
         # (each stands at the beginning of a line, or behind another one with a comma)
         option = r"(?:--[a-z-]+|-h)(?: [A-Z]+(?:=[A-Z]+)?| count)?"
-        rows = re.findall(rf"^(?:#  )? ((?: *{option},?)+)(?=  |$)", read(PAGES[it["name"]]), re.MULTILINE)
+        rows = re.findall(
+            rf"^(?:#  )? ((?: *{option},?)+)(?=  |$)", read(PAGES[it["name"]]), re.MULTILINE
+        )
         told = {name for row in rows for name in re.findall(r"--[a-z-]+", row)} - {"--help"}
-        for name in sorted(told ^ {*it["options"], *it.get("names", ()), *it.get("runs", ()), *it.get("caches", ())}):
+        for name in sorted(
+            told
+            ^ {*it["options"], *it.get("names", ()), *it.get("runs", ()), *it.get("caches", ())}
+        ):
             yield f"commands.toml and {PAGES[it['name']]} have other options: {name}"
 
 
@@ -343,7 +425,15 @@ def differences(table: dict[str, list[Row]], program: str | None) -> Iterator[st
 
 def call(command: Row, **others: str) -> list[str]:
     """A command's call, with the files of the tries, or others, in the place of its names."""
-    files = {"PROGRAM": "programs/counters.elf", "TRACE": "made", "TABLE": "table", "NAME": "counters", "A": "a", "B": "b", **others}
+    files = {
+        "PROGRAM": "programs/counters.elf",
+        "TRACE": "made",
+        "TABLE": "table",
+        "NAME": "counters",
+        "A": "a",
+        "B": "b",
+        **others,
+    }
     return [files.get(word, word) for word in command["call"]]
 
 
@@ -359,7 +449,11 @@ def calls(table: dict[str, list[Row]], kind: str) -> list[str]:
             found += [call(command, **{it: "IT"}) for it in command.get("writes", ())]
             found += [[*call(command), it, "IT"] for it in options_of(command) if it in written]
         else:
-            files = command.get("twice", ()) if kind == "twice" else [it for it in command.get("reads", ()) if it == kind]
+            files = (
+                command.get("twice", ())
+                if kind == "twice"
+                else [it for it in command.get("reads", ()) if it == kind]
+            )
             found += [call(command, **{it: "IT"}) for it in files]
     return [" ".join(it) for it in found]
 
@@ -380,12 +474,19 @@ def main(words: list[str]) -> int:
         return 0 if words == ["--help"] else 1
     launcher = os.path.join(TOP, "bin/predator")
     words = [launcher, "check", os.path.join(TOP, "guest/built/apart.elf")]
-    is_there = subprocess.run(words, capture_output=True, env={**os.environ, "PREDATOR_BUILD": "no"}).returncode == 0
+    is_there = (
+        subprocess.run(
+            words, capture_output=True, env={**os.environ, "PREDATOR_BUILD": "no"}
+        ).returncode
+        == 0
+    )
     program = launcher if is_there else None
     wrong = list(differences(table, program))
     print(*wrong, sep="\n", end="\n" if wrong else "")
     also = "" if program else ", and without the program's ranges, since it isn't built"
-    print(f"commands: {len(PLACES)} places and {len(table['command'])} commands, {len(wrong)} differences{also}")
+    print(
+        f"commands: {len(PLACES)} places and {len(table['command'])} commands, {len(wrong)} differences{also}"
+    )
     return 1 if wrong else 0
 
 

@@ -51,6 +51,7 @@ class Row(NamedTuple):
 
 # ---- Programs that go round until their budget is spent.
 
+
 def own_steps(code: Code) -> None:
     for _ in range(7):
         code.addi("t1", "t1", 1)
@@ -79,32 +80,72 @@ def going_round(body: Callable[[Code], None], harts: int) -> bytes:
 
 def run(body: Callable[[Code], None], harts: int, settings: str = "") -> Work:
     program = going_round(body, harts)
-    return Work(lambda _: program, lambda n: ["run", "IT", "--set", ",".join(filter(None, [settings, f"budget={n}"]))], 10)
+    return Work(
+        lambda _: program,
+        lambda n: ["run", "IT", "--set", ",".join(filter(None, [settings, f"budget={n}"]))],
+        10,
+    )
 
 
 # ---- Traces of one line.
 
+
 def replay(kinds: str, base: int, *words: str) -> Work:
     """Two harts in turn read and write words of a line of their own, as the letters say."""
-    touches = b"".join(struct.pack("<BHIB", 1 + "RW".index(kind), at % 2, base + 4 * (at % 2), 4) for at, kind in enumerate(kinds))
+    touches = b"".join(
+        struct.pack("<BHIB", 1 + "RW".index(kind), at % 2, base + 4 * (at % 2), 4)
+        for at, kind in enumerate(kinds)
+    )
 
     def made(n: int) -> bytes:
         count = n // len(kinds) * len(kinds)
-        return struct.pack("<8sQHH", b"PRDTRC01", 0, 8, 0) + touches * (n // len(kinds)) + struct.pack("<B8xQQ", 6, count, count)
+        return (
+            struct.pack("<8sQHH", b"PRDTRC01", 0, 8, 0)
+            + touches * (n // len(kinds))
+            + struct.pack("<B8xQQ", 6, count, count)
+        )
+
     return Work(made, lambda _: ["replay", "IT", *words], 0)
 
 
 ROWS = [
     Row("a step of a hart that is alone", 55, run(own_steps, 1), run(own_steps, 8, "quantum=1")),
-    Row("a step of 8 harts with turns of 100", 55, run(own_steps, 8), run(own_steps, 8, "quantum=1")),
-    Row("a step of 8 harts with turns that are drawn", 60, run(own_steps, 8, "seed=5"), run(own_steps, 8, "seed=5,quantum=1")),
-    Row("a step of a loop with accesses", 135, run(with_accesses, 8), run(with_accesses, 8, "quantum=1")),
+    Row(
+        "a step of 8 harts with turns of 100", 55, run(own_steps, 8), run(own_steps, 8, "quantum=1")
+    ),
+    Row(
+        "a step of 8 harts with turns that are drawn",
+        60,
+        run(own_steps, 8, "seed=5"),
+        run(own_steps, 8, "seed=5,quantum=1"),
+    ),
+    Row(
+        "a step of a loop with accesses",
+        135,
+        run(with_accesses, 8),
+        run(with_accesses, 8, "quantum=1"),
+    ),
     Row("an access of replay that writes", 290, replay("WW", IN_PAGE), replay("WW", BEGINS_PAGE)),
-    Row("an access of replay that reads", 265, replay("WRRRRRRR", IN_PAGE), replay("WRRRRRRR", BEGINS_PAGE)),
-    Row("an access of replay under a layout", 300, replay("WW", IN_PAGE, "--size", "64"), replay("WW", BEGINS_PAGE, "--size", "64")),
+    Row(
+        "an access of replay that reads",
+        265,
+        replay("WRRRRRRR", IN_PAGE),
+        replay("WRRRRRRR", BEGINS_PAGE),
+    ),
+    Row(
+        "an access of replay under a layout",
+        300,
+        replay("WW", IN_PAGE, "--size", "64"),
+        replay("WW", BEGINS_PAGE, "--size", "64"),
+    ),
 ]
 # How many divisions an access may take at most, and what takes one for each write.
-DIVIDED = Row("an access of replay that writes", 0.1, replay("WW", IN_PAGE), replay("WW", IN_PAGE, "--set", "prediction=65"))
+DIVIDED = Row(
+    "an access of replay that writes",
+    0.1,
+    replay("WW", IN_PAGE),
+    replay("WW", IN_PAGE, "--set", "prediction=65"),
+)
 
 
 class Costs:
@@ -114,7 +155,9 @@ class Costs:
         self.program, self.folder, self.way = program, folder, way_of(None, program, folder)
         self.pool, self.made = ThreadPoolExecutor(self.way.at_a_time), 0
         if not self.way.form:
-            sys.exit("costs.py: neither perf nor valgrind counts instructions here: apt-get install valgrind")
+            sys.exit(
+                "costs.py: neither perf nor valgrind counts instructions here: apt-get install valgrind"
+            )
 
     def call(self, work: Work, n: int) -> tuple[Call, str]:
         self.made += 1
@@ -134,14 +177,26 @@ class Costs:
 
 @functools.cache
 def places_of_divisions(program: str) -> frozenset[int]:
-    listed = subprocess.run(["objdump", "-d", "--no-show-raw-insn", program], capture_output=True, text=True, check=True).stdout
-    return frozenset(int(it, 16) for it in re.findall(r"(?m)^ *([0-9a-f]+):\s+i?div[bwlq]?\s", listed))
+    listed = subprocess.run(
+        ["objdump", "-d", "--no-show-raw-insn", program], capture_output=True, text=True, check=True
+    ).stdout
+    return frozenset(
+        int(it, 16) for it in re.findall(r"(?m)^ *([0-9a-f]+):\s+i?div[bwlq]?\s", listed)
+    )
 
 
 def divided(program: str, call: Call, out: str) -> Cost:
     """How many divisions a call makes."""
-    words = ["valgrind", "--tool=callgrind", "--dump-instr=yes", "--compress-pos=no", f"--callgrind-out-file={out}"]
-    ran = subprocess.run([*words, program, *call.words], stdin=subprocess.DEVNULL, capture_output=True, check=False)
+    words = [
+        "valgrind",
+        "--tool=callgrind",
+        "--dump-instr=yes",
+        "--compress-pos=no",
+        f"--callgrind-out-file={out}",
+    ]
+    ran = subprocess.run(
+        [*words, program, *call.words], stdin=subprocess.DEVNULL, capture_output=True, check=False
+    )
     if ran.returncode != call.status:
         return Cost(None, f"it ended with {ran.returncode}, and not {call.status}")
     places = places_of_divisions(program)
@@ -172,12 +227,17 @@ def judged(row: Row, unit: str, usual: float | str, slow: float | str) -> bool:
     if usual <= row.most < slow:
         print(told)
         return True
-    print(f"FAILED: {told}{'' if usual > row.most else ': a program that went so everywhere would not be found'}")
+    print(
+        f"FAILED: {told}{'' if usual > row.most else ': a program that went so everywhere would not be found'}"
+    )
     return False
 
 
 def try_rows(costs: Costs) -> list[bool]:
-    asked = [(row, [costs.instructions(work, n) for work in (row.usual, row.slow) for n in (FEW, MANY)]) for row in ROWS]
+    asked = [
+        (row, [costs.instructions(work, n) for work in (row.usual, row.slow) for n in (FEW, MANY)])
+        for row in ROWS
+    ]
     found = []
     for row, counts in asked:
         one, two, three, four = (it.result() for it in counts)
@@ -189,7 +249,9 @@ def try_divisions(costs: Costs) -> list[bool]:
     if not shutil.which("valgrind") or not shutil.which("objdump"):
         print("skipped: divisions, which want valgrind and objdump")
         return []
-    counts = [costs.divisions(work, n) for work in (DIVIDED.usual, DIVIDED.slow) for n in (FEW, MANY)]
+    counts = [
+        costs.divisions(work, n) for work in (DIVIDED.usual, DIVIDED.slow) for n in (FEW, MANY)
+    ]
     one, two, three, four = (it.result() for it in counts)
     return [judged(DIVIDED, "divisions", each(one, two), each(three, four))]
 

@@ -31,8 +31,14 @@ def read(path):
 
 def documents():
     for folder, folders, files in os.walk(TOP):
-        folders[:] = [it for it in folders if it not in ("out", "fetched", ".git", "crates", "__pycache__")]
-        yield from (os.path.relpath(os.path.join(folder, it), TOP) for it in files if it.endswith((".md", ".1")))
+        folders[:] = [
+            it for it in folders if it not in ("out", "fetched", ".git", "crates", "__pycache__")
+        ]
+        yield from (
+            os.path.relpath(os.path.join(folder, it), TOP)
+            for it in files
+            if it.endswith((".md", ".1"))
+        )
 
 
 class Crate:
@@ -44,14 +50,26 @@ class Crate:
             for folder, _, files in os.walk(os.path.join(TOP, "crates", name, part)):
                 for it in files:
                     self.texts[part] += read(os.path.join(folder, it))
-        self.defined = set(re.findall(r"^ *(?:[a-z]+ )*([^\s:({]+)\s*[:({]", self.texts["specs"], re.MULTILINE))
-        self.defined |= set(re.findall(r"\b(?:fn|struct|enum|trait|const) (\w+)", self.texts["src"]))
-        self.clauses = set(re.findall(r"\b(?:ensures\*?|requires|ghost) (\w+)\s*[{=:]", self.texts["src"]))
+        self.defined = set(
+            re.findall(r"^ *(?:[a-z]+ )*([^\s:({]+)\s*[:({]", self.texts["specs"], re.MULTILINE)
+        )
+        self.defined |= set(
+            re.findall(r"\b(?:fn|struct|enum|trait|const) (\w+)", self.texts["src"])
+        )
+        self.clauses = set(
+            re.findall(r"\b(?:ensures\*?|requires|ghost) (\w+)\s*[{=:]", self.texts["src"])
+        )
 
     def has_item(self, name):
         kinds = r"fn|struct|enum|trait|const|static|type|mod"
         reexported = rf"pub use [^;]*\b{name}\b"
-        return bool(re.search(rf"\b(?:{kinds}) {name}\b|^\s+{name}\b\s*[,({{=]|{reexported}", self.texts["src"], re.MULTILINE))
+        return bool(
+            re.search(
+                rf"\b(?:{kinds}) {name}\b|^\s+{name}\b\s*[,({{=]|{reexported}",
+                self.texts["src"],
+                re.MULTILINE,
+            )
+        )
 
     def defines(self, name):
         return name in self.defined
@@ -67,17 +85,39 @@ def words_of_sources():
     """Every word of the files that aren't documents."""
     found = set()
     for folder, folders, files in os.walk(TOP):
-        folders[:] = [it for it in folders if it not in ("out", "fetched", ".git", "docs", "__pycache__")]
+        folders[:] = [
+            it for it in folders if it not in ("out", "fetched", ".git", "docs", "__pycache__")
+        ]
         for it in files:
             found.add(it)
-            if it.endswith((".rt", ".antt", ".sh", ".py", ".c", ".h", ".S", ".txt", ".bash", ".edit", ".case")) or "." not in it:
+            if (
+                it.endswith(
+                    (
+                        ".rt",
+                        ".antt",
+                        ".sh",
+                        ".py",
+                        ".c",
+                        ".h",
+                        ".S",
+                        ".txt",
+                        ".bash",
+                        ".edit",
+                        ".case",
+                    )
+                )
+                or "." not in it
+            ):
                 with open(os.path.join(folder, it), encoding="utf-8", errors="ignore") as file:
                     found.update(re.findall(r"[\w≢-]+", file.read()))
     return found
 
 
 def headings(text):
-    return {re.sub(r"[^\w\- ]", "", it.lower()).replace(" ", "-") for it in re.findall(r"^#+ (.*)$", text, re.MULTILINE)}
+    return {
+        re.sub(r"[^\w\- ]", "", it.lower()).replace(" ", "-")
+        for it in re.findall(r"^#+ (.*)$", text, re.MULTILINE)
+    }
 
 
 def links(name, line):
@@ -101,7 +141,9 @@ def relative(line, about):
 
 def quoted(text, crates):
     """The lines at which the quotes of a document begin that no source has, whatever its spaces and comments."""
-    sources = [" ".join(re.sub(r"(?m)^\s*//.*$", "", it.texts["src"]).split()) for it in crates.values()]
+    sources = [
+        " ".join(re.sub(r"(?m)^\s*//.*$", "", it.texts["src"]).split()) for it in crates.values()
+    ]
     begin, quote = 0, []
     for number, line in enumerate([*text.split("\n"), ""], 1):
         if line.startswith("    ") and line.strip() != "..":
@@ -115,7 +157,11 @@ def quoted(text, crates):
 
 def floors():
     """How many crates the longest chain has that ends with a crate, by crates.txt."""
-    below = {it.split(":")[0].split()[0]: it.split(":")[1].split() for it in read("crates.txt").split("\n") if re.match(r"[a-z]", it)}
+    below = {
+        it.split(":")[0].split()[0]: it.split(":")[1].split()
+        for it in read("crates.txt").split("\n")
+        if re.match(r"[a-z]", it)
+    }
 
     def floor(name):
         return 1 + max((floor(it) for it in below[name] if it in below), default=0)
@@ -124,7 +170,10 @@ def floors():
 
 
 def wrong_floors(text):
-    told = {name: int(floor) for floor, name in re.findall(r"^\| (\d) \| `(\w+)` \|", text, re.MULTILINE)}
+    told = {
+        name: int(floor)
+        for floor, name in re.findall(r"^\| (\d) \| `(\w+)` \|", text, re.MULTILINE)
+    }
     return [f"{name}: floor {floor}" for name, floor in floors().items() if told.get(name) != floor]
 
 
@@ -144,7 +193,9 @@ def of_promises(line, crates, before):
 
 def words_twice(page):
     """The words of the glossary that stand there more than once, each in bold type in the first cell of a row."""
-    rows = re.findall(r"(?m)^\| (\*\*.*?) \|", page.split("\n## Words\n", 1)[1].split("\n## ", 1)[0])
+    rows = re.findall(
+        r"(?m)^\| (\*\*.*?) \|", page.split("\n## Words\n", 1)[1].split("\n## ", 1)[0]
+    )
     words = [it for row in rows for it in re.findall(r"\*\*(.+?)\*\*", row)]
     return sorted({it for it in words if words.count(it) > 1})
 
@@ -158,13 +209,28 @@ def wrong_names(name, crates, everywhere):
         heading = named if line.startswith("#") else heading
         paragraph = named if line.startswith(("|", "- ")) or not line.strip() else paragraph + named
         found = [*links(name, line), *relative(line, paragraph or heading)]
-        paths = re.findall(r"(?<![\w/.])(?:crates/)?([a-z_0-9]+/(?:src|specs|proofs|must-fail|data)\b(?:/[\w./]*\w)?)", line)
+        paths = re.findall(
+            r"(?<![\w/.])(?:crates/)?([a-z_0-9]+/(?:src|specs|proofs|must-fail|data)\b(?:/[\w./]*\w)?)",
+            line,
+        )
         found += [it for it in paths if not has_path(it)]
-        found += [f"crates/{it}" for it in re.findall(r"\bcrates/([a-z_0-9]+)", line) if it not in crates and it != "NAME"]
+        found += [
+            f"crates/{it}"
+            for it in re.findall(r"\bcrates/([a-z_0-9]+)", line)
+            if it not in crates and it != "NAME"
+        ]
         items = re.findall(r"`([a-z_0-9]+)::(\w+)", line)
-        found += [f"{it}::{item}" for it, item in items if it not in crates or not crates[it].has_item(item)]
+        found += [
+            f"{it}::{item}"
+            for it, item in items
+            if it not in crates or not crates[it].has_item(item)
+        ]
         words = re.findall(r"`([A-Za-z][\w-]*)`", line)
-        found += [it for it in words if it not in everywhere and not it.endswith("_") and "STUDIES" not in name]
+        found += [
+            it
+            for it in words
+            if it not in everywhere and not it.endswith("_") and "STUDIES" not in name
+        ]
         if name == "docs/PROMISES.md" and columns.startswith("| Promise |"):
             more, about = of_promises(line, crates, about)
             found += more
@@ -175,16 +241,28 @@ def main(words):
     if "--help" in words or "-h" in words:
         print(__doc__)
         return 0
-    listed = [it.split(":")[0].split()[0] for it in read("crates.txt").split("\n") if re.match(r"[a-z]", it)]
+    listed = [
+        it.split(":")[0].split()[0]
+        for it in read("crates.txt").split("\n")
+        if re.match(r"[a-z]", it)
+    ]
     crates = {it: Crate(it) for it in listed}
     everywhere, wrong = words_of_sources(), []
     page = read("docs/ARCHITECTURE.md")
-    for it in [] if words else [*wrong_floors(page), *(f"{it}: twice in the glossary" for it in words_twice(page))]:
+    for it in (
+        []
+        if words
+        else [*wrong_floors(page), *(f"{it}: twice in the glossary" for it in words_twice(page))]
+    ):
         wrong.append(f"docs/ARCHITECTURE.md:1: {it}")
     for name in words or sorted(documents()):
         if name == "docs/PROMISES.md":
             wrong += [f"{name}:{number}: {line}" for number, line in quoted(read(name), crates)]
-        wrong += [f"{name}:{number}: {it}" for number, found in wrong_names(name, crates, everywhere) for it in found]
+        wrong += [
+            f"{name}:{number}: {it}"
+            for number, found in wrong_names(name, crates, everywhere)
+            for it in found
+        ]
     print("\n".join(wrong), end="\n" if wrong else "")
     return 1 if wrong else 0
 

@@ -65,11 +65,35 @@ class Way(NamedTuple):
 
 
 PROCESSORS = len(os.sched_getaffinity(0))
-CACHEGRIND = ("valgrind", "--tool=cachegrind", "--cache-sim=no", "--branch-sim=no", "--cachegrind-out-file=/dev/null", "--log-file=FILE")
+CACHEGRIND = (
+    "valgrind",
+    "--tool=cachegrind",
+    "--cache-sim=no",
+    "--branch-sim=no",
+    "--cachegrind-out-file=/dev/null",
+    "--log-file=FILE",
+)
 WAYS = {
-    "perf": Way("machine instructions, by perf", ("perf", "stat", "-x,", "-e", "instructions:u", "-o", "FILE", "--"),
-                r"(?m)^(\d+),", 1, PROCESSORS, 1, 1e5, "M"),
-    "valgrind": Way("machine instructions, by valgrind", CACHEGRIND, r"I\s+refs:\s+([\d,]+)", 1, PROCESSORS, 1, 1e5, "M"),
+    "perf": Way(
+        "machine instructions, by perf",
+        ("perf", "stat", "-x,", "-e", "instructions:u", "-o", "FILE", "--"),
+        r"(?m)^(\d+),",
+        1,
+        PROCESSORS,
+        1,
+        1e5,
+        "M",
+    ),
+    "valgrind": Way(
+        "machine instructions, by valgrind",
+        CACHEGRIND,
+        r"I\s+refs:\s+([\d,]+)",
+        1,
+        PROCESSORS,
+        1,
+        1e5,
+        "M",
+    ),
     "time": Way("processor time, the least of three calls", (), "", 3, 1, 4, 0.04, "s"),
 }
 
@@ -92,6 +116,7 @@ class Cost(NamedTuple):
 
 
 # ---- The calls of a trace. Each gets the place of the trace and what it is.
+
 
 def settings_of(made: Made) -> list[str]:
     return ["--set", ",".join(filter(None, [LISTED, made.settings]))]
@@ -126,7 +151,9 @@ def replay_resume(trace: str, made: Made) -> Call:
 
 
 def misses(trace: str, made: Made) -> Call:
-    return Call(["misses", trace], [(f"accesses {made.accesses}", 1)] if made.settings else listed(made))
+    return Call(
+        ["misses", trace], [(f"accesses {made.accesses}", 1)] if made.settings else listed(made)
+    )
 
 
 def blame(trace: str, made: Made) -> Call:
@@ -134,7 +161,15 @@ def blame(trace: str, made: Made) -> Call:
     numbers = itertools.count()
     with open(trace, "rb") as plain, open(f"{trace}.sited", "wb") as file:
         file.write(with_pcs(plain.read(), lambda it, before: CODE + 4 * (next(numbers) % made.pcs)))
-    told = [] if made.settings else [(f"lines {made.lines}", 1), ("line", made.lines), ("pair", -max(made.lines, made.pcs // 2))]
+    told = (
+        []
+        if made.settings
+        else [
+            (f"lines {made.lines}", 1),
+            ("line", made.lines),
+            ("pair", -max(made.lines, made.pcs // 2)),
+        ]
+    )
     return Call(["blame", f"{trace}.sited"], [(f"accesses {made.accesses}", 1), *told])
 
 
@@ -143,7 +178,10 @@ def sweep(trace: str, made: Made) -> Call:
 
 
 def caches(trace: str, made: Made) -> Call:
-    return Call(["caches", trace, "--size", "64", "--sets", "64", "--ways", "8"], [(f"accesses {made.accesses}", 1)])
+    return Call(
+        ["caches", trace, "--size", "64", "--sets", "64", "--ways", "8"],
+        [(f"accesses {made.accesses}", 1)],
+    )
 
 
 def place(trace: str, made: Made) -> Call:
@@ -155,7 +193,9 @@ def move(trace: str, made: Made) -> Call:
     count = min(made.lines, 1 << 15)
     places = range(count)[::-1] if made.is_turned else [*range(1, count), 0]
     with open(f"{trace}.table", "w", encoding="ascii") as file:
-        file.writelines(f"{LINES + LINE * at:#x} 4 {LINES + LINE * to:#x}\n" for at, to in enumerate(places))
+        file.writelines(
+            f"{LINES + LINE * at:#x} 4 {LINES + LINE * to:#x}\n" for at, to in enumerate(places)
+        )
     return Call(["move", trace, f"{trace}.table", f"{trace}.moved"], [(f"move {made.accesses}", 1)])
 
 
@@ -165,7 +205,10 @@ def convert(trace: str, made: Made) -> Call:
 
 def split(trace: str, made: Made) -> Call:
     half = made.accesses // 2
-    return Call(["split", trace, str(half), f"{trace}.first", f"{trace}.second"], [(f"split {half} {made.accesses - half}", 1)])
+    return Call(
+        ["split", trace, str(half), f"{trace}.first", f"{trace}.second"],
+        [(f"split {half} {made.accesses - half}", 1)],
+    )
 
 
 def generate(trace: str, made: Made) -> Call:
@@ -174,12 +217,24 @@ def generate(trace: str, made: Made) -> Call:
 
 
 OF_TRACES: dict[str, Callable[[str, Made], Call]] = {
-    "replay": replay, "replay--size": replay_words, "replay--save": replay_save, "replay--resume": replay_resume, "misses": misses,
-    "blame": blame, "sweep": sweep, "caches": caches, "place": place, "move": move, "convert": convert, "split": split, "gen": generate,
+    "replay": replay,
+    "replay--size": replay_words,
+    "replay--save": replay_save,
+    "replay--resume": replay_resume,
+    "misses": misses,
+    "blame": blame,
+    "sweep": sweep,
+    "caches": caches,
+    "place": place,
+    "move": move,
+    "convert": convert,
+    "split": split,
+    "gen": generate,
 }
 
 
 # ---- The calls of a guest.
+
 
 def options_of(program: str, guest: Guest) -> list[str]:
     words = ["--set", guest.settings] if guest.settings else []
@@ -226,15 +281,25 @@ def explain(program: str, guest: Guest) -> Call:
 
 def check(program: str, guest: Guest) -> Call:
     ended = [] if guest.status == 4 else [("entry 0x00010000", 1)]
-    return Call(["check", program, *options_of(program, guest)], [*ended, *guest.checked], 4 if guest.status == 4 else 0)
+    return Call(
+        ["check", program, *options_of(program, guest)],
+        [*ended, *guest.checked],
+        4 if guest.status == 4 else 0,
+    )
 
 
 OF_GUESTS: dict[str, Callable[[str, Guest], Call]] = {
-    "run": run, "run--trace": run_trace, "run--pcs": run_pcs, "run--output": run_output, "explain": explain, "check": check,
+    "run": run,
+    "run--trace": run_trace,
+    "run--pcs": run_pcs,
+    "run--output": run_output,
+    "explain": explain,
+    "check": check,
 }
 
 
 # ---- The cases.
+
 
 class Case:
     """What a call takes, of any size, in files of its own."""
@@ -272,6 +337,7 @@ class Case:
 
 # ---- What calls cost.
 
+
 def lacks(text: str, begins: list[tuple[str, int]]) -> str:
     """The first of the beginnings of lines of which there are more or fewer than there should be."""
     found = text.split("\n")
@@ -285,33 +351,53 @@ def lacks(text: str, begins: list[tuple[str, int]]) -> str:
 def spent(words: list[str], out: str) -> tuple[float, int | None]:
     """The processor time of a call and its status, none where it takes too long. What it prints goes to a file."""
     with open(out, "wb") as file:
-        child = subprocess.Popen(words, stdin=subprocess.DEVNULL, stdout=file, stderr=subprocess.DEVNULL)
+        child = subprocess.Popen(
+            words, stdin=subprocess.DEVNULL, stdout=file, stderr=subprocess.DEVNULL
+        )
     resource.prlimit(child.pid, resource.RLIMIT_CPU, (LONGEST, LONGEST))
     _, status, usage = os.wait4(child.pid, 0)
     child.returncode = os.waitstatus_to_exitcode(status)
-    return usage.ru_utime + usage.ru_stime, None if child.returncode in (-signal.SIGKILL, -signal.SIGXCPU) else child.returncode
+    return (
+        usage.ru_utime + usage.ru_stime,
+        None if child.returncode in (-signal.SIGKILL, -signal.SIGXCPU) else child.returncode,
+    )
 
 
 def once(way: Way, program: str, call: Call, out: str) -> Cost:
     """What a call costs, made once."""
-    cost, status = spent([*(it.replace("FILE", f"{out}.count") for it in way.words), program, *call.words], out)
+    cost, status = spent(
+        [*(it.replace("FILE", f"{out}.count") for it in way.words), program, *call.words], out
+    )
     if status is None:
         return Cost(None)
     with open(out, encoding="latin-1") as file:
         lack = lacks(file.read(), call.begins)
     if status != call.status or lack:
-        return Cost(None, lack if status == call.status else f"it ended with {status}, and not {call.status}")
+        return Cost(
+            None,
+            lack if status == call.status else f"it ended with {status}, and not {call.status}",
+        )
     if not way.form:
         return Cost(cost)
     with open(f"{out}.count", encoding="latin-1") as file:
         found = re.search(way.form, file.read())
-    return Cost(float(found[1].replace(",", ""))) if found else Cost(None, "its instructions weren't counted")
+    return (
+        Cost(float(found[1].replace(",", "")))
+        if found
+        else Cost(None, "its instructions weren't counted")
+    )
 
 
 def counted(way: Way, program: str, call: Call, out: str) -> Cost:
     """What a call costs, the least of as many as the way wants."""
     if call.before:
-        subprocess.run([program, *call.before], stdin=subprocess.DEVNULL, stdout=subprocess.DEVNULL, stderr=subprocess.DEVNULL, check=False)
+        subprocess.run(
+            [program, *call.before],
+            stdin=subprocess.DEVNULL,
+            stdout=subprocess.DEVNULL,
+            stderr=subprocess.DEVNULL,
+            check=False,
+        )
     costs = [once(way, program, call, out)]
     while costs[-1].cost is not None and len(costs) < way.calls:
         costs.append(once(way, program, call, out))
@@ -324,7 +410,11 @@ def way_of(name: str | None, program: str, folder: str) -> Way:
     """The way that is wanted, or the first one that works here."""
     for it in [name] if name else list(WAYS):
         way = WAYS[it]
-        if not way.words or shutil.which(way.words[0]) and not once(way, program, Call([], [], 1), os.path.join(folder, it)).fault:
+        if (
+            not way.words
+            or shutil.which(way.words[0])
+            and not once(way, program, Call([], [], 1), os.path.join(folder, it)).fault
+        ):
             return way
     sys.exit(f"growth.py: {name} can't be had here")
 
@@ -369,11 +459,15 @@ class Measures:
             make = made_traces.symbols_apart if command in OF_TRACES else made_guests.ends
             kind = TraceCase if command in OF_TRACES else GuestCase
             small = kind("nothing", lambda n: make(n)._replace(settings=settings), 1, "")
-            self.nothing[command, settings] = self.pool.submit(self.of_size, Case(small, tempfile.mkdtemp(dir=self.folder)), command, 1)
+            self.nothing[command, settings] = self.pool.submit(
+                self.of_size, Case(small, tempfile.mkdtemp(dir=self.folder)), command, 1
+            )
         return self.nothing[command, settings]
 
     def of_size(self, case: Case, command: str, size: int) -> Cost:
-        out = os.path.join(case.folder, f"{command}.{size}.{re.sub('[^a-z0-9]+', '_', case.name)}.out")
+        out = os.path.join(
+            case.folder, f"{command}.{size}.{re.sub('[^a-z0-9]+', '_', case.name)}.out"
+        )
         return counted(self.way, self.program, case.call(command, size), out)
 
     def rows(self, chosen: list[tuple[Case, str]], times: int) -> Iterator[Row]:
@@ -417,7 +511,9 @@ def judged(rows: list[Row]) -> tuple[list[Row], list[Row], list[Row]]:
 
 
 def main() -> int:
-    reader = argparse.ArgumentParser(description=__doc__, formatter_class=argparse.RawDescriptionHelpFormatter)
+    reader = argparse.ArgumentParser(
+        description=__doc__, formatter_class=argparse.RawDescriptionHelpFormatter
+    )
     reader.add_argument("program")
     reader.add_argument("names", nargs="*")
     reader.add_argument("--all", action="store_true")
@@ -428,12 +524,16 @@ def main() -> int:
     with tempfile.TemporaryDirectory() as folder:
         way = way_of(words.by, program, folder)
         rows = []
-        for row in Measures(program, way, folder).rows(chosen(words, folder), words.times * way.times):
+        for row in Measures(program, way, folder).rows(
+            chosen(words, folder), words.times * way.times
+        ):
             rows.append(row)
             print(row.shown(way.unit), flush=True)
     faults, known, named = judged(rows)
-    print(f"{len(rows)} calls, by {way.name}: {len(faults)} have a fault, {len(known)} are known to grow, and "
-          f"{len(named)} more grew by more than {MOST:g} where the size grew by 4")
+    print(
+        f"{len(rows)} calls, by {way.name}: {len(faults)} have a fault, {len(known)} are known to grow, and "
+        f"{len(named)} more grew by more than {MOST:g} where the size grew by 4"
+    )
     for row in known:
         print(f"known: {row.shown(way.unit)}: {KNOWN[row.case]}")
     for row in [*faults, *named]:

@@ -84,7 +84,11 @@ def imports_of(text, is_rust):
     """The imports of a text, and the places of their statements."""
     word = r"^[ \t]*ghost use\s+" if is_rust else r"^[ \t]*use\s+"
     found = []
-    for it in re.finditer(word + r"([^\s{;]+)(?:\s+as\s+([^\s;]+)|(\{[^}]*\}))?[ \t]*;?[ \t]*(?=\n|$)", text, re.MULTILINE):
+    for it in re.finditer(
+        word + r"([^\s{;]+)(?:\s+as\s+([^\s;]+)|(\{[^}]*\}))?[ \t]*;?[ \t]*(?=\n|$)",
+        text,
+        re.MULTILINE,
+    ):
         scope = block_around(text, it.start()) if is_rust else (0, len(text))
         if it[3] is None:
             name = it[2] or it[1].split(".")[-1]
@@ -94,7 +98,9 @@ def imports_of(text, is_rust):
             if part[0].strip():
                 name = re.split(r"\s+as\s+", part[0].strip())[-1]
                 start = it.start(3) + part.start() + len(part[0]) - len(part[0].lstrip())
-                found.append(Import(name, it[1], start, start + len(part[0].strip()), it.span(), scope))
+                found.append(
+                    Import(name, it[1], start, start + len(part[0].strip()), it.span(), scope)
+                )
     return found
 
 
@@ -137,11 +143,17 @@ def without_use(plain, found, is_rust):
     def words_in(scopes, but):
         """The words of the parts that stand in a scope and in none of the others."""
         taken = [part for part in parts if scopes[0] <= part[0] < scopes[1]]
-        return words_of(" ".join(rest[a:b] for a, b in taken if not any(x <= a < y for x, y in but)))
+        return words_of(
+            " ".join(rest[a:b] for a, b in taken if not any(x <= a < y for x, y in but))
+        )
 
     left = []
     for it in found:
-        inner = [one.scope for one in found if one.name == it.name and it.scope[0] < one.scope[0] and one.scope[1] <= it.scope[1]]
+        inner = [
+            one.scope
+            for one in found
+            if one.name == it.name and it.scope[0] < one.scope[0] and one.scope[1] <= it.scope[1]
+        ]
         if not is_in(it.name, words_in(it.scope, inner)):
             left.append(it)
     return left
@@ -156,16 +168,23 @@ def fixed(text, gone):
         statement = text[span[0] : span[1]]
         kept = None
         if "{" in statement and names[0].start != span[0]:
-            head, inside, behind = re.fullmatch(r"([^{]*\{)([^}]*)(\}.*)", statement, re.DOTALL).groups()
+            head, inside, behind = re.fullmatch(
+                r"([^{]*\{)([^}]*)(\}.*)", statement, re.DOTALL
+            ).groups()
             begin, gone_at = span[0] + len(head), {it.start for it in names}
-            parts = [(begin + it.start() + len(it[0]) - len(it[0].lstrip()), it[0].strip()) for it in re.finditer(r"[^,]+", inside)]
+            parts = [
+                (begin + it.start() + len(it[0]) - len(it[0].lstrip()), it[0].strip())
+                for it in re.finditer(r"[^,]+", inside)
+            ]
             left = [part for at, part in parts if part and at not in gone_at]
             kept = head + ", ".join(left) + behind if left else None
         if kept is not None:
             text = text[: span[0]] + kept + text[span[1] :]
         else:
             before, after = text[: span[0]], text[span[1] + 1 :]
-            if (before.endswith("{\n") or before.endswith("\n\n") or not before) and after.startswith("\n"):
+            if (
+                before.endswith("{\n") or before.endswith("\n\n") or not before
+            ) and after.startswith("\n"):
                 after = after[1:]
             text = before + after
     return text
@@ -178,7 +197,9 @@ def files_below(names):
             continue
         for folder, folders, files in os.walk(name):
             folders[:] = sorted(it for it in folders if it != "out")
-            yield from (os.path.join(folder, it) for it in sorted(files) if it.endswith((".rt", ".antt")))
+            yield from (
+                os.path.join(folder, it) for it in sorted(files) if it.endswith((".rt", ".antt"))
+            )
 
 
 def main(words):

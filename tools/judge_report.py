@@ -115,7 +115,11 @@ def hot_pairs(accesses, line, size, starts):
 
 def openings(accesses, line, size, starts, writes, prediction):
     """What a line and the next open: kind, base and size of each line, and the position of its opening."""
-    at = [own[k - 1] for own in (writes[line], writes[line + size]) for k in range(prediction, len(own) + 1, prediction)]
+    at = [
+        own[k - 1]
+        for own in (writes[line], writes[line + size])
+        for k in range(prediction, len(own) + 1, prediction)
+    ]
     shifted = doubled = None
     for position in sorted(it for it in at if it >= max(starts[line], starts[line + size])):
         pairs = hot_pairs(accesses[: position + 1], line, size, starts)
@@ -134,11 +138,15 @@ def tracked(case, size, offset):
     for position, it in enumerate(case.accesses):
         if it.writes:
             writes.setdefault((it.addr - offset) // size * size + offset, []).append(position)
-    starts = {base: own[case.tracking - 1] for base, own in writes.items() if len(own) >= case.tracking}
+    starts = {
+        base: own[case.tracking - 1] for base, own in writes.items() if len(own) >= case.tracking
+    }
     found = [Line(0, base, size, start) for base, start in starts.items()]
     for line in starts if case.layout is None else ():
         if line + size in starts:
-            for kind, base, wide, opening in openings(case.accesses, line, size, starts, writes, case.prediction):
+            for kind, base, wide, opening in openings(
+                case.accesses, line, size, starts, writes, case.prediction
+            ):
                 for position, it in enumerate(case.accesses):
                     if position > opening and it.writes and base <= it.addr < base + wide:
                         found.append(Line(kind, base, wide, position))
@@ -151,7 +159,10 @@ def address(number):
 
 
 def printed(name):
-    return "".join(chr(it) if 0x21 <= it <= 0x7E and it != 0x5C else f"\\x{it:02x}" for it in name) or "?"
+    return (
+        "".join(chr(it) if 0x21 <= it <= 0x7E and it != 0x5C else f"\\x{it:02x}" for it in name)
+        or "?"
+    )
 
 
 def table_of(records):
@@ -172,7 +183,11 @@ def table_of(records):
 def site_names(symbols):
     """Of an address the first function that holds it."""
     functions = [it for it in symbols if it.kind == FUNCTION]
-    return cache(lambda site: next((printed(it.name) for it in functions if it.addr <= site < it.addr + it.size), "-"))
+    return cache(
+        lambda site: next(
+            (printed(it.name) for it in functions if it.addr <= site < it.addr + it.size), "-"
+        )
+    )
 
 
 def objects_on(line, symbols, blocks, end, name_of):
@@ -231,17 +246,27 @@ def trace_of(case):
             parts.append(spelled(left.pop(0)[1]))
         for it in case.accesses[position : position + 1]:
             parts.append(struct.pack("<BHIB", 1 + it.writes, it.hart, it.addr, it.size))
-    parts.append(struct.pack("<BBBHIQQ", 6, *case.ending.fields, case.ending.steps, len(case.accesses)))
+    parts.append(
+        struct.pack("<BBBHIQQ", 6, *case.ending.fields, case.ending.steps, len(case.accesses))
+    )
     return b"".join(parts)
 
 
 def some_accesses(dice, harts, base, span, native):
     """Accesses to a few words of a few lines, those at the lines' edges among them; most words may have a hart of their own."""
     hot = [4 * dice.randrange(span // 4) for _ in range(dice.choice((1, 2, 3, 4, 6, 12)))]
-    hot += [at for edge in range(native, span, native) for at in (edge - 4, edge) if dice.random() < 0.7]
-    own, keeps, share = {at: dice.randrange(harts) for at in hot}, dice.random() < 0.5, dice.choice((0.2, 0.5, 0.8, 1))
+    hot += [
+        at for edge in range(native, span, native) for at in (edge - 4, edge) if dice.random() < 0.7
+    ]
+    own, keeps, share = (
+        {at: dice.randrange(harts) for at in hot},
+        dice.random() < 0.5,
+        dice.choice((0.2, 0.5, 0.8, 1)),
+    )
     for _ in range(dice.choice((0, 1, 5, 20, 60, 120, 250))):
-        at, size = dice.choice(hot) if dice.random() < 0.9 else 4 * dice.randrange(span // 4), dice.choice((1, 2, 4, 4))
+        at, size = dice.choice(hot) if dice.random() < 0.9 else 4 * dice.randrange(
+            span // 4
+        ), dice.choice((1, 2, 4, 4))
         hart = own[at] if at in own and keeps and dice.random() < 0.9 else dice.randrange(harts)
         yield Access(hart, dice.random() < share, base + at + dice.randrange(0, 4, size), size)
 
@@ -250,9 +275,26 @@ def some_record(dice, base, span):
     block = (base + 16 * dice.randrange(max(1, span // 16))) % 2**32
     which = dice.random()
     if which < 0.4:
-        at = dice.choice((block, base, base + dice.randrange(-8, span + 8), 0x100 + 4 * dice.randrange(8))) % 2**32
-        name = dice.choice((b"", b"worker", b"two words\\", bytes(dice.randrange(1, 256) for _ in range(dice.randrange(6)))))
-        return Symbol(dice.choice((OBJECT, OBJECT, FUNCTION)), at, dice.choice((1, 4, 16, 64, 200, 2**32 - 1)), name)
+        at = (
+            dice.choice(
+                (block, base, base + dice.randrange(-8, span + 8), 0x100 + 4 * dice.randrange(8))
+            )
+            % 2**32
+        )
+        name = dice.choice(
+            (
+                b"",
+                b"worker",
+                b"two words\\",
+                bytes(dice.randrange(1, 256) for _ in range(dice.randrange(6))),
+            )
+        )
+        return Symbol(
+            dice.choice((OBJECT, OBJECT, FUNCTION)),
+            at,
+            dice.choice((1, 4, 16, 64, 200, 2**32 - 1)),
+            name,
+        )
     if which < 0.75:
         sites = tuple(dice.choice((0, 0, 0x100, 0x104, 0x110, 0x9000)) for _ in range(4))
         return Alloc(block, dice.choice((0, 1, 8, 24, 64, 100, 2**32 - 1)), sites)
@@ -262,15 +304,27 @@ def some_record(dice, base, span):
 def some_ending(dice, harts):
     steps, code, hart = dice.randrange(2**40), dice.randrange(2**32), dice.randrange(harts)
     pc, cause = 4 * dice.randrange(2**30), dice.randrange(8)
-    trap = Ending(f"trap hart {hart} pc {address(pc)} {CAUSES[cause]}", steps, (3, cause + 1, hart, pc))
+    trap = Ending(
+        f"trap hart {hart} pc {address(pc)} {CAUSES[cause]}", steps, (3, cause + 1, hart, pc)
+    )
     exits = Ending(f"exit {code}", steps, (0, 0, 0, code))
     return dice.choice(
-        (exits, Ending("budget", steps, (1, 0, 0, 0)), Ending("deadlock", steps, (2, 0, 0, 0)), trap, Ending("part", 0, (4, 0, 0, 0)))
+        (
+            exits,
+            Ending("budget", steps, (1, 0, 0, 0)),
+            Ending("deadlock", steps, (2, 0, 0, 0)),
+            trap,
+            Ending("part", 0, (4, 0, 0, 0)),
+        )
     )
 
 
 def some_case(dice):
-    harts, native, lines = dice.choice((1, 2, 2, 3, 4, 8, 256)), dice.choice((64, 64, 64, 32, 128, 256)), dice.choice((2, 2, 3, 4, 6))
+    harts, native, lines = (
+        dice.choice((1, 2, 2, 3, 4, 8, 256)),
+        dice.choice((64, 64, 64, 32, 128, 256)),
+        dice.choice((2, 2, 3, 4, 6)),
+    )
     last = 2**32 - native * lines
     base = dice.choice((0, 0x1000, 0x1000, 0x1000 + native, 0x7FFFFF80, last, last + native // 2))
     span = min(native * lines, 2**32 - base)
@@ -281,7 +335,17 @@ def some_case(dice):
     prediction = tracking + dice.choice((0, 0, 0, 1, 3, tracking, 48))
     size = dice.choice((4, 8, 16, 32, 64, 128, 256, 512, 1024))
     layout = (size, dice.randrange(0, size, 4)) if dice.random() < 0.3 else None
-    return Case(accesses, records, some_ending(dice, harts), harts, tracking, prediction, dice.choice((1, 1, 2, 3, 10)), native, layout)
+    return Case(
+        accesses,
+        records,
+        some_ending(dice, harts),
+        harts,
+        tracking,
+        prediction,
+        dice.choice((1, 1, 2, 3, 10)),
+        native,
+        layout,
+    )
 
 
 def main(program, count=1000, seed=1):
@@ -292,9 +356,22 @@ def main(program, count=1000, seed=1):
             with open(f"{folder}/trace", "wb") as file:
                 file.write(trace_of(case))
             with open(f"{folder}/settings", "w", encoding="utf-8") as file:
-                file.write(f"tracking = {case.tracking}\nprediction = {case.prediction}\nreport = {case.report}\nline = {case.native}\n")
-            words = ["--size", str(case.layout[0]), "--shift", str(case.layout[1])] if case.layout else []
-            words = [program, "replay", f"{folder}/trace", "--settings", f"{folder}/settings", *words]
+                file.write(
+                    f"tracking = {case.tracking}\nprediction = {case.prediction}\nreport = {case.report}\nline = {case.native}\n"
+                )
+            words = (
+                ["--size", str(case.layout[0]), "--shift", str(case.layout[1])]
+                if case.layout
+                else []
+            )
+            words = [
+                program,
+                "replay",
+                f"{folder}/trace",
+                "--settings",
+                f"{folder}/settings",
+                *words,
+            ]
             said = subprocess.run(words, capture_output=True, encoding="latin-1").stdout
             if said != "".join(f"{it}\n" for it in report_of(case)):
                 wrong += 1

@@ -55,10 +55,25 @@ def track_of(b, at, head):
     if None in totals:
         raise Fault(at)
     if start == NONE:
-        good = count_of == 0 and first == NO_HART and second == NO_HART and count == 0 and sum(totals) == 0
+        good = (
+            count_of == 0
+            and first == NO_HART
+            and second == NO_HART
+            and count == 0
+            and sum(totals) == 0
+        )
     else:
-        good = count_of >= 1 and first < harts and (second == NO_HART if count_of == 1 else second < harts and second != first)
-        good = good and start < position and count <= position - start - 1 and sum(totals) <= position - start
+        good = (
+            count_of >= 1
+            and first < harts
+            and (second == NO_HART if count_of == 1 else second < harts and second != first)
+        )
+        good = (
+            good
+            and start < position
+            and count <= position - start - 1
+            and sum(totals) <= position - start
+        )
     if not good:
         raise Fault(at)
     return kind, base, start, end
@@ -71,7 +86,12 @@ def detector_part(b):
         if at + 16 > len(b):
             raise Fault(at)
         base, writes = struct.unpack_from("<qQ", b, at)
-        good = (base - offset) % size == 0 and base + size > 0 and base < 2**32 and 1 <= writes <= position
+        good = (
+            (base - offset) % size == 0
+            and base + size > 0
+            and base < 2**32
+            and 1 <= writes <= position
+        )
         if not good or (last is not None and base <= last):
             raise Fault(at)
         last = base
@@ -87,7 +107,14 @@ def detector_part(b):
             seen += 1
         else:
             line = base // size * size
-            good = good and prediction and seen == len(due) and base >= 0 and line in due and line + size in due
+            good = (
+                good
+                and prediction
+                and seen == len(due)
+                and base >= 0
+                and line in due
+                and line + size in due
+            )
             if kind == 1:
                 good = good and base % 4 == 0 and base % size != 0 and line not in crossed
                 crossed.add(line)
@@ -111,7 +138,9 @@ def object_part(b, at, position):
             raise Fault(at)
         kind, addr, size, length = struct.unpack_from("<BIIH", b, at + 1)
         name = b[at + 12 : at + 12 + length]
-        good = kind in (1, 2) and size > 0 and length <= 1024 and len(name) == length and 0 not in name
+        good = (
+            kind in (1, 2) and size > 0 and length <= 1024 and len(name) == length and 0 not in name
+        )
         if not good or (kind, addr, size) in places:
             raise Fault(at)
         places.add((kind, addr, size))
@@ -119,7 +148,9 @@ def object_part(b, at, position):
     for _ in range(blocks):
         if at + 41 > len(b) or b[at] != 3:
             raise Fault(at)
-        addr, born, died = struct.unpack_from("<I", b, at + 1)[0], *struct.unpack_from("<QQ", b, at + 25)
+        addr, born, died = struct.unpack_from("<I", b, at + 1)[0], *struct.unpack_from(
+            "<QQ", b, at + 25
+        )
         good = born <= position if died == NONE else born <= died <= position
         if not good or (died == NONE and addr in live):
             raise Fault(at)
@@ -154,7 +185,9 @@ def variants(b):
 
 
 def said(program, trace, words, state):
-    done = subprocess.run([program, "replay", trace, "--resume", state, *words], capture_output=True, text=True)
+    done = subprocess.run(
+        [program, "replay", trace, "--resume", state, *words], capture_output=True, text=True
+    )
     return done.returncode, done.stdout
 
 

@@ -39,9 +39,14 @@ def shown(base):
 def is_recounted(case, trace, report):
     """Whether the observed lines of a report are those of a recount."""
     size, shift = case.layout or (case.native, 0)
-    found = [it.partition(" verdict")[0] for it in report.split("\n") if it.startswith("line observed ")]
+    found = [
+        it.partition(" verdict")[0] for it in report.split("\n") if it.startswith("line observed ")
+    ]
     counted = recount(trace, size, shift, case.tracking, case.report)
-    return found == [f"line observed {shown(base)} {size} start {start} count {count}" for base, start, count in counted]
+    return found == [
+        f"line observed {shown(base)} {size} start {start} count {count}"
+        for base, start, count in counted
+    ]
 
 
 def is_carried_on(program, folder, words, cut, report):
@@ -51,7 +56,10 @@ def is_carried_on(program, folder, words, cut, report):
     printed(program, "replay", names[1], *words, "--save", names[3])
     with open(names[3], "rb") as file:
         place = judge_state.judged(file.read())[1]
-    return place is None and printed(program, "replay", names[2], *words, "--resume", names[3]) == report
+    return (
+        place is None
+        and printed(program, "replay", names[2], *words, "--resume", names[3]) == report
+    )
 
 
 def some_pcs(dice):
@@ -59,7 +67,9 @@ def some_pcs(dice):
 
     def pc_of(_, before):
         near = (before + 4 * dice.randrange(-40, 40)) % 2**32
-        return dice.choice((before, near, dice.randrange(2**32), 4 * dice.randrange(4), 0, 2**32 - 1))
+        return dice.choice(
+            (before, near, dice.randrange(2**32), 4 * dice.randrange(4), 0, 2**32 - 1)
+        )
 
     return pc_of
 
@@ -71,7 +81,9 @@ def read(name):
 
 def keeps_pcs(program, folder, words, cut, made, report):
     """Whether a trace with pcs has the report of the one without them, and is split and converted as docs/FORMATS.md says."""
-    plain, whole, first, second, *copies = (os.path.join(folder, it) for it in ("trace", "sited", "first", "second", "one", "three"))
+    plain, whole, first, second, *copies = (
+        os.path.join(folder, it) for it in ("trace", "sited", "first", "second", "one", "three")
+    )
     with open(whole, "wb") as file:
         file.write(made)
     printed(program, "split", whole, str(cut), first, second)
@@ -80,7 +92,8 @@ def keeps_pcs(program, folder, words, cut, made, report):
     halves = [list(sited(read(it))) for it in (first, second)]
     return (
         printed(program, "replay", whole, *words) == report
-        and [len(halves[0]), halves[0] + halves[1]] == [min(cut, len(halves[0] + halves[1])), list(sited(made))]
+        and [len(halves[0]), halves[0] + halves[1]]
+        == [min(cut, len(halves[0] + halves[1])), list(sited(made))]
         and read(copies[0]) == read(copies[1])
     )
 
@@ -91,7 +104,8 @@ def is_blamed(program, folder, case, made):
     words = ["--size", str(layout[0]), "--shift", str(layout[1])] if case.layout else []
     plain, whole = (os.path.join(folder, it) for it in ("trace", "sited"))
     return all(
-        printed(program, "blame", name, *words) == "".join(f"{it}\n" for it in recount_blame.told(trace, *layout))
+        printed(program, "blame", name, *words)
+        == "".join(f"{it}\n" for it in recount_blame.told(trace, *layout))
         for name, trace in ((whole, made), (plain, read(plain)))
     )
 
@@ -104,7 +118,10 @@ def some_table(dice, made):
     places = [dice.choice((2**31 + 64 * at, it + 64)) for at, it in enumerate(begins)]
     if dice.random() < 0.5:
         places = dice.sample(begins, len(begins))
-    lines = [f"{begin:{dice.choice(('#x', 'd', '#010x'))}} {size} {to}" for (begin, size), to in zip(ranges, places)]
+    lines = [
+        f"{begin:{dice.choice(('#x', 'd', '#010x'))}} {size} {to}"
+        for (begin, size), to in zip(ranges, places)
+    ]
     if dice.random() < 0.1:
         faulty = ("", "0 4", "0 4 4 ", "00 4 4", "4 0 4", "0 4 4294967296", "0x123456789 4 0")
         lines.insert(dice.randrange(len(lines) + 1), dice.choice(faulty))
@@ -120,7 +137,9 @@ def is_moved(program, folder, table):
         trace = os.path.join(folder, name)
         if os.path.exists(out):
             os.remove(out)
-        ran = subprocess.run([program, "move", trace, text, out], capture_output=True, encoding="latin-1")
+        ran = subprocess.run(
+            [program, "move", trace, text, out], capture_output=True, encoding="latin-1"
+        )
         line, wanted = recount_move.move(read(trace), table)
         if (ran.returncode, ran.stdout) != (0 if line.startswith("move ") else 14, f"{line}\n"):
             return False
@@ -135,8 +154,14 @@ def put_case(folder, case):
         file.write(trace_of(case))
     settings = os.path.join(folder, "settings")
     with open(settings, "w", encoding="utf-8") as file:
-        file.write(f"tracking = {case.tracking}\nprediction = {case.prediction}\nreport = {case.report}\nline = {case.native}\n")
-    return ["--settings", settings, *(["--size", str(case.layout[0]), "--shift", str(case.layout[1])] if case.layout else [])]
+        file.write(
+            f"tracking = {case.tracking}\nprediction = {case.prediction}\nreport = {case.report}\nline = {case.native}\n"
+        )
+    return [
+        "--settings",
+        settings,
+        *(["--size", str(case.layout[0]), "--shift", str(case.layout[1])] if case.layout else []),
+    ]
 
 
 def faults_of(program, folder, dice, case, words):
@@ -166,8 +191,12 @@ def main(program, count=200, seed=1):
             state = os.path.join(folder, "state")
             if not faults and number >= EACH * changed and os.path.getsize(state) <= MOST:
                 changed += 1
-                tried, differs = judge_state.judge_changes(state, program, os.path.join(folder, "second"), words)
-                faults += [f"{differs} of {tried} changed states are judged otherwise"] if differs else []
+                tried, differs = judge_state.judge_changes(
+                    state, program, os.path.join(folder, "second"), words
+                )
+                faults += (
+                    [f"{differs} of {tried} changed states are judged otherwise"] if differs else []
+                )
             wrong += bool(faults)
             for it in faults:
                 print(f"trace {number} of seed {seed}: {it}")

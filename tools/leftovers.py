@@ -21,9 +21,26 @@ import imports  # noqa: E402
 WIDTH, LENGTH = 100, 600
 # What these hold is found by its place.
 ANSWERS = ("Answers.antt", "Invariants.antt", "Proof.antt", "Lib.antt")
-ITEM = re.compile(r"^( *)(?:pub )?(?:(?:abbrev|unfoldable|data|record|ruleset|axiom) (?:pub )?)*(?:pub )?([^\s(){}\[\]:,;]+)\s*(?=[:({])")
+ITEM = re.compile(
+    r"^( *)(?:pub )?(?:(?:abbrev|unfoldable|data|record|ruleset|axiom) (?:pub )?)*(?:pub )?([^\s(){}\[\]:,;]+)\s*(?=[:({])"
+)
 # Words that begin a line and no item.
-NOT_ITEMS = {"use", "mod", "module", "unfolding", "open", "mutual", "where", "infix", "infixl", "infixr", "let", "elim", "in", "|"}
+NOT_ITEMS = {
+    "use",
+    "mod",
+    "module",
+    "unfolding",
+    "open",
+    "mutual",
+    "where",
+    "infix",
+    "infixl",
+    "infixr",
+    "let",
+    "elim",
+    "in",
+    "|",
+}
 PLAIN = set("a an and are for how is it its of that the this was what".split())
 
 
@@ -48,7 +65,11 @@ class Source:
             statement = self.plain[slice(*it.statement)]
             module = it.module.rstrip(".")
             whole = self.plain[it.start : it.end]
-            real = re.split(r"\s+as\s+", whole)[0].strip() if "{" in statement and it.start != it.statement[0] else None
+            real = (
+                re.split(r"\s+as\s+", whole)[0].strip()
+                if "{" in statement and it.start != it.statement[0]
+                else None
+            )
             self.imported.setdefault(module, {})[it.name] = real
         parts = os.path.relpath(path, f"{TOP}/crates")[: -len(".antt")].split(os.sep)
         self.module = ".".join(["Rattle", *parts])
@@ -117,7 +138,9 @@ def is_named_elsewhere(source, name, by_module, sources, path):
         for local, real in names.items():
             if real == name and imports.is_in(local, other.words()):
                 return True
-            if real is None and re.search(rf"(?<![\w.]){re.escape(local)}\.{re.escape(name)}(?![\w'-])", other.rest):
+            if real is None and re.search(
+                rf"(?<![\w.]){re.escape(local)}\.{re.escape(name)}(?![\w'-])", other.rest
+            ):
                 return True
     # An attribute names the whole way.
     return any(other.is_rust and f"{path}::{name}" in other.plain for other in sources)
@@ -134,7 +157,10 @@ def stem(word):
 def words_in(text):
     return {
         stem(it)
-        for it in re.findall(r"[A-Za-z']+", re.sub(r"([a-z])([A-Z])", r"\1 \2", text.replace("_", " ").replace("-", " ")))
+        for it in re.findall(
+            r"[A-Za-z']+",
+            re.sub(r"([a-z])([A-Z])", r"\1 \2", text.replace("_", " ").replace("-", " ")),
+        )
         if it.lower() not in PLAIN
     }
 
@@ -148,7 +174,12 @@ def comments_of_names(source):
         below = number + 1
         while below < len(lines) and re.match(r"\s*#\[", lines[below]):
             below += 1
-        if not found or not alone or below >= len(lines) or re.match(r"\s*(///|//|--|$)", lines[below]):
+        if (
+            not found
+            or not alone
+            or below >= len(lines)
+            or re.match(r"\s*(///|//|--|$)", lines[below])
+        ):
             continue
         head = re.match(
             r"\s*(?:pub(?:\([a-z]+\))? |abbrev |unfoldable |const |unsafe )*"
@@ -165,11 +196,19 @@ def main(words):
         print(__doc__)
         return 0
     sources = [Source(it) for it in imports.files_below([os.path.join(TOP, "crates")])]
-    chosen = [it for it in sources if not words or os.path.relpath(it.path, f"{TOP}/crates").split(os.sep)[0] in words]
+    chosen = [
+        it
+        for it in sources
+        if not words or os.path.relpath(it.path, f"{TOP}/crates").split(os.sep)[0] in words
+    ]
     found = list(dead_items(sources, chosen))
     for it in chosen:
         lines = it.text.split("\n")
-        found += [f"{it.path}:{n + 1}: long line: {len(line)} columns" for n, line in enumerate(lines) if len(line) > WIDTH]
+        found += [
+            f"{it.path}:{n + 1}: long line: {len(line)} columns"
+            for n, line in enumerate(lines)
+            if len(line) > WIDTH
+        ]
         if len(lines) - 1 > LENGTH:
             found.append(f"{it.path}:1: long file: {len(lines) - 1} lines")
         found += comments_of_names(it)

@@ -35,7 +35,10 @@ def alone(code: Code) -> bytes:
 
 def with_data(code: Code, size: int, symbols: list[tuple[str, int, int, int]] = []) -> bytes:
     """The program of code with so many bytes from DATA on."""
-    return elf([Segment(CODE, code.bytes(), 4 * len(code.words), 5), Segment(DATA, b"", size, 6)], *named(symbols))
+    return elf(
+        [Segment(CODE, code.bytes(), 4 * len(code.words), 5), Segment(DATA, b"", size, 6)],
+        *named(symbols),
+    )
 
 
 def ends(n: int) -> Guest:
@@ -46,6 +49,7 @@ def ends(n: int) -> Guest:
 
 
 # ---- The heap. Each says by its exit code where the last block is, counted from the beginning of the heap.
+
 
 def said(code: Code, of: str, wanted: int, settings: str = "") -> Guest:
     """It ends with what a register has."""
@@ -186,7 +190,15 @@ def holes_of_all_sizes(n: int) -> Guest:
     """Of blocks of 16 to 512 bytes those of an odd number of sixteens are freed, and as many are made again as before. It ends with the sum
     of their places."""
     code = Code()
-    for register, value in (("s3", 1), ("s4", 1664525), ("s5", 1013904223), ("s6", 23), ("s7", 0x1F0), ("s8", 16), ("s11", 4)):
+    for register, value in (
+        ("s3", 1),
+        ("s4", 1664525),
+        ("s5", 1013904223),
+        ("s6", 23),
+        ("s7", 0x1F0),
+        ("s8", 16),
+        ("s11", 4),
+    ):
         code.set(register, value)
     with code.times(n, "s1"):
         draw_size(code)
@@ -215,6 +227,7 @@ def holes_of_all_sizes(n: int) -> Guest:
 
 
 # ---- Lines that two harts share.
+
 
 def two_harts(n: int) -> Code:
     """Code whose second hart, which begins at WORKER, writes the words of n lines from its argument on."""
@@ -253,7 +266,12 @@ def symbols(n: int) -> Guest:
     share_lines(code, n, DATA)
     code.call("exit_group", 0)
     places = [(f"variable{i}", DATA + LINE * i, 8, OBJECT) for i in range(n)]
-    return Guest(with_data(code, LINE * n, places), LISTED, run=((f"lines {n}", 1), ("object symbol", n)), checked=((f"objects {n}", 1),))
+    return Guest(
+        with_data(code, LINE * n, places),
+        LISTED,
+        run=((f"lines {n}", 1), ("object symbol", n)),
+        checked=((f"objects {n}", 1),),
+    )
 
 
 def functions(n: int) -> Guest:
@@ -270,8 +288,14 @@ def functions(n: int) -> Guest:
     code.put("sub", "s4", "a0", "t0")
     share_lines(code, n, "s4")
     code.call("exit_group", 0)
-    places = [(f"function{i}", DATA + 4 * i, 4, FUNCTION) for i in range(n)] + [("all", CODE, 4 * len(code.words), FUNCTION)]
-    return Guest(with_data(code, 4 * n, places), LISTED, run=((f"lines {n}", 1), ("object block", n), ("site", n)))
+    places = [(f"function{i}", DATA + 4 * i, 4, FUNCTION) for i in range(n)] + [
+        ("all", CODE, 4 * len(code.words), FUNCTION)
+    ]
+    return Guest(
+        with_data(code, 4 * n, places),
+        LISTED,
+        run=((f"lines {n}", 1), ("object block", n), ("site", n)),
+    )
 
 
 def noted(n: int) -> Guest:
@@ -316,6 +340,7 @@ def noted_wide(n: int) -> Guest:
 
 # ---- Instructions that take one line from each other.
 
+
 def stores(n: int) -> Code:
     """So many stores, one behind the other, by two harts."""
     code = Code()
@@ -339,10 +364,16 @@ def sites_in_functions(n: int) -> Guest:
     """Each in a function of its own, of which the table has the last one first."""
     places = [(f"function{i}", CODE + 4 * (12 + i), 4, FUNCTION) for i in range(n)]
     explained = ((f"sites {n}", 1), ("pair", -n))
-    return Guest(with_data(stores(n), LINE, places[::-1]), LISTED, explained=explained, checked=((f"functions {n}", 1),))
+    return Guest(
+        with_data(stores(n), LINE, places[::-1]),
+        LISTED,
+        explained=explained,
+        checked=((f"functions {n}", 1),),
+    )
 
 
 # ---- Harts.
+
 
 def begin_harts(code: Code, harts: int = 256) -> None:
     """All others, which begin at WORKER."""
@@ -413,6 +444,7 @@ def prints(n: int) -> Guest:
 
 # ---- Program files.
 
+
 def segments(n: int) -> Guest:
     """As many headers as there may be, or a fourth; each places 4 bytes."""
     code = Code()
@@ -427,7 +459,9 @@ def names_of_one(n: int) -> Guest:
     code = Code()
     code.call("exit_group", 0)
     rows = [Symbol(1 + i, DATA + 4 * i, 4, OBJECT) for i in range(n)]
-    program = elf([Segment(CODE, code.bytes(), 4 * len(code.words), 5)], rows, b"\0" + b"n" * n + b"\0")
+    program = elf(
+        [Segment(CODE, code.bytes(), 4 * len(code.words), 5)], rows, b"\0" + b"n" * n + b"\0"
+    )
     return Guest(program, checked=((f"objects {n}", 1),))
 
 
@@ -436,10 +470,13 @@ def large(n: int) -> Guest:
     code = Code()
     code.call("exit_group", 0)
     content = code.bytes() + bytes(n - 4 * len(code.words) - 400)
-    return Guest(elf([Segment(CODE, content, len(content), 7)]), "memory=67108864", checked=(("segment", 1),))
+    return Guest(
+        elf([Segment(CODE, content, len(content), 7)]), "memory=67108864", checked=(("segment", 1),)
+    )
 
 
 # ---- Schedules and settings, by their bytes.
+
 
 def two_turns(budget: int) -> Guest:
     """Two harts go round."""
@@ -470,13 +507,19 @@ def schedule_of_nothing(n: int) -> Guest:
 
 def schedule_refused(n: int) -> Guest:
     """Its last line is bad."""
-    return two_turns(1)._replace(schedule=b"0 1\n" * (n // 4 - 1) + b"0  1", run=((f"predator: schedule BadLine {n // 4}", 1),), status=3)
+    return two_turns(1)._replace(
+        schedule=b"0 1\n" * (n // 4 - 1) + b"0  1",
+        run=((f"predator: schedule BadLine {n // 4}", 1),),
+        status=3,
+    )
 
 
 def settings_of(text: str, fault: str = "") -> Guest:
     if not fault:
         return ends(1)._replace(file=text.encode(), checked=(("objects 0", 1),))
-    return ends(1)._replace(file=text.encode(), checked=((f"predator: settings {fault}", 1),), status=4)
+    return ends(1)._replace(
+        file=text.encode(), checked=((f"predator: settings {fault}", 1),), status=4
+    )
 
 
 def comments(n: int) -> Guest:
@@ -521,7 +564,8 @@ def strings(n: int) -> Guest:
 
 class GuestCase(NamedTuple):
     """A guest of two sizes, of which `size` is the lesser one, and the commands that it is made for; the greatest size that it may have; a
-    size that costs next to nothing, if another guest can't stand for that; and commands whose text of it is a square."""
+    size that costs next to nothing, if another guest can't stand for that; and commands whose text of it is a square.
+    """
 
     name: str
     make: Callable[[int], Guest]

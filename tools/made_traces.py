@@ -55,9 +55,20 @@ class Trace:
     def free(self, addr: int) -> None:
         self.bytes += struct.pack("<BI", 4, addr)
 
-    def made(self, lines: int, objects: int = 0, sites: int = 0, object: str = "", settings: str = "") -> Made:
+    def made(
+        self, lines: int, objects: int = 0, sites: int = 0, object: str = "", settings: str = ""
+    ) -> Made:
         end = struct.pack("<B8xQQ", 6, self.accesses, self.accesses)
-        return Made(bytes(self.bytes) + end, self.harts, self.accesses, lines, objects, sites, object, settings)
+        return Made(
+            bytes(self.bytes) + end,
+            self.harts,
+            self.accesses,
+            lines,
+            objects,
+            sites,
+            object,
+            settings,
+        )
 
 
 def shuffled(n: int) -> list[int]:
@@ -73,6 +84,7 @@ def rest_of(made: Made) -> bytes:
 
 
 # ---- Symbols.
+
 
 def symbols_apart(n: int) -> Made:
     """Each on a line of its own."""
@@ -152,6 +164,7 @@ def names_long(n: int) -> Made:
 
 # ---- Functions and call sites.
 
+
 def functions(n: int) -> Made:
     """Blocks on lines of their own, each with four sites in four functions."""
     it = Trace()
@@ -178,6 +191,7 @@ def functions_nested(n: int) -> Made:
 
 
 # ---- Blocks.
+
 
 def blocks_apart(n: int) -> Made:
     """Each on a line of its own, and freed in the order of making."""
@@ -253,6 +267,7 @@ def blocks_before(n: int) -> Made:
 
 
 # ---- Lines and accesses.
+
 
 def lines(n: int) -> Made:
     """Next to each other, in any order, and taken twice to eight times."""
@@ -330,7 +345,8 @@ def instructions_of_lines(n: int) -> Made:
 
 class TraceCase(NamedTuple):
     """A trace of two sizes, of which `size` is the lesser one, and the commands that it is made for; the greatest size that it may have; a
-    size that costs next to nothing, if another trace can't stand for that; and commands whose text of it is a square."""
+    size that costs next to nothing, if another trace can't stand for that; and commands whose text of it is a square.
+    """
 
     name: str
     make: Callable[[int], Made]
@@ -360,7 +376,12 @@ CASES = [
     TraceCase("blocks under one", blocks_under_one, 2048, OBJECTS),
     TraceCase("blocks at one place", blocks_at_one_place, 2048, f"{SAVED} misses"),
     TraceCase("blocks dead before", blocks_before, 1024, "replay", never="misses"),
-    TraceCase("lines", lines, 4096, f"{SAVED} replay--size misses sweep caches convert split move gen blame"),
+    TraceCase(
+        "lines",
+        lines,
+        4096,
+        f"{SAVED} replay--size misses sweep caches convert split move gen blame",
+    ),
     TraceCase("lines turned round", lines_turned, 4096, "move"),
     TraceCase("lines apart", lines_apart, 4096, f"{SAVED} misses sweep caches blame", 60000),
     TraceCase("many instructions on a line", instructions, 16384, "blame"),

@@ -23,8 +23,20 @@ import commands
 from commands import Row, bounds, flags, known, names_of, number, options_of
 from message_files import FORM, faults, put_files
 
-USUAL = {"PROGRAM": "p", "TRACE": "t", "TABLE": "table", "NAME": "pair", "A": "a", "B": "b", "FILE": "a", "N": "3", "K": "3",
-         "BASE": "0x00011000", "SIZE": "64", "START": "0"}
+USUAL = {
+    "PROGRAM": "p",
+    "TRACE": "t",
+    "TABLE": "table",
+    "NAME": "pair",
+    "A": "a",
+    "B": "b",
+    "FILE": "a",
+    "N": "3",
+    "K": "3",
+    "BASE": "0x00011000",
+    "SIZE": "64",
+    "START": "0",
+}
 # What clap calls the words of the line of usage that it calls otherwise.
 CALLED = {"N": "count", "K": "at", "A": "first", "B": "second"}
 WANTED = {"sweep": ["--size", "64"], "caches": ["--size", "64", "--sets", "4", "--ways", "2"]}
@@ -35,7 +47,8 @@ LINES = "a line is a key and a whole number, as `quantum = 1`"
 
 class Try(NamedTuple):
     """A call: its words, its status, the line that it prints, nothing for the usage and `*` for any text, and what it says. A status of
-    None stands for each that isn't that of refused words or settings, of which the text and what is said aren't looked at."""
+    None stands for each that isn't that of refused words or settings, of which the text and what is said aren't looked at.
+    """
 
     words: list[str]
     status: int | None
@@ -62,6 +75,7 @@ def usage(words: list[str], said: str) -> Try:
 
 
 # ---- Settings.
+
 
 def range_of(row: Row) -> str:
     """What is said of a key that is out of its range."""
@@ -91,12 +105,34 @@ def of_key(row: Row, usual: dict[str, int]) -> Iterator[Try]:
         yield Try(["check", "p", changed], status, printed, range_of(row))
         yield Try(["check", "p", "--settings", file], status, printed, f"{file}: {range_of(row)}")
         # One of them is right: `--set` is to blame though there is a file, and the file though something else is changed.
-        yield Try(["check", "p", "--settings", settings_file(other, 1), changed], status, printed, range_of(row))
-        yield Try(["check", "p", "--settings", settings_file(key, allowed), changed], status, printed, range_of(row))
-        yield Try(["check", "p", "--settings", file, f"--set={other}=1"], status, printed, f"{file}: {range_of(row)}")
+        yield Try(
+            ["check", "p", "--settings", settings_file(other, 1), changed],
+            status,
+            printed,
+            range_of(row),
+        )
+        yield Try(
+            ["check", "p", "--settings", settings_file(key, allowed), changed],
+            status,
+            printed,
+            range_of(row),
+        )
+        yield Try(
+            ["check", "p", "--settings", file, f"--set={other}=1"],
+            status,
+            printed,
+            f"{file}: {range_of(row)}",
+        )
         # The file is judged by itself first, so it is to blame also where its number is replaced, by a right one or by a wrong one.
-        yield Try(["check", "p", "--settings", file, f"--set={key}={allowed}"], status, printed, f"{file}: {range_of(row)}")
-        yield Try(["check", "p", "--settings", file, changed], status, printed, f"{file}: {range_of(row)}")
+        yield Try(
+            ["check", "p", "--settings", file, f"--set={key}={allowed}"],
+            status,
+            printed,
+            f"{file}: {range_of(row)}",
+        )
+        yield Try(
+            ["check", "p", "--settings", file, changed], status, printed, f"{file}: {range_of(row)}"
+        )
 
 
 def of_both(row: Row) -> Iterator[Try]:
@@ -106,8 +142,18 @@ def of_both(row: Row) -> Iterator[Try]:
         with open(name, "w", encoding="utf-8") as file:
             file.write(text)
     printed = "settings OutOfRange prediction"
-    yield Try(["check", "p", "--settings", "low", "--set=tracking=10"], 4, printed, f"low: {range_of(row)}")
-    yield Try(["check", "p", "--settings", "low", "--set=prediction=200"], 4, printed, f"low: {range_of(row)}")
+    yield Try(
+        ["check", "p", "--settings", "low", "--set=tracking=10"],
+        4,
+        printed,
+        f"low: {range_of(row)}",
+    )
+    yield Try(
+        ["check", "p", "--settings", "low", "--set=prediction=200"],
+        4,
+        printed,
+        f"low: {range_of(row)}",
+    )
     yield Try(["check", "p", "--settings", "well", "--set=tracking=60"], 4, printed, range_of(row))
 
 
@@ -124,17 +170,37 @@ def settings() -> Iterator[Try]:
             ("no_toml", "BadToml", f"line 2: key with no value, expected `=`; {LINES}"),
             ("long", "TooLong", "a settings file has at most 64 KiB"),
             ("unknown", "UnknownKey quantom", f"`quantom` isn't a key: the keys are {keys}"),
-            ("odd", r"UnknownKey h\x7f\xc2\x9b", rf"`h\x7f\xc2\x9b` isn't a key: the keys are {keys}"),
+            (
+                "odd",
+                r"UnknownKey h\x7f\xc2\x9b",
+                rf"`h\x7f\xc2\x9b` isn't a key: the keys are {keys}",
+            ),
         ):
-            yield Try([*call(name), "--settings", file], 4, f"settings {printed}", f"{file}: {said}")
-        for part, why in (("quantum", "is no KEY=N"), ("turns=1", "names no key of the settings"), ("", "is no KEY=N"),
-                          ("quantum=01", "gives no whole number below 2^64, in decimal digits without leading zeros"),
-                          ("quantum=18446744073709551616", "gives no whole number below 2^64, in decimal digits without leading zeros")):
+            yield Try(
+                [*call(name), "--settings", file], 4, f"settings {printed}", f"{file}: {said}"
+            )
+        for part, why in (
+            ("quantum", "is no KEY=N"),
+            ("turns=1", "names no key of the settings"),
+            ("", "is no KEY=N"),
+            (
+                "quantum=01",
+                "gives no whole number below 2^64, in decimal digits without leading zeros",
+            ),
+            (
+                "quantum=18446744073709551616",
+                "gives no whole number below 2^64, in decimal digits without leading zeros",
+            ),
+        ):
             yield usage([*call(name), f"--set={part}"], f"'{part}' in --set {why}")
-        yield usage([*call(name), "--set", "line=64,line=64"], "'line=64' in --set names a key that stands before it")
+        yield usage(
+            [*call(name), "--set", "line=64,line=64"],
+            "'line=64' in --set names a key that stands before it",
+        )
 
 
 # ---- Numbers among the words.
+
 
 def numbers_of(word: str, name: str) -> Row:
     return next(it for it in TABLE["number"] if it["word"] == word and name in it["commands"])
@@ -161,8 +227,10 @@ def number_said(name: str, at: str, value: int) -> str:
         return f"'{value}' is no place: K is {told('K', name)}"
     if name == "explain":
         words = " ".join(str(value) if it == at else USUAL[it] for it in ("BASE", "SIZE", "START"))
-        return (f"'{words}' is no line and start: BASE is a multiple of {numbers_of('BASE', name)['step']} below {power('BASE', name)}, "
-                f"SIZE {told('SIZE', name)}, START a number below {power('START', name)}")
+        return (
+            f"'{words}' is no line and start: BASE is a multiple of {numbers_of('BASE', name)['step']} below {power('BASE', name)}, "
+            f"SIZE {told('SIZE', name)}, START a number below {power('START', name)}"
+        )
     if name == "sweep":
         return f"'--size {value}' is no size to sweep: it is {told('--size', name)}"
     if name == "place":
@@ -187,7 +255,13 @@ def beside(row: Row) -> Iterator[tuple[int, bool]]:
     """The bounds of a number and what lies beside them, each with whether it is allowed."""
     least, greatest, step = number(row["least"]), number(row["greatest"]), row.get("step", 1)
     if "power" in row:
-        yield from ((least, True), (greatest, True), (least // 2, False), (2 * greatest, False), (3 * least, False))
+        yield from (
+            (least, True),
+            (greatest, True),
+            (least // 2, False),
+            (2 * greatest, False),
+            (3 * least, False),
+        )
         return
     yield from ((least, True), (greatest, True), (greatest + step, False))
     if least:
@@ -215,14 +289,19 @@ def of_number(row: Row) -> Iterator[Try]:
 def numbers() -> Iterator[Try]:
     for row in TABLE["number"]:
         yield from of_number(row)
-    yield usage(["caches", "t", "--size", "64", "--sets", "128", "--ways", "33"],
-                f"'--size 64 --sets 128 --ways 33' is no shape of caches: {shapes()}")
+    yield usage(
+        ["caches", "t", "--size", "64", "--sets", "128", "--ways", "33"],
+        f"'--size 64 --sets 128 --ways 33' is no shape of caches: {shapes()}",
+    )
     yield Try(["caches", "t", "--size", "64", "--sets", "64", "--ways", "64"], None)
     for word, wrong in (("03", "has a leading zero"), ("+3", "has a sign")):
         yield usage(["gen", word, "a"], f"'{word}' {wrong}: N is {told('N', 'gen')}")
         yield usage(["split", "t", word, "a", "b"], f"'{word}' {wrong}: K is {told('K', 'split')}")
         yield usage(["replay", "t", "--size", word], f"'{word}' {wrong}: {layouts('replay')}")
-        yield usage(["caches", "t", "--size", "64", "--sets", word, "--ways", "2"], f"'{word}' {wrong}: {shapes()}")
+        yield usage(
+            ["caches", "t", "--size", "64", "--sets", word, "--ways", "2"],
+            f"'{word}' {wrong}: {shapes()}",
+        )
     yield usage(["gen", "-3", "a"], "unexpected argument '-3' found: no number is negative")
     yield usage(["replay", "t", "--shift=-4"], f"'-4' is negative: {layouts('replay')}")
     yield usage(["sweep", "t"], f"--size is missing: it is {told('--size', 'sweep')}")
@@ -230,35 +309,53 @@ def numbers() -> Iterator[Try]:
 
 # ---- Words.
 
+
 def words_of_all() -> Iterator[Try]:
     yield usage([], "the command is missing; see predator --help")
     yield usage([HIDDEN], f"'{SHOWN}' is no command; see predator --help")
-    yield Try(["replay", "none" + HIDDEN], 7, "read fault", r"none\x7f\x1b[2J\xc2\x9b\xc2\x85: No such file or directory")
+    yield Try(
+        ["replay", "none" + HIDDEN],
+        7,
+        "read fault",
+        r"none\x7f\x1b[2J\xc2\x9b\xc2\x85: No such file or directory",
+    )
     options = {it["name"] for it in TABLE["option"]} | {"--set"}
     for name in COMMANDS:
         names, own = names_of(COMMANDS[name]), set(SPACE[name])
-        given = call(name)[1:len(names) + 1]
+        given = call(name)[1 : len(names) + 1]
         for count in range(len(names)):
             lacking = " ".join(f"<{CALLED.get(it, it.lower())}>" for it in names[count:])
-            yield usage([name, *given[:count]], f"the following required arguments were not provided: {lacking}")
+            yield usage(
+                [name, *given[:count]],
+                f"the following required arguments were not provided: {lacking}",
+            )
         yield usage([*call(name), "more"], "unexpected argument 'more' found")
         yield usage([*call(name), HIDDEN], f"unexpected argument '{SHOWN}' found")
         yield usage([*call(name), "--", "more"], "unexpected argument 'more' found")
         for option in sorted(options - own):
             yield usage([*call(name), option, "4"], f"unexpected argument '{option}' found")
         for option in sorted(own & BARE):
-            yield usage([*call(name), option, option], f"the argument '{option}' cannot be used multiple times")
+            yield usage(
+                [*call(name), option, option],
+                f"the argument '{option}' cannot be used multiple times",
+            )
         for option in sorted(own - BARE):
             called = f"'{option} <{option[2:]}>'"
-            yield usage([name, *given, option], f"a value is required for {called} but none was supplied")
-            yield usage([name, *given, option, "4", f"{option}=4"], f"the argument {called} cannot be used multiple times")
+            yield usage(
+                [name, *given, option], f"a value is required for {called} but none was supplied"
+            )
+            yield usage(
+                [name, *given, option, "4", f"{option}=4"],
+                f"the argument {called} cannot be used multiple times",
+            )
     yield usage(["run", "p", "--pcs"], "--pcs is for a trace, and --trace is missing")
     for missing in ("--size", "--sets", "--ways"):
         at = call("caches").index(missing)
-        yield usage(call("caches")[:at] + call("caches")[at + 2:], f"{missing} is missing")
+        yield usage(call("caches")[:at] + call("caches")[at + 2 :], f"{missing} is missing")
 
 
 # ---- Files.
+
 
 def files() -> Iterator[Try]:
     """Each fault of a file once, and one for each command that reads such a file, whose name is told."""
@@ -268,28 +365,70 @@ def files() -> Iterator[Try]:
     for name, row in COMMANDS.items():
         if "TRACE" in row.get("reads", ()):
             yield Try(call(name, TRACE="short"), 5, "trace Truncated 10", f"short: {cut}")
-            yield Try(call(name, TRACE="missing"), 7, "read fault", "missing: No such file or directory")
+            yield Try(
+                call(name, TRACE="missing"), 7, "read fault", "missing: No such file or directory"
+            )
         if "TABLE" in row.get("reads", ()):
-            yield Try(call(name, TABLE="missing"), 7, "read fault", "missing: No such file or directory")
+            yield Try(
+                call(name, TABLE="missing"), 7, "read fault", "missing: No such file or directory"
+            )
             # (the table is judged before the trace)
-            yield Try(call(name, TABLE="odd.moves", TRACE="short"), 14, "table BadLine 2", f"odd.moves: line 2 {FORM}")
+            yield Try(
+                call(name, TABLE="odd.moves", TRACE="short"),
+                14,
+                "table BadLine 2",
+                f"odd.moves: line 2 {FORM}",
+            )
         if "PROGRAM" in row.get("reads", ()):
-            yield Try(call(name, PROGRAM="script"), 2, "elf TooShort", "script: a script: guest/build.sh builds for RV32IMA")
-            yield Try(call(name, PROGRAM="x86.elf"), 2, "elf BadMachine", "x86.elf: an ELF file for x86: guest/build.sh builds for RV32IMA")
-            yield Try(call(name, PROGRAM="missing"), 7, "read fault", "missing: No such file or directory")
+            yield Try(
+                call(name, PROGRAM="script"),
+                2,
+                "elf TooShort",
+                "script: a script: guest/build.sh builds for RV32IMA",
+            )
+            yield Try(
+                call(name, PROGRAM="x86.elf"),
+                2,
+                "elf BadMachine",
+                "x86.elf: an ELF file for x86: guest/build.sh builds for RV32IMA",
+            )
+            yield Try(
+                call(name, PROGRAM="missing"), 7, "read fault", "missing: No such file or directory"
+            )
         if "--schedule" in SPACE[name]:
-            yield Try([*call(name), "--schedule", "short"], 3, "schedule BadLine 1",
-                      "short: line 1 isn't a hart, one space and a count, as `0 500`")
-            yield Try([*call(name), "--schedule", "missing"], 7, "read fault", "missing: No such file or directory")
+            yield Try(
+                [*call(name), "--schedule", "short"],
+                3,
+                "schedule BadLine 1",
+                "short: line 1 isn't a hart, one space and a count, as `0 500`",
+            )
+            yield Try(
+                [*call(name), "--schedule", "missing"],
+                7,
+                "read fault",
+                "missing: No such file or directory",
+            )
         if "--settings" in SPACE[name]:
-            yield Try([*call(name), "--settings", "missing"], 7, "read fault", "missing: No such file or directory")
+            yield Try(
+                [*call(name), "--settings", "missing"],
+                7,
+                "read fault",
+                "missing: No such file or directory",
+            )
 
 
 # ---- All of them.
 
+
 def fault_of(program: str, it: Try) -> str:
     """What is wrong with a call, if anything is."""
-    ran = subprocess.run([program, *it.words], stdin=subprocess.DEVNULL, capture_output=True, env=os.environ | {"LC_ALL": "C"}, check=False)
+    ran = subprocess.run(
+        [program, *it.words],
+        stdin=subprocess.DEVNULL,
+        capture_output=True,
+        env=os.environ | {"LC_ALL": "C"},
+        check=False,
+    )
     printed, said = ran.stdout.decode(errors="replace"), ran.stderr.decode(errors="replace")
     if any(c != "\n" and (ord(c) < 32 or 127 <= ord(c) < 160) for c in said):
         return f"a control character comes to standard error: {said!r}"
@@ -346,7 +485,9 @@ def main(words: list[str]) -> int:
     with tempfile.TemporaryDirectory() as folder:
         os.chdir(folder)
         put_files()
-        subprocess.run([program, "replay", "t", "--save", "saved"], stdout=subprocess.DEVNULL, check=True)
+        subprocess.run(
+            [program, "replay", "t", "--save", "saved"], stdout=subprocess.DEVNULL, check=True
+        )
         for what, kind in KINDS.items():
             tried[what] = len(list(kind()))
             failed += failures(program, kind())

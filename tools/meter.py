@@ -21,7 +21,9 @@ READ = re.compile(r"predator: (\d+) of (\d+) MiB read")
 WRITTEN = re.compile(r"predator: (\d+) MiB written")
 STEPS = re.compile(r"predator: (\d+) of at most (\d+) million steps")
 # `j 0`, in a segment of its own.
-LOOP = struct.pack("<4sBBB9xHHIIIIIHHHHHH", b"\x7fELF", 1, 1, 1, 2, 243, 1, 0x10000, 52, 0, 0, 52, 32, 1, 40, 0, 0)
+LOOP = struct.pack(
+    "<4sBBB9xHHIIIIIHHHHHH", b"\x7fELF", 1, 1, 1, 2, 243, 1, 0x10000, 52, 0, 0, 52, 32, 1, 40, 0, 0
+)
 LOOP += struct.pack("<IIIIIIII", 1, 84, 0x10000, 0, 4, 4, 5, 4) + struct.pack("<I", 0x6F)
 
 
@@ -38,7 +40,9 @@ def shown_by(words):
             pass
 
     began = time.monotonic()
-    ran = subprocess.Popen(words, stdin=subprocess.DEVNULL, stdout=subprocess.DEVNULL, stderr=theirs)
+    ran = subprocess.Popen(
+        words, stdin=subprocess.DEVNULL, stdout=subprocess.DEVNULL, stderr=theirs
+    )
     os.close(theirs)
     listener = threading.Thread(target=listen)
     listener.start()
@@ -62,14 +66,22 @@ def faults_of(what, shown, took, form, whole, told):
         found.append(f"{what}: {done} don't grow towards {whole}")
     # The last line came at most a second and a piece of the work before the end.
     if done[-1] < whole * max(0, took - 1.5) / took / 2:
-        found.append(f"{what}: {done[-1]} of {whole} is too little for the last line in {took:.1f} s")
+        found.append(
+            f"{what}: {done[-1]} of {whole} is too little for the last line in {took:.1f} s"
+        )
     return found
 
 
 def enough(seconds, few, words):
     """How much work lasts so many seconds here, by the time that little of it takes."""
     began = time.monotonic()
-    subprocess.run(words(few), stdin=subprocess.DEVNULL, stdout=subprocess.DEVNULL, stderr=subprocess.DEVNULL, check=False)
+    subprocess.run(
+        words(few),
+        stdin=subprocess.DEVNULL,
+        stdout=subprocess.DEVNULL,
+        stderr=subprocess.DEVNULL,
+        check=False,
+    )
     return int(few * seconds / (time.monotonic() - began))
 
 
@@ -78,10 +90,17 @@ def tries(program, seconds, folder):
     with open(guest, "wb") as file:
         file.write(LOOP)
     accesses = enough(seconds, 4_000_000, lambda n: [program, "gen", str(n), trace])
-    yield "gen", ["gen", str(accesses), trace], 0, WRITTEN, lambda: os.path.getsize(trace) // 2**20, False
+    yield "gen", ["gen", str(accesses), trace], 0, WRITTEN, lambda: os.path.getsize(
+        trace
+    ) // 2**20, False
     yield "replay", ["replay", trace], 0, READ, lambda: os.path.getsize(trace) // 2**20, True
     steps = enough(seconds, 64_000_000, lambda n: [program, "run", guest, "--set", f"budget={n}"])
-    yield "run", ["run", guest, "--set", f"budget={steps}"], 10, STEPS, lambda: steps // 1_000_000, True
+    yield "run", [
+        "run",
+        guest,
+        "--set",
+        f"budget={steps}",
+    ], 10, STEPS, lambda: steps // 1_000_000, True
 
 
 def main(program, seconds=3.0):
@@ -93,9 +112,15 @@ def main(program, seconds=3.0):
                 found.append(f"{what}: it ended with {status}")
             faults = faults_of(what, shown, took, form, whole(), told)
             found += faults
-            print(f"{what}: {len(form.findall(shown))} lines in {took:.1f} s{', wrong' if faults else ''}")
+            print(
+                f"{what}: {len(form.findall(shown))} lines in {took:.1f} s{', wrong' if faults else ''}"
+            )
             quiet = subprocess.run(
-                [program, *words], stdin=subprocess.DEVNULL, stdout=subprocess.DEVNULL, stderr=subprocess.PIPE, check=False
+                [program, *words],
+                stdin=subprocess.DEVNULL,
+                stdout=subprocess.DEVNULL,
+                stderr=subprocess.PIPE,
+                check=False,
             )
             if form.search(quiet.stderr.decode(errors="replace")):
                 found.append(f"{what}: a line is shown where no terminal is")

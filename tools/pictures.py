@@ -15,10 +15,19 @@ import tempfile
 TOP = os.path.abspath(os.path.join(os.path.dirname(os.path.abspath(__file__)), ".."))
 # Of each picture the calls that make its page, in a folder of their own, and the width and height that are shown.
 PICTURES = {
-    "view": ([["view", "run", f"{TOP}/guest/built/counters.elf", "--html", "page.html"]], 1000, 650),
+    "view": (
+        [["view", "run", f"{TOP}/guest/built/counters.elf", "--html", "page.html"]],
+        1000,
+        650,
+    ),
     "sweep": (
         [
-            ["run", f"{TOP}/guest/built/studies/linear_regression.elf", "--trace", "linear_regression"],
+            [
+                "run",
+                f"{TOP}/guest/built/studies/linear_regression.elf",
+                "--trace",
+                "linear_regression",
+            ],
             ["view", "sweep", "linear_regression", "--size", "64", "--html", "page.html"],
         ],
         *(1000, 640),
@@ -31,7 +40,9 @@ SAID = 2000
 
 def ran(words: list[str], folder: str) -> None:
     """Runs a command, and gives up with what it said if it fails."""
-    done = subprocess.run(words, cwd=folder, capture_output=True, encoding="utf-8", errors="replace", timeout=600)
+    done = subprocess.run(
+        words, cwd=folder, capture_output=True, encoding="utf-8", errors="replace", timeout=600
+    )
     if done.returncode:
         raise SystemExit(f"{' '.join(words)}: status {done.returncode}\n{done.stderr[-SAID:]}")
 
@@ -44,8 +55,23 @@ def draw(name: str, browser: str) -> str:
         for words in calls:
             ran([os.path.join(TOP, "bin/predator"), *words], folder)
         made = os.path.join(folder, "picture.png")
-        options = ["--headless", "--no-sandbox", "--disable-gpu", "--hide-scrollbars", f"--user-data-dir={folder}/user"]
-        ran([browser, *options, f"--window-size={width},{height}", f"--screenshot={made}", f"file://{folder}/page.html"], folder)
+        options = [
+            "--headless",
+            "--no-sandbox",
+            "--disable-gpu",
+            "--hide-scrollbars",
+            f"--user-data-dir={folder}/user",
+        ]
+        ran(
+            [
+                browser,
+                *options,
+                f"--window-size={width},{height}",
+                f"--screenshot={made}",
+                f"file://{folder}/page.html",
+            ],
+            folder,
+        )
         if not os.path.exists(made):
             raise SystemExit(f"{browser} made no picture of {name}")
         size = os.path.getsize(made)

@@ -25,7 +25,10 @@ def recount(trace, size=64, shift=0, tracking=16, report=100):
                 starts[base], counts[base] = position, 0
             held.clear()
         held.add(hart)
-    return sorted(((base, starts[base], counts[base]) for base in starts if counts[base] >= report), key=lambda it: (-it[2], it[0]))
+    return sorted(
+        ((base, starts[base], counts[base]) for base in starts if counts[base] >= report),
+        key=lambda it: (-it[2], it[0]),
+    )
 
 
 def main(words):
@@ -35,7 +38,9 @@ def main(words):
     numbers = [int(it) for it in words[1:]]
     with open(words[0], "rb") as file:
         for base, start, count in recount(file.read(), *numbers):
-            print(f"line observed {'-' if base < 0 else ''}0x{abs(base):08x} {(numbers + [64])[0]} start {start} count {count}")
+            print(
+                f"line observed {'-' if base < 0 else ''}0x{abs(base):08x} {(numbers + [64])[0]} start {start} count {count}"
+            )
     return 0
 
 

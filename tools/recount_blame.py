@@ -39,12 +39,19 @@ WORKED = [
     ("", (64, 0), []),
     ("R1 1000 4, W0 1000 8", (64, 0), [(0x1000, 1, [(4, 8, 1, 1)], [(1, 0, 1)])]),
     # Of the two readers that lose the line the later one is the victim; the earlier one's last access is of another line.
-    ("R1 1000 4, R2 1004 8, R1 2000 c, W0 1000 10", (64, 0), [(0x1000, 1, [(8, 16, 1, 0)], [(2, 0, 1)])]),
+    (
+        "R1 1000 4, R2 1004 8, R1 2000 c, W0 1000 10",
+        (64, 0),
+        [(0x1000, 1, [(8, 16, 1, 0)], [(2, 0, 1)])],
+    ),
     # What the taker read itself since is no victim's; a line that is taken oftener comes first.
     (
         "W0 1000 4, R1 1000 8, W1 1004 c, W0 2000 4, W1 2000 c, W0 2004 4",
         (64, 0),
-        [(0x2000, 2, [(4, 12, 1, 1), (12, 4, 1, 0)], [(0, 1, 1), (1, 0, 1)]), (0x1000, 1, [(4, 12, 1, 0)], [(0, 1, 1)])],
+        [
+            (0x2000, 2, [(4, 12, 1, 1), (12, 4, 1, 0)], [(0, 1, 1), (1, 0, 1)]),
+            (0x1000, 1, [(4, 12, 1, 0)], [(0, 1, 1)]),
+        ],
     ),
 ]
 
@@ -77,7 +84,11 @@ class Line(NamedTuple):
         """How many takings there are, and the pairs and the harts in the order of the text."""
         pairs = ((*both, count, self.same[both]) for both, count in self.pairs.items())
         harts = ((*both, count) for both, count in self.harts.items())
-        return sum(self.pairs.values()), sorted(pairs, key=lambda it: (-it[2], it[:2])), sorted(harts)
+        return (
+            sum(self.pairs.values()),
+            sorted(pairs, key=lambda it: (-it[2], it[:2])),
+            sorted(harts),
+        )
 
 
 def takings(accesses, size=64, shift=0):

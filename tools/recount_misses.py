@@ -17,7 +17,11 @@ from traces import Alloc, Free, Symbol, records
 WORKED = [
     ("W0 1000, W1 1004, W0 1000, W1 1004", 64, {0x1000: (2, 0, 2)}),
     ("W0 1000, R1 1000, W0 1000, R1 1000", 64, {0x1000: (2, 1, 0)}),
-    ("W0 1000, R1 1000, R2 1004, R3 1008, W0 1000, R1 1000, R2 1004, R3 1008", 64, {0x1000: (4, 1, 2)}),
+    (
+        "W0 1000, R1 1000, R2 1004, R3 1008, W0 1000, R1 1000, R2 1004, R3 1008",
+        64,
+        {0x1000: (4, 1, 2)},
+    ),
     ("W0 1000, W1 1004, W0 1000, W1 1004", 4, {0x1000: (1, 0, 0), 0x1004: (1, 0, 0)}),
     ("W0 1000, R1 1004, W0 1000, R1 1004, R1 1000", 64, {0x1000: (2, 1, 0)}),
 ]
@@ -65,7 +69,9 @@ def by_lines(objects, bases, size):
     """Of each line those objects that meet it, each given with its record, in their order; the bases rise."""
     found = {base: [] for base in bases}
     for record, it in objects:
-        for at in range(bisect_right(bases, record.addr - size), bisect_left(bases, record.addr + record.size)):
+        for at in range(
+            bisect_right(bases, record.addr - size), bisect_left(bases, record.addr + record.size)
+        ):
             found[bases[at]].append(it)
     return found
 
@@ -79,14 +85,18 @@ def told(trace, size, shift):
     bases = sorted(base for _, _, base in rows)
     symbols, blocks = table_of(others)
     name_of = site_names(symbols)
-    symbols, blocks = by_lines([(it, it) for it in symbols], bases, size), by_lines([(it[0], it) for it in blocks], bases, size)
+    symbols, blocks = by_lines([(it, it) for it in symbols], bases, size), by_lines(
+        [(it[0], it) for it in blocks], bases, size
+    )
     yield f"misses {size} {shift}"
     yield f"accesses {end}"
     yield f"lines {len(rows)}"
     for useless, useful, base in rows:
         yield f"line {address(base)} cold {counts[base][0]} useful {-useful} useless {-useless}"
         yield from objects_on(Line(0, base, size, 0), symbols[base], blocks[base], end, name_of)
-    yield "total cold {} useful {} useless {}".format(*(sum(row[at] for row in counts.values()) for at in range(3)))
+    yield "total cold {} useful {} useless {}".format(
+        *(sum(row[at] for row in counts.values()) for at in range(3))
+    )
     yield "end"
 
 

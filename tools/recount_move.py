@@ -58,7 +58,11 @@ def table_of(text: bytes) -> list[Move]:
         if len(words) != 3 or not all(map(NUMBER.fullmatch, words)):
             raise Refused(f"predator: table BadLine {number}")
         move = Move(*(int(it, 16 if it[:2] == b"0x" else 10) for it in words))
-        is_placed = move.size >= 4 and max(move.begin, move.to) + move.size <= 2**32 and not any(it % 4 for it in move)
+        is_placed = (
+            move.size >= 4
+            and max(move.begin, move.to) + move.size <= 2**32
+            and not any(it % 4 for it in move)
+        )
         if not is_placed or any(move.begin < it.begin + it.size for it in found):
             raise Refused(f"predator: table BadLine {number}")
         if any(map(move.meets, found)):
@@ -113,8 +117,15 @@ def try_worked() -> int:
     wrong = 0
     for text, addrs, wanted, line in WORKED:
         records = [struct.pack("<BHIB", 2, 0, int(it, 16), 1) for it in addrs.split()]
-        told, made = move(b"PRDTRC01" + bytes(8) + b"\1\0\0\0" + b"".join(records) + b"\6" + bytes(24), text.encode())
-        addrs_of = made and [struct.unpack_from("<I", made, at + 3)[0] for at in range(20, len(made) - 7, 8) if made[at] == 2]
+        told, made = move(
+            b"PRDTRC01" + bytes(8) + b"\1\0\0\0" + b"".join(records) + b"\6" + bytes(24),
+            text.encode(),
+        )
+        addrs_of = made and [
+            struct.unpack_from("<I", made, at + 3)[0]
+            for at in range(20, len(made) - 7, 8)
+            if made[at] == 2
+        ]
         if (told, addrs_of) != (line, wanted and [int(it, 16) for it in wanted.split()]):
             wrong += 1
             print(f"{text!r} over {addrs}: {told}, {addrs_of}")

@@ -18,8 +18,22 @@ from traces import OBJECT, Alloc, Free, Symbol, records
 WORKED = [
     ((0x1000, 8), "W0 1000, W1 1004, W0 1000", 64, [0x1040, 0x1080], (0x1040, 128), (2, 0, 0)),
     ((0x1000, 4), "W0 1000, W1 1000", 64, [0x1040], (0x1040, 64), (1, 1, 1)),
-    ((0x1000, 12), "W0 1000, W1 1004, W0 1000, W1 1008, W0 1008", 8, [0x1010, 0x1018, 0x1020], (0x1010, 24), (3, 1, 1)),
-    ((0x1004, 8), "R1 1004, R0 1008, W0 1004, W1 1008, W0 1004, W1 1008", 8, [0x1010, 0x1014], (0x1010, 8), (0, 3, 3)),
+    (
+        (0x1000, 12),
+        "W0 1000, W1 1004, W0 1000, W1 1008, W0 1008",
+        8,
+        [0x1010, 0x1018, 0x1020],
+        (0x1010, 24),
+        (3, 1, 1),
+    ),
+    (
+        (0x1004, 8),
+        "R1 1004, R0 1008, W0 1004, W1 1008, W0 1004, W1 1008",
+        8,
+        [0x1010, 0x1014],
+        (0x1010, 8),
+        (0, 3, 3),
+    ),
 ]
 
 
@@ -68,9 +82,16 @@ def placed(accesses, begin, length, size):
 
 def sums(accesses, places, many, size):
     """What the list counts, what the moved one does, and the part of that on the lines of the words of many harts."""
-    moved = [(hart, places.get(addr // 4 * 4, addr // 4 * 4) + addr % 4, is_write) for hart, addr, is_write in accesses]
+    moved = [
+        (hart, places.get(addr // 4 * 4, addr // 4 * 4) + addr % 4, is_write)
+        for hart, addr, is_write in accesses
+    ]
     after = counts(moved, size)
-    return sum(counts(accesses, size).values()), sum(after.values()), sum(it for base, it in after.items() if base in many)
+    return (
+        sum(counts(accesses, size).values()),
+        sum(after.values()),
+        sum(it for base, it in after.items() if base in many),
+    )
 
 
 def told(trace, name, size):
@@ -83,12 +104,18 @@ def told(trace, name, size):
     touched, places, area, many = placed(accesses, *found, size)
     if sum(area) > 2**32:
         return ["predator: place NoRoom"]
-    owners = {word: "many" if len(harts) > 1 else f"hart {min(harts)}" for word, harts in touched.items()}
+    owners = {
+        word: "many" if len(harts) > 1 else f"hart {min(harts)}" for word, harts in touched.items()
+    }
     before, after, many = sums(accesses, places, many, size)
     return [
         f"place {printed(name)} {address(found[0])} {found[1]} line {size}",
         f"words {len(places)}",
-        *(f"word {address(word)} to {address(to)} {owners[word]}" for word, to in places.items() if word in owners),
+        *(
+            f"word {address(word)} to {address(to)} {owners[word]}"
+            for word, to in places.items()
+            if word in owners
+        ),
         f"area {address(area[0])} {area[1]}",
         *(f"before {before}", f"after {after}", f"many {many}", "end"),
     ]
@@ -115,7 +142,9 @@ def main(words):
         print(__doc__)
         return 0 if words in (["--help"], ["-h"]) else 1
     with open(words[0], "rb") as file:
-        sys.stdout.writelines(f"{it}\n" for it in told(file.read(), words[1].encode(), int((words[3:] or [64])[0])))
+        sys.stdout.writelines(
+            f"{it}\n" for it in told(file.read(), words[1].encode(), int((words[3:] or [64])[0]))
+        )
     return 0
 
 

@@ -10,8 +10,17 @@ NUMBERS = {name: number for number, name in enumerate(REGISTERS)}
 # What of an R instruction its register fields leave: funct7 << 25 | funct3 << 12.
 OPERATIONS = {"add": 0, "sub": 1 << 30, "mul": 1 << 25, "and": 7 << 12, "srl": 5 << 12}
 CALLS = {
-    "write": 64, "exit": 93, "exit_group": 94, "alloc": 1024, "free": 1025, "spawn": 1026, "join": 1027, "wait": 1028, "wake": 1029,
-    "block": 1031, "unblock": 1032,
+    "write": 64,
+    "exit": 93,
+    "exit_group": 94,
+    "alloc": 1024,
+    "free": 1025,
+    "spawn": 1026,
+    "join": 1027,
+    "wait": 1028,
+    "wake": 1029,
+    "block": 1031,
+    "unblock": 1032,
 }
 
 
@@ -43,7 +52,13 @@ class Code:
             self.addi(to, to, value & 0xFFF)
 
     def put(self, operation: str, to: str, one: str, other: str) -> None:
-        self.words.append(OPERATIONS[operation] | NUMBERS[other] << 20 | NUMBERS[one] << 15 | NUMBERS[to] << 7 | 0x33)
+        self.words.append(
+            OPERATIONS[operation]
+            | NUMBERS[other] << 20
+            | NUMBERS[one] << 15
+            | NUMBERS[to] << 7
+            | 0x33
+        )
 
     def load(self, to: str, at: str) -> None:
         self.words.append(NUMBERS[at] << 15 | 2 << 12 | NUMBERS[to] << 7 | 0x03)
@@ -70,8 +85,14 @@ class Code:
         """Back to a place where 0: they are equal; 1: they aren't; 6: the first is less, without signs."""
         by = to - self.here()
         self.words.append(
-            (by >> 12 & 1) << 31 | (by >> 5 & 63) << 25 | NUMBERS[other] << 20 | NUMBERS[one] << 15 | test << 12
-            | (by >> 1 & 15) << 8 | (by >> 11 & 1) << 7 | 0x63
+            (by >> 12 & 1) << 31
+            | (by >> 5 & 63) << 25
+            | NUMBERS[other] << 20
+            | NUMBERS[one] << 15
+            | test << 12
+            | (by >> 1 & 15) << 8
+            | (by >> 11 & 1) << 7
+            | 0x63
         )
 
     @contextmanager
@@ -87,7 +108,12 @@ class Code:
         words = self.words.copy()
         for place, name in self.jumps:
             by = self.labels[name] - (CODE + 4 * place)
-            words[place] |= (by >> 20 & 1) << 31 | (by >> 1 & 1023) << 21 | (by >> 11 & 1) << 20 | (by >> 12 & 255) << 12
+            words[place] |= (
+                (by >> 20 & 1) << 31
+                | (by >> 1 & 1023) << 21
+                | (by >> 11 & 1) << 20
+                | (by >> 12 & 255) << 12
+            )
         return struct.pack(f"<{len(words)}I", *words)
 
 
@@ -112,14 +138,35 @@ def elf(segments: list[Segment], symbols: list[Symbol] = [], names: bytes = b"\0
     rows, content = b"", b""
     begin = 52 + 32 * len(segments)
     for it in segments:
-        rows += struct.pack("<8I", 1, begin + len(content), it.addr, 0, len(it.content), it.size, it.rights, 0)
+        rows += struct.pack(
+            "<8I", 1, begin + len(content), it.addr, 0, len(it.content), it.size, it.rights, 0
+        )
         content += it.content
-    table = b"".join(struct.pack("<IIIBBH", it.name, it.addr, it.size, 16 + it.kind, 0, 1) for it in symbols)
+    table = b"".join(
+        struct.pack("<IIIBBH", it.name, it.addr, it.size, 16 + it.kind, 0, 1) for it in symbols
+    )
     at = begin + len(content)
     sections = bytes(40) + struct.pack("<10I", 0, 2, 0, 0, at, len(table), 2, 0, 4, 16)
     sections += struct.pack("<10I", 0, 3, 0, 0, at + len(table), len(names), 0, 0, 1, 0)
     header = struct.pack(
-        "<4sBBB9xHHIIIIIHHHHHH", b"\x7fELF", 1, 1, 1, 2, 243, 1, CODE, 52, at + len(table) + len(names), 0, 52, 32, len(segments), 40, 3, 0
+        "<4sBBB9xHHIIIIIHHHHHH",
+        b"\x7fELF",
+        1,
+        1,
+        1,
+        2,
+        243,
+        1,
+        CODE,
+        52,
+        at + len(table) + len(names),
+        0,
+        52,
+        32,
+        len(segments),
+        40,
+        3,
+        0,
     )
     return header + rows + content + table + names + sections
 

@@ -48,10 +48,13 @@ class Try(NamedTuple):
 
 # ---- Traces in which two harts write neighbouring words of a line in turn.
 
+
 def fight(name: str, count: int, first: int = 0, with_symbol: bool = True) -> None:
     piece = files.records([(0, "W", BASE), (1, "W", BASE + 4)] * PIECE)
     with open(name, "wb") as file:
-        file.write(files.header(first=first) + (files.symbol(BASE, 8, b"pair") if with_symbol else b""))
+        file.write(
+            files.header(first=first) + (files.symbol(BASE, 8, b"pair") if with_symbol else b"")
+        )
         left = 8 * count
         while left:
             left -= file.write(piece[:left])
@@ -92,19 +95,25 @@ def often(piece: bytes, count: int) -> Iterator[bytes]:
 
 def converted(count: int) -> str:
     """The sum of the trace in version 2."""
+
     def pieces() -> Iterator[bytes]:
-        yield files.header(version=2) + files.symbol(BASE, 8, b"pair") + files.converted([(0, "W", BASE), (1, "W", BASE + 4)])[20:-25]
+        yield files.header(version=2) + files.symbol(BASE, 8, b"pair") + files.converted(
+            [(0, "W", BASE), (1, "W", BASE + 4)]
+        )[20:-25]
         yield from often(b"\x24\0\7\x24\1\x08", count // 2 - 1)
         yield files.ending(count)
+
     return sum_of(pieces())
 
 
 def moved(count: int) -> str:
     """The sum of the trace with the second word 64 bytes behind its line's begin."""
+
     def pieces() -> Iterator[bytes]:
         yield files.header() + files.symbol(BASE, 8, b"pair")
         yield from often(files.records([(0, "W", BASE), (1, "W", BASE + 64)]), count // 2)
         yield files.ending(count)
+
     return sum_of(pieces())
 
 
@@ -120,19 +129,34 @@ def halves(count: int, at: int) -> dict[str, str]:
         yield files.header(first=at)
         yield from often(pair, (count - at) // 2)
         yield files.ending(count - at, count)
+
     return {"a": sum_of(first()), "b": sum_of(second())}
 
 
 def fought(count: int, steps: int | None = None) -> bytes:
     """The report of `replay --size 64` with each line tracked and listed."""
-    rows = [f"line observed {BASE:#010x} 64 start 0 count {count - 1} verdict false", f"object symbol pair {BASE:#010x} 8"]
-    rows += [f"word {BASE + 4 * hart:#010x} reads 0 writes {count // 2} hart {hart}" for hart in (0, 1)]
+    rows = [
+        f"line observed {BASE:#010x} 64 start 0 count {count - 1} verdict false",
+        f"object symbol pair {BASE:#010x} 8",
+    ]
+    rows += [
+        f"word {BASE + 4 * hart:#010x} reads 0 writes {count // 2} hart {hart}" for hart in (0, 1)
+    ]
     return report("exit 0", count if steps is None else steps, count, "64 0", "1 none 1", rows, 1)
 
 
 def placed(count: int) -> bytes:
-    return lines(f"place pair {BASE:#010x} 8 line 64", "words 2", f"word {BASE:#010x} to 0x00001080 hart 0",
-                 f"word {BASE + 4:#010x} to 0x000010c0 hart 1", "area 0x00001080 128", f"before {count - 1}", "after 0", "many 0", "end")
+    return lines(
+        f"place pair {BASE:#010x} 8 line 64",
+        "words 2",
+        f"word {BASE:#010x} to 0x00001080 hart 0",
+        f"word {BASE + 4:#010x} to 0x000010c0 hart 1",
+        "area 0x00001080 128",
+        f"before {count - 1}",
+        "after 0",
+        "many 0",
+        "end",
+    )
 
 
 def of_trace(name: str, count: int) -> Iterator[Try]:
@@ -140,14 +164,43 @@ def of_trace(name: str, count: int) -> Iterator[Try]:
     at, listed = count // 2, "--size 64 --set tracking=1,report=1"
     total = f"total cold 2 useful 0 useless {count - 2}"
     yield Try(f"replay {name} {listed}", fought(count), 40)
-    yield Try(f"misses {name}", lines(
-        "misses 64 0", f"accesses {count}", "lines 1", f"line {BASE:#010x} cold 2 useful 0 useless {count - 2}",
-        f"object symbol pair {BASE:#010x} 8", total, "end"), 40)
-    yield Try(f"sweep {name} --size 8", lines(
-        "sweep 8", f"accesses {count}", f"shift 0 total {count - 1} lines 1", "shift 4 total 0 lines 0", "least 4 total 0", "end"), 40)
-    yield Try(f"caches {name} --size 64 --sets 1 --ways 1", lines(
-        "caches 64 1 1", f"accesses {count}", "lines 1", f"line {BASE:#010x} bounded {count - 1} unbounded {count - 1} evicted 0",
-        f"total bounded {count - 1} unbounded {count - 1} evicted 0", "end"), 40)
+    yield Try(
+        f"misses {name}",
+        lines(
+            "misses 64 0",
+            f"accesses {count}",
+            "lines 1",
+            f"line {BASE:#010x} cold 2 useful 0 useless {count - 2}",
+            f"object symbol pair {BASE:#010x} 8",
+            total,
+            "end",
+        ),
+        40,
+    )
+    yield Try(
+        f"sweep {name} --size 8",
+        lines(
+            "sweep 8",
+            f"accesses {count}",
+            f"shift 0 total {count - 1} lines 1",
+            "shift 4 total 0 lines 0",
+            "least 4 total 0",
+            "end",
+        ),
+        40,
+    )
+    yield Try(
+        f"caches {name} --size 64 --sets 1 --ways 1",
+        lines(
+            "caches 64 1 1",
+            f"accesses {count}",
+            "lines 1",
+            f"line {BASE:#010x} bounded {count - 1} unbounded {count - 1} evicted 0",
+            f"total bounded {count - 1} unbounded {count - 1} evicted 0",
+            "end",
+        ),
+        40,
+    )
     yield Try(f"place {name} pair", placed(count), 40)
     put("apart", b"%d 4 %d\n" % (BASE + 4, BASE + 64))
     yield Try(f"move {name} apart m", lines(f"move {count} {count // 2}"), 40, {"m": moved(count)})
@@ -158,21 +211,42 @@ def of_trace(name: str, count: int) -> Iterator[Try]:
 def blamed(count: int) -> Iterator[Try]:
     """Each access but the first takes the line."""
     one, other = (f"{pc:#010x}" for pc in files.PCS)
-    yield Try("blame blamed", lines(
-        "predator blame 1", f"accesses {count}", "layout 64 0", "lines 1", f"line {BASE:#010x} takings {count - 1} pairs 2 harts 2",
-        f"pair {one} {other} taken {count // 2} same 0", f"pair {other} {one} taken {count // 2 - 1} same 0",
-        f"from 0 to 1 taken {count // 2}", f"from 1 to 0 taken {count // 2 - 1}", f"total takings {count - 1}", "end"), 40)
+    yield Try(
+        "blame blamed",
+        lines(
+            "predator blame 1",
+            f"accesses {count}",
+            "layout 64 0",
+            "lines 1",
+            f"line {BASE:#010x} takings {count - 1} pairs 2 harts 2",
+            f"pair {one} {other} taken {count // 2} same 0",
+            f"pair {other} {one} taken {count // 2 - 1} same 0",
+            f"from 0 to 1 taken {count // 2}",
+            f"from 1 to 0 taken {count // 2 - 1}",
+            f"total takings {count - 1}",
+            "end",
+        ),
+        40,
+    )
 
 
 def long_table() -> Iterator[Try]:
     """A table as long as one may be, of which each word goes to the place that another one leaves."""
     size = len("0x00100000 4 0x00100000\n")
     count = (MIB - 1) // size
-    rows = "".join(f"{0x100000 + 4 * at:#010x} 4 {0x100000 + 4 * (count - 1 - at):#010x}\n" for at in range(count))
+    rows = "".join(
+        f"{0x100000 + 4 * at:#010x} 4 {0x100000 + 4 * (count - 1 - at):#010x}\n"
+        for at in range(count)
+    )
     put("table", rows.encode().ljust(MIB, b"\n"))
     put("words", files.trace([(0, "W", 0x100000 + 4 * at) for at in range(count)]))
     moved_to = files.trace([(0, "W", 0x100000 + 4 * at) for at in reversed(range(count))])
-    yield Try("move words table m", lines(f"move {count} {count}"), 40, {"m": hashlib.sha256(moved_to).hexdigest()})
+    yield Try(
+        "move words table m",
+        lines(f"move {count} {count}"),
+        40,
+        {"m": hashlib.sha256(moved_to).hexdigest()},
+    )
 
 
 def parts(count: int) -> Iterator[Try]:
@@ -183,6 +257,7 @@ def parts(count: int) -> Iterator[Try]:
 
 
 # ---- Runs.
+
 
 def fighting(times: int) -> bytes:
     """Two harts each write a word of the line at DATA so often, and read it."""
@@ -222,10 +297,16 @@ def runs() -> Iterator[Try]:
     """More than 2^24 accesses of a run and of `explain`, and more blocks, and notes of blocks, than 65,536."""
     half = LONG // 4 + 1
     put("fights.elf", fighting(half))
-    rows = [f"word {DATA + 4 * hart:#010x} reads {half} writes {half} hart {hart}" for hart in (0, 1)]
+    rows = [
+        f"word {DATA + 4 * hart:#010x} reads {half} writes {half} hart {hart}" for hart in (0, 1)
+    ]
     counted = ("predator report 1", "outcome exit 0", f"accesses {4 * half}", *rows)
     yield Try("run fights.elf --set quantum=4,tracking=1,report=1", counted, 80)
-    yield Try(f"explain fights.elf {DATA:#010x} 64 0 --set quantum=4", (f"line {DATA:#010x} 64 start 0 count ", "end"), 80)
+    yield Try(
+        f"explain fights.elf {DATA:#010x} 64 0 --set quantum=4",
+        (f"line {DATA:#010x} 64 start 0 count ", "end"),
+        80,
+    )
     put("notes.elf", calling(MANY, ("block", "s0", 8)))
     put("blocks.elf", calling(MANY, ("alloc", 8, 0)))
     for name in ("notes", "blocks"):
@@ -261,12 +342,22 @@ def large_files() -> Iterator[Try]:
     count = 600_000
     put("written", files.trace([(0, "W", 0x100000 + 4 * it) for it in range(count)]))
     state = hashlib.sha256(files.written_state(count)).hexdigest()
-    yield Try("replay written --size 4 --set tracking=1 --save s", ("accesses 600000",), 600, {"s": state})
+    yield Try(
+        "replay written --size 4 --set tracking=1 --save s", ("accesses 600000",), 600, {"s": state}
+    )
     put("rest", files.header(first=count) + files.ending(0))
-    yield Try("replay rest --size 4 --set tracking=1 --resume s --save r", ("accesses 600000",), 600, {"r": state})
+    yield Try(
+        "replay rest --size 4 --set tracking=1 --resume s --save r",
+        ("accesses 600000",),
+        600,
+        {"r": state},
+    )
     guest = files.guest(33 * MIB // 8, 33 * 256, 1)
     put("guest.elf", guest.file)
-    sums = {"t": hashlib.sha256(guest.trace).hexdigest(), "o": hashlib.sha256(guest.output).hexdigest()}
+    sums = {
+        "t": hashlib.sha256(guest.trace).hexdigest(),
+        "o": hashlib.sha256(guest.output).hexdigest(),
+    }
     yield Try("run guest.elf --trace t --output o", ("outcome exit 0",), 80, sums)
     sums = {"t": hashlib.sha256(guest.sited).hexdigest()}
     yield Try("run guest.elf --trace t --pcs --output o", ("outcome exit 0",), 80, sums)
@@ -279,11 +370,20 @@ def put(name: str, content: bytes) -> None:
 
 # ---- All of them.
 
+
 def fault_of(program: str, it: Try) -> str:
     """What is wrong with a call, if anything is."""
+
     def limit() -> None:
         resource.setrlimit(resource.RLIMIT_AS, (it.most * MIB, it.most * MIB))
-    ran = subprocess.run([program, *it.words.split()], stdin=subprocess.DEVNULL, capture_output=True, preexec_fn=limit, check=False)
+
+    ran = subprocess.run(
+        [program, *it.words.split()],
+        stdin=subprocess.DEVNULL,
+        capture_output=True,
+        preexec_fn=limit,
+        check=False,
+    )
     if ran.returncode != it.status or ran.stderr:
         return f"it ended with {ran.returncode}, printed {ran.stdout[:60]!r} and said {ran.stderr[-200:]!r}"
     if isinstance(it.printed, bytes):

@@ -49,7 +49,9 @@ def accesses(lines, splits):
         if not 0 <= addr < addr + size <= 2**64:
             stop(f"line {number} lies outside 64 bits, or has no bytes: {line.strip()}")
         if not splits and (size not in (1, 2, 4) or addr % size != 0):
-            stop(f"line {number} isn't 1, 2 or 4 bytes at a multiple of them (--split takes it apart): {line.strip()}")
+            stop(
+                f"line {number} isn't 1, 2 or 4 bytes at a multiple of them (--split takes it apart): {line.strip()}"
+            )
         number_of = harts.setdefault(hart, len(harts))
         found += [(number_of, tag, at, piece) for at, piece in pieces(addr, size)]
     if len(harts) > 256:
@@ -74,7 +76,9 @@ def write(found, harts, table, path):
     with open(path, "wb") as out:
         out.write(struct.pack("<8sQHH", b"PRDTRC01", 0, harts, 0))
         for hart, tag, addr, size in found:
-            out.write(struct.pack("<BHIB", tag, hart, table[addr // PAGE] * PAGE + addr % PAGE, size))
+            out.write(
+                struct.pack("<BHIB", tag, hart, table[addr // PAGE] * PAGE + addr % PAGE, size)
+            )
         # exit 0; nobody counted the steps
         out.write(struct.pack("<B8xQQ", 6, 0, len(found)))
 
@@ -111,7 +115,9 @@ def main(words):
         table_path = words[at + 1]
         del words[at : at + 2]
     if len(words) != 2 or any(it.startswith("--") for it in words):
-        stop("usage: to_trace.py LINES OUT.trace [--split] [--table FILE] | to_trace.py --back FILE ADDRESS ..")
+        stop(
+            "usage: to_trace.py LINES OUT.trace [--split] [--table FILE] | to_trace.py --back FILE ADDRESS .."
+        )
     with sys.stdin if words[0] == "-" else open(words[0]) as lines:
         found, harts = accesses(lines, splits)
     table = table_of(found)

@@ -107,7 +107,11 @@ def with_pcs(trace, pc_of: Callable[[Access, int], int]):
             before = pcs.get(it.hart, 0)
             pc = pc_of(it, before)
             size = trace[place - 1]
-            parts.append(bytes((16 * (1 + it.writes) + size, it.hart)) + groups(it.addr - last) + groups(pc - before))
+            parts.append(
+                bytes((16 * (1 + it.writes) + size, it.hart))
+                + groups(it.addr - last)
+                + groups(pc - before)
+            )
             last, pcs[it.hart] = it.addr, pc
         else:
             parts.append(trace[start:place])

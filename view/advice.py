@@ -72,7 +72,9 @@ def is_shared(word: Told) -> bool:
     """Whether harts hand a word to each other; a word's own misses tell, and without them its harts."""
     if word.useful is None:
         return word.hart == "many" and word.writes > 0
-    return word.writes > 0 and word.useful > LOOKS and word.useful * SELDOM > word.reads + word.writes
+    return (
+        word.writes > 0 and word.useful > LOOKS and word.useful * SELDOM > word.reads + word.writes
+    )
 
 
 def is_packed(word: Told) -> bool:
@@ -121,12 +123,18 @@ def groups(words: Iterable[Told]) -> Groups:
 
 def is_fought(found: Groups) -> bool:
     """Whether words of some groups take lines from each other: one of them is written."""
-    return len(found) > 1 and any(key.whose != READ and any(it.writes for it in own) for key, own in found.items())
+    return len(found) > 1 and any(
+        key.whose != READ and any(it.writes for it in own) for key, own in found.items()
+    )
 
 
 def told(key: Whose, words: Sequence[Told], size: int, element: Element) -> str:
     """A group of words, and whose it is; of an array whose elements each belong apart, how."""
-    array = array_of(words) if key.whose == SHARED and (is_waited_for(words) or all(map(is_packed, words))) else None
+    array = (
+        array_of(words)
+        if key.whose == SHARED and (is_waited_for(words) or all(map(is_packed, words)))
+        else None
+    )
     if not array:
         names = patterns(it.whole() for it in words)
         return f"{all_of(names) if is_field(names[0]) else listing(names)} ({key.whose})"
@@ -182,7 +190,11 @@ def is_raw(words: Sequence[Told], thing: Thing) -> bool:
 def groups_apart(own: Sequence[Told], thing: Thing, size: int, element: Element) -> str:
     """Which words of a line belong apart."""
     found = groups(own)
-    if len(found) > 2 and not any(it.element for it in own) and all(key.whose != SHARED for key in found):
+    if (
+        len(found) > 2
+        and not any(it.element for it in own)
+        and all(key.whose != SHARED for key in found)
+    ):
         how = f"with `{attribute(size)}` on the type of its elements"
         return f"harts have words of their own in {thing.name}: give each hart's words lines of their own, {how}"
     if len(found) < 2:
@@ -199,10 +211,10 @@ def apart(words: Iterable[Told], thing: Thing, size: int, element: Element) -> s
     own = [it for it in words if it.key == thing.key]
     if isinstance(thing.key, OfStack):
         return f"other harts use variables of this stack: `{attribute(size)}` on these, or a place of their own"
-    if isinstance(thing.key, OfBlocks) and any(len({it.begin for it in line}) > 1 for line in lines(own)):
-        how = (
-            f"`aligned_alloc({size}, ..)`, with sizes that are multiples of {size}, or {size} bytes more for each, and its start rounded up"
-        )
+    if isinstance(thing.key, OfBlocks) and any(
+        len({it.begin for it in line}) > 1 for line in lines(own)
+    ):
+        how = f"`aligned_alloc({size}, ..)`, with sizes that are multiples of {size}, or {size} bytes more for each, and its start rounded up"
         return f"let no two of these blocks share a line: {how}"
     own = fought(own)
     if own and is_raw(own, thing):
@@ -225,7 +237,11 @@ def neighbours(words: Sequence[Told], thing: Thing, names: Mapping[Key, str]) ->
         if own or it.writes:
             found[it.key] = found.get(it.key, 0) + it.reads + it.writes
     # (what is looked at once or twice doesn't fight)
-    return [names[key] for key, much in found.items() if key in names and much * SELDOM > sum(found.values())]
+    return [
+        names[key]
+        for key, much in found.items()
+        if key in names and much * SELDOM > sum(found.values())
+    ]
 
 
 def cost(thing: Thing, words: Iterable[Told]) -> str:
@@ -252,9 +268,7 @@ def placing(placed: Placed | None, name: Callable[[int], str]) -> str:
     told = [f"{listing(names)} ({whose})" for whose, names in found.items()]
     more = len(told) - NAMED
     where = "; ".join(told[:NAMED]) + (f"; and {more} more" if more > 0 else "")
-    return (
-        f"; `place` puts its words apart by their harts, {where}: then lines are taken {placed.after} times in all, and not {placed.before}"
-    )
+    return f"; `place` puts its words apart by their harts, {where}: then lines are taken {placed.after} times in all, and not {placed.before}"
 
 
 def little(thing: Thing, total: int) -> str:
@@ -278,7 +292,9 @@ def is_true(thing: Thing, is_counted: bool) -> bool:
 
 def packed_most(own: Sequence[Told]) -> bool:
     """Whether words with several fields or elements are most of what is missed of some shared words."""
-    return 2 * sum(it.useful or 1 for it in own if is_packed(it)) > sum(it.useful or 1 for it in own)
+    return 2 * sum(it.useful or 1 for it in own if is_packed(it)) > sum(
+        it.useful or 1 for it in own
+    )
 
 
 def bytewise(own: Iterable[Told]) -> str:
@@ -289,27 +305,39 @@ def bytewise(own: Iterable[Told]) -> str:
 def truly(thing: Thing, words: Sequence[Told], own: Sequence[Told], is_counted: bool) -> str:
     """What to do about words that harts hand to each other, `own` of some."""
     total, packed = thing.useful + thing.useless, bytewise(own)
-    much = f" ({thing.useful} of {total} misses bring what another hart wrote)" if is_counted else ""
+    much = (
+        f" ({thing.useful} of {total} misses bring what another hart wrote)" if is_counted else ""
+    )
     said = f"the sharing of {written_most(own) or thing.name} is true{much}"
     if packed and packed_most(own):
         how = "where harts use different ones, give each a line of its own and look again"
         return f"{said}, as far as whole words tell, and several fields or elements lie in one word there: {how}"
     less = f"{said}: write it less often, or give each hart its own; "
     if packed:
-        return less + f"several fields or elements lie in a word of {packed}: where harts use different ones, give each a line of its own"
+        return (
+            less
+            + f"several fields or elements lie in a word of {packed}: where harts use different ones, give each a line of its own"
+        )
     if not all(it.kind.is_typed for it in own):
-        return less + "padding helps only where harts use different bytes of a word" + cost(thing, words)
+        return (
+            less
+            + "padding helps only where harts use different bytes of a word"
+            + cost(thing, words)
+        )
     return less + "padding doesn't help" + cost(thing, words)
 
 
 def in_turns(thing: Thing, words: Iterable[Told], turns: int) -> str:
     """That long turns hide what harts do at the same time, where that may be."""
     own, missed = [it for it in words if it.key == thing.key], thing.worst().missed
-    if turns <= SHORT or missed is None or missed.useful + missed.useless < MANY or len(groups(fought(own) or ())) < 2:
+    if (
+        turns <= SHORT
+        or missed is None
+        or missed.useful + missed.useless < MANY
+        or len(groups(fought(own) or ())) < 2
+    ):
         return ""
-    return (
-        f"; but harts took turns of {turns} steps, which hides what they do at the same time: look with `quantum = 1` in the settings too"
-    )
+    return f"; but harts took turns of {turns} steps, which hides what they do at the same time: look with `quantum = 1` in the settings too"
 
 
 def written_most(words: Iterable[Told]) -> str:
@@ -317,7 +345,9 @@ def written_most(words: Iterable[Told]) -> str:
     return listing(it.whole() for it in sorted(words, key=lambda it: -it.writes))
 
 
-def parted(words: Sequence[Told], thing: Thing, names: Mapping[Key, str], size: int, element: Element) -> str:
+def parted(
+    words: Sequence[Told], thing: Thing, names: Mapping[Key, str], size: int, element: Element
+) -> str:
     """What belongs apart: an object and those beside it, and its own words where these fight with each other."""
     beside = neighbours(words, thing, names)
     if not beside:
@@ -329,7 +359,13 @@ def parted(words: Sequence[Told], thing: Thing, names: Mapping[Key, str], size: 
 
 
 def sentence(
-    thing: Thing, words: Sequence[Told], names: Mapping[Key, str], size: int, is_counted: bool, element: Element, turns: int = 0
+    thing: Thing,
+    words: Sequence[Told],
+    names: Mapping[Key, str],
+    size: int,
+    is_counted: bool,
+    element: Element,
+    turns: int = 0,
 ) -> str:
     """What to do; the words are those of the worst line first, `names` those of the objects beside it by their keys, and `turns` how many
     steps a hart's turn has, where that is known."""
@@ -339,7 +375,9 @@ def sentence(
     if is_counted and not words and thing.useless:
         how = "with a lower `report` (and `tracking`) in the settings its words are told"
         return f"{thing.useless} of {total} misses bring nothing new; {how}"
-    own, truth = [it for it in words if is_shared(it) and it.key == thing.key], is_true(thing, is_counted)
+    own, truth = [it for it in words if is_shared(it) and it.key == thing.key], is_true(
+        thing, is_counted
+    )
     if truth and (not is_counted or thing.useless * SELDOM < thing.useful):
         return truly(thing, words, own, is_counted) + in_turns(thing, words, turns)
     what = parted(words, thing, names, size, element)

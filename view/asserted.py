@@ -21,7 +21,9 @@ LOADS = re.compile(
 STUB, STUB_SIZE = re.compile(rb"\xf3\x0f\x1e\xfa(?:\x41\xbb.{4})?\xf2?\Z", re.DOTALL), 11
 SOURCE, NAME = re.compile(rb"[^\x00-\x1f\x7f]+\.[A-Za-z+]{1,4}"), re.compile(rb"[\x20-\x7e]+")
 # What is before the folder of a package's sources, as they were compiled.
-BUILT = re.compile(r"^/(?:.*?/)?(?:build|builddir|usr/src)/(?:reproducible-path/)?[^/]+/|^(?:\.\./)+")
+BUILT = re.compile(
+    r"^/(?:.*?/)?(?:build|builddir|usr/src)/(?:reproducible-path/)?[^/]+/|^(?:\.\./)+"
+)
 LIBRARY = re.compile(r"(?:^|/)usr/(?:local/)?include/|/include/c\+\+/|/lib/gcc/")
 HEADER = re.compile(r"\.(?:h|hh|hpp|hxx|h\+\+|inc|inl|ipp|tcc|tpp)$")
 WITH = re.compile(r" \[(?:with )?(.*)\]$")
@@ -75,7 +77,15 @@ class Assertions:
     def failing(self) -> set[int]:
         """What is called where one fails: the words with the function's address, and the jumps through these."""
         slots = self.image.slots(FAILING)
-        jumps = {at for at, word in self.image.found(THROUGH) if word in slots and self.image.is_jump(at)} if slots else set[int]()
+        jumps = (
+            {
+                at
+                for at, word in self.image.found(THROUGH)
+                if word in slots and self.image.is_jump(at)
+            }
+            if slots
+            else set[int]()
+        )
         return slots | {it for at in jumps for it in (at, self.stub(at))}
 
     def stub(self, jump: int) -> int:
@@ -86,8 +96,17 @@ class Assertions:
     def of(self, start: int, end: int) -> list[Assertion]:
         """The assertions between two addresses."""
         code = self.image.bytes(start, end - start) if self.failing else b""
-        calls = [at for form in (CALL, THROUGH) for at, to in jumped(code, start, form) if to in self.failing]
-        return [it for at in sorted(calls) if (it := self.assertion(at, code[max(at - start - LOADED, 0) : at - start]))]
+        calls = [
+            at
+            for form in (CALL, THROUGH)
+            for at, to in jumped(code, start, form)
+            if to in self.failing
+        ]
+        return [
+            it
+            for at in sorted(calls)
+            if (it := self.assertion(at, code[max(at - start - LOADED, 0) : at - start]))
+        ]
 
     def assertion(self, at: int, loads: bytes) -> Assertion | None:
         """The assertion that is called somewhere, by what is loaded before, or none."""
@@ -100,7 +119,14 @@ class Assertions:
         if not SOURCE.fullmatch(file) or not 0 < line < 1 << 20:
             return None
         function = function_named(name.decode("latin-1")) if NAME.fullmatch(name) else ""
-        return Assertion(at - len(loads) + told.start(), at, file.decode("utf-8", "replace"), line, function, texts)
+        return Assertion(
+            at - len(loads) + told.start(),
+            at,
+            file.decode("utf-8", "replace"),
+            line,
+            function,
+            texts,
+        )
 
     def loaded(self, told: re.Match[bytes], begin: int, what: str) -> int:
         """The address of a text that is loaded, or 0."""

@@ -59,14 +59,22 @@ def under(report: Report, naming: Naming) -> Under:
     names = {it.key: naming.names.shortened(naming.key_name(it.key, it.example)) for it in things}
     # (of things that have one name, each with its place)
     twice = Counter(names.values())
-    names = {it.key: names[it.key] + (place(it) if twice[names[it.key]] > 1 else "") for it in things}
+    names = {
+        it.key: names[it.key] + (place(it) if twice[names[it.key]] > 1 else "") for it in things
+    }
     borders = {it.key: held(line, naming) for it in things if (line := it.worst().line)}
     return Under({it.key: it.count for it in things}, names, borders)
 
 
 def place(thing: Thing) -> str:
     key = thing.key
-    addr = key.addr if isinstance(key, OfSymbol) else thing.example.addr if thing.example else thing.spots[0].base
+    addr = (
+        key.addr
+        if isinstance(key, OfSymbol)
+        else thing.example.addr
+        if thing.example
+        else thing.spots[0].base
+    )
     return f" at {shown(addr)}"
 
 
@@ -83,7 +91,9 @@ def crossed(trace: str, size: int, totals: dict[int, int], peak: int, least: int
         # (a text may be long, and is let go before the next one is read)
         own = under(Report(texts.pop(0)), naming)
         if sum(own.counts.values()) != total:
-            raise Fault(f"`sweep` counts {total} with the shift {shift}, and `replay` doesn't: the trace isn't the same any more")
+            raise Fault(
+                f"`sweep` counts {total} with the shift {shift}, and `replay` doesn't: the trace isn't the same any more"
+            )
         found.append(own)
     return ordered(found, list(totals).index(peak), list(totals).index(least))
 
@@ -92,5 +102,10 @@ def ordered(found: Sequence[Under], peak: int, least: int) -> list[Crossed]:
     objects: list[Crossed] = []
     for key in dict.fromkeys(key for it in (found[peak], *found) for key in it.counts):
         name = next(it.names[key] for it in (found[peak], *found) if key in it.names)
-        objects.append(Crossed(name, [it.counts.get(key, 0) for it in found], found[peak].borders.get(key, "")))
-    return sorted(objects, key=lambda it: (-it.differs(peak, least), -it.counts[peak], -max(it.counts), it.name))
+        objects.append(
+            Crossed(name, [it.counts.get(key, 0) for it in found], found[peak].borders.get(key, ""))
+        )
+    return sorted(
+        objects,
+        key=lambda it: (-it.differs(peak, least), -it.counts[peak], -max(it.counts), it.name),
+    )

@@ -20,7 +20,9 @@ from screen import counted
 USUAL = ("64x16x2", "64x32x4", "64x64x8", "64x512x8")
 # So many lines are shown where the call doesn't say.
 LINES = 40
-LINE = re.compile(r"^line (0x[0-9a-f]{8}) bounded (\d+) unbounded (\d+) evicted (\d+)$", re.MULTILINE)
+LINE = re.compile(
+    r"^line (0x[0-9a-f]{8}) bounded (\d+) unbounded (\d+) evicted (\d+)$", re.MULTILINE
+)
 TOTAL = re.compile(r"^total bounded (\d+) unbounded (\d+) evicted (\d+)\nend\n\Z", re.MULTILINE)
 
 
@@ -39,7 +41,15 @@ class Shape(NamedTuple):
         return f"{held / 1024:g} KiB ({self})" if held >= 1024 else f"{held} bytes ({self})"
 
     def words(self) -> list[str]:
-        return ["caches", "--size", str(self.size), "--sets", str(self.sets), "--ways", str(self.ways)]
+        return [
+            "caches",
+            "--size",
+            str(self.size),
+            "--sets",
+            str(self.sets),
+            "--ways",
+            str(self.ways),
+        ]
 
 
 class Counts(NamedTuple):
@@ -55,7 +65,14 @@ def shape_of(text: str) -> Shape:
     found = re.fullmatch(r"([1-9]\d{0,3})x([1-9]\d{0,3})x([1-9]\d{0,3})", text)
     size, sets, ways = map(int, found.groups()) if found else (0, 0, 0)
     is_power = all(it & (it - 1) == 0 for it in (size, sets))
-    if not found or not is_power or not 4 <= size <= 1024 or sets > 1024 or ways > 64 or sets * ways > 4096:
+    if (
+        not found
+        or not is_power
+        or not 4 <= size <= 1024
+        or sets > 1024
+        or ways > 64
+        or sets * ways > 4096
+    ):
         told = "bytes of a line, a power of two from 4 to 1024; sets, a power of two up to 1024; ways, up to 64; at most 4096 lines in all"
         raise Fault(f"'--shape' is as 64x64x8, and not '{text}': {told}")
     return Shape(size, sets, ways)
@@ -73,7 +90,9 @@ class Caches:
     """What `caches` prints of a shape; of its lines, which come in the order of what is taken most, the first ones."""
 
     def __init__(self, text: str, shape: Shape, most: int) -> None:
-        head = re.match(rf"caches {shape.size} {shape.sets} {shape.ways}\naccesses (\d+)\nlines (\d+)\n", text)
+        head = re.match(
+            rf"caches {shape.size} {shape.sets} {shape.ways}\naccesses (\d+)\nlines (\d+)\n", text
+        )
         total = TOTAL.search(text, max(0, len(text) - 200))
         if not head or not total or text.count("\nline ") != int(head[2]):
             raise Fault(f"it isn't what `caches` prints of the shape {shape}")
@@ -92,12 +111,22 @@ class Sized:
     def __init__(self, shapes: list[Caches], names: dict[int, str]) -> None:
         self.shapes, self.names = shapes, names
         first = shapes[0]
-        self.size, self.accesses, self.count, self.unbounded = first.shape.size, first.accesses, first.count, first.total.unbounded
+        self.size, self.accesses, self.count, self.unbounded = (
+            first.shape.size,
+            first.accesses,
+            first.count,
+            first.total.unbounded,
+        )
         self.bases = list(first.lines)
         for it in shapes:
             whole = {base: own.unbounded for base, own in it.lines.items()}
-            if whole != {base: own.unbounded for base, own in first.lines.items()} or it.total.unbounded != self.unbounded:
-                raise Fault(f"`caches` counts otherwise for the shape {it.shape} than for {first.shape}: the trace isn't the same any more")
+            if (
+                whole != {base: own.unbounded for base, own in first.lines.items()}
+                or it.total.unbounded != self.unbounded
+            ):
+                raise Fault(
+                    f"`caches` counts otherwise for the shape {it.shape} than for {first.shape}: the trace isn't the same any more"
+                )
 
     def told(self) -> str:
         """What is seen, in a sentence."""
@@ -126,7 +155,14 @@ def texts(call: Call, calls: Sequence[list[str]]) -> list[str]:
     if call.reads_once():
         return texts_of_pipe(predator, call.subject, calls)
     with concurrent.futures.ThreadPoolExecutor(max_workers=min(4, os.cpu_count() or 1)) as pool:
-        return list(pool.map(lambda words: predator.text([*words, "--", call.subject], REPORTED, stderr=subprocess.PIPE), calls))
+        return list(
+            pool.map(
+                lambda words: predator.text(
+                    [*words, "--", call.subject], REPORTED, stderr=subprocess.PIPE
+                ),
+                calls,
+            )
+        )
 
 
 def texts_of_pipe(predator: Predator, path: str, calls: Sequence[list[str]]) -> list[str]:
@@ -164,7 +200,10 @@ def found(call: Call) -> list[Sized]:
     """What is counted for all shapes, by their size of lines."""
     shapes, most = shapes_of(call), call.number("top", LINES)
     sizes = list(dict.fromkeys(it.size for it in shapes))
-    each = [["replay", "--set", "tracking=1,report=1", "--size", str(it), "--shift", "0"] for it in sizes]
+    each = [
+        ["replay", "--set", "tracking=1,report=1", "--size", str(it), "--shift", "0"]
+        for it in sizes
+    ]
     told = texts(call, [*(it.words() for it in shapes), *each])
     own = [Caches(text, shape, most) for text, shape in zip(told, shapes)]
     made = []
@@ -179,17 +218,30 @@ def rows(sized: Sized) -> Iterator[str]:
     yield f"{sized.told()} ({sized.accesses} accesses)"
     if not sized.count:
         return
-    wide = [max(9, *(len(str(cell)) + 1 for cell in (it.shape, it.total.bounded, it.total.evicted))) for it in sized.shapes]
+    wide = [
+        max(9, *(len(str(cell)) + 1 for cell in (it.shape, it.total.bounded, it.total.evicted)))
+        for it in sized.shapes
+    ]
 
     def row(first: object, cells: Sequence[object], rest: str) -> str:
-        return f"{first:>11}" + "".join(f"{cell:>{width}}" for cell, width in zip(cells, wide)) + f"  {rest}".rstrip()
+        return (
+            f"{first:>11}"
+            + "".join(f"{cell:>{width}}" for cell, width in zip(cells, wide))
+            + f"  {rest}".rstrip()
+        )
 
     yield row("unbounded", [str(it.shape) for it in sized.shapes], "line        object")
     for base in sized.bases:
         cells = [it.lines[base] for it in sized.shapes]
         note = f"  ({sized.note(base)})" if sized.note(base) else ""
-        yield row(cells[0].unbounded, [it.bounded for it in cells], f"{base:#010x}  {sized.names.get(base, '')}{note}")
-    yield row(sized.unbounded, [it.total.bounded for it in sized.shapes], f"all lines ({sized.count})")
+        yield row(
+            cells[0].unbounded,
+            [it.bounded for it in cells],
+            f"{base:#010x}  {sized.names.get(base, '')}{note}",
+        )
+    yield row(
+        sized.unbounded, [it.total.bounded for it in sized.shapes], f"all lines ({sized.count})"
+    )
     yield row("-", [it.total.evicted for it in sized.shapes], "evicted")
     more = sized.count - len(sized.bases)
     if more:
@@ -202,7 +254,12 @@ def drawn(sized: Sized) -> Given:
 
     def cell(own: Counts, greatest: int, of: str, shape: Shape) -> Given:
         told = f"{of}: {own.bounded} of {own.unbounded} are left in caches of {shape.told()}"
-        return {"left": own.bounded, "evicted": own.evicted, "told": told, "bar": bar(own.bounded, own.unbounded, greatest)}
+        return {
+            "left": own.bounded,
+            "evicted": own.evicted,
+            "told": told,
+            "bar": bar(own.bounded, own.unbounded, greatest),
+        }
 
     lines = []
     for base in sized.bases:
@@ -225,7 +282,11 @@ def drawn(sized: Sized) -> Given:
 def page(sizes: Sequence[Sized], name: str) -> str:
     """The page: of each line a bar for each shape, the worst line first."""
     title = f"{os.path.basename(name)}: {'; '.join(it.told() for it in sizes)}"
-    return templates().get_template("caches.html").render(title=title, sizes=[drawn(it) for it in sizes])
+    return (
+        templates()
+        .get_template("caches.html")
+        .render(title=title, sizes=[drawn(it) for it in sizes])
+    )
 
 
 def show(call: Call) -> tuple[list[str], str | None]:
@@ -233,4 +294,6 @@ def show(call: Call) -> tuple[list[str], str | None]:
     if "html" in call.options:
         templates()
     sizes = found(call)
-    return [plain(row) for it in sizes for row in rows(it)], page(sizes, call.named) if "html" in call.options else None
+    return [plain(row) for it in sizes for row in rows(it)], page(
+        sizes, call.named
+    ) if "html" in call.options else None

@@ -58,7 +58,22 @@ lacked a hart; 127 a package is missing, or the program. Colours are for termina
 )
 # The options of view's own that have a value, and those that have none; `type` may come more than once.
 VALUES = (
-    *("patch", "top", "object", "html", "json", "sarif", "against", "fail-above", "by", "type", "program", "back", "sources", "explain"),
+    *(
+        "patch",
+        "top",
+        "object",
+        "html",
+        "json",
+        "sarif",
+        "against",
+        "fail-above",
+        "by",
+        "type",
+        "program",
+        "back",
+        "sources",
+        "explain",
+    ),
     "latency",
 )
 FLAGS = ("words", "predicted", "no-predicted", "library", "help")
@@ -90,7 +105,13 @@ class Call:
 
     def __init__(self, words: Sequence[str]) -> None:
         first = words[0] if words else ""
-        named: dict[str, How] = {"run": "run", "replay": "replay", "native": "native", "sweep": "sweep", "caches": "caches"}
+        named: dict[str, How] = {
+            "run": "run",
+            "replay": "replay",
+            "native": "native",
+            "sweep": "sweep",
+            "caches": "caches",
+        }
         self.how = named.get(first, "file")
         self.options: dict[str, Any] = {it: [] for it in LISTS}
         self.own: list[str] = []
@@ -102,8 +123,14 @@ class Call:
         if "help" in self.options:
             return
         if len(names) != 1:
-            what = {"run": "a program", "native": "a program", "file": "a report"}.get(self.how, "a trace")
-            raise Fault(f"{what} is wanted, one\n{USAGE}" if not names else f"'{names[1]}' is one word more than is wanted\n{USAGE}")
+            what = {"run": "a program", "native": "a program", "file": "a report"}.get(
+                self.how, "a trace"
+            )
+            raise Fault(
+                f"{what} is wanted, one\n{USAGE}"
+                if not names
+                else f"'{names[1]}' is one word more than is wanted\n{USAGE}"
+            )
         self.subject = self.named = names[0]
         self.judge_words()
         self.program = self.subject if self.how == "run" else self.options.get("program")
@@ -113,18 +140,28 @@ class Call:
         """Refuses words that what is done with the file doesn't take, and a file with which it can't be done."""
         what = how_of(self.subject)
         if what not in ("file", "replay" if self.how in ALONE else self.how):
-            raise Fault(f"{self.subject} is {IS[what]}: `predator view {self.subject}` {DOES[what]} it")
-        known = OPTIONS.get(self.how, []) if self.how != "native" else [*RECORDS, *(it for it in OPTIONS["replay"] if it not in STATES)]
+            raise Fault(
+                f"{self.subject} is {IS[what]}: `predator view {self.subject}` {DOES[what]} it"
+            )
+        known = (
+            OPTIONS.get(self.how, [])
+            if self.how != "native"
+            else [*RECORDS, *(it for it in OPTIONS["replay"] if it not in STATES)]
+        )
         for word in (it for it in self.given if it.partition("=")[0] not in known):
             where = "view" if self.how == "file" else f"view {self.how}"
-            near = nearest(word.partition("=")[0], [*known, *(f"--{it}" for it in (*VALUES, *LISTS, *FLAGS))]).strip()
+            near = nearest(
+                word.partition("=")[0], [*known, *(f"--{it}" for it in (*VALUES, *LISTS, *FLAGS))]
+            ).strip()
             raise Fault(f"'{word}' is no option of {where}{near and '; '}{near}\n{USAGE}")
         if self.marks and self.how != "native":
             raise Fault(f"'{self.marks[0]}' is for a program of this machine")
         for it in (one for value in self.values("--set") for one in value.split(",")):
             key, is_set, _ = it.partition("=")
             if is_set and key not in KEYS:
-                raise Fault(f"'{it}' in --set names no key of the settings; {nearest(key, KEYS)}the keys are: {', '.join(KEYS)}")
+                raise Fault(
+                    f"'{it}' in --set names no key of the settings; {nearest(key, KEYS)}the keys are: {', '.join(KEYS)}"
+                )
 
     def split(self, words: Sequence[str]) -> tuple[list[str], list[str]]:
         """The words that are the program's, and the names among them; view's own options are put down."""
@@ -143,13 +180,21 @@ class Call:
                 return [*rest, *words[at : at + 1]], [*words[at : at + 1]]
             if word == "--":
                 return [*rest, "--", *words[at:]], [*names, *words[at:]]
-            if name[:2] == "--" and name[2:] in (*VALUES, *LISTS) or word == "-h" or word[2:] in FLAGS and word[:2] == "--":
+            if (
+                name[:2] == "--"
+                and name[2:] in (*VALUES, *LISTS)
+                or word == "-h"
+                or word[2:] in FLAGS
+                and word[:2] == "--"
+            ):
                 if name[2:] in (*VALUES, *LISTS) and not has_value:
                     if at == len(words):
                         raise Fault(f"a value is required for '{word}'")
                     value, at = words[at], at + 1
                 self.put("help" if word == "-h" else name[2:], value)
-            elif word[2:] in MARKS and word[:2] == "--" and not (self.how == "run" and word in BARE):
+            elif (
+                word[2:] in MARKS and word[:2] == "--" and not (self.how == "run" and word in BARE)
+            ):
                 self.marks.append(word)
             elif word.startswith("-") and word != "-":
                 self.given.append(word)
@@ -190,13 +235,19 @@ class Call:
         if self.options["type"] and not self.has_types():
             raise Fault("'--type' wants the types of a program: '--program' names it")
         if self.how in ("run", "native") and "program" in self.options:
-            raise Fault("'--program' is for a trace or a report: the program that is run is named already")
+            raise Fault(
+                "'--program' is for a trace or a report: the program that is run is named already"
+            )
         if "latency" in self.options and self.how != "run":
-            raise Fault("'--latency' is for `view run`: the bound on the time is that of another run of the program")
+            raise Fault(
+                "'--latency' is for `view run`: the bound on the time is that of another run of the program"
+            )
         if "sources" in self.options and not os.path.isdir(self.options["sources"]):
             raise Fault(f"'--sources' is a folder, and '{self.options['sources']}' is none")
         if "back" in self.options and (self.how in ("run", "native") or "program" in self.options):
-            raise Fault("'--back' is for a trace or a report of this machine's programs, and names the program itself")
+            raise Fault(
+                "'--back' is for a trace or a report of this machine's programs, and names the program itself"
+            )
 
     def judge_alone(self) -> None:
         """Refuses what a sweep and caches don't take, and shapes for anything else."""
@@ -204,9 +255,15 @@ class Call:
             raise Fault("'--shape' is for `predator view caches`")
         if self.how not in ALONE:
             return
-        strange = [name for name, value in self.options.items() if name not in ALONE[self.how] and value != []]
+        strange = [
+            name
+            for name, value in self.options.items()
+            if name not in ALONE[self.how] and value != []
+        ]
         if strange:
-            raise Fault(f"'--{strange[0]}' isn't for `view {self.how}`, which takes {', '.join(f'--{it}' for it in ALONE[self.how])}")
+            raise Fault(
+                f"'--{strange[0]}' isn't for `view {self.how}`, which takes {', '.join(f'--{it}' for it in ALONE[self.how])}"
+            )
         if self.how == "sweep" and self.value_of("--size") is None:
             raise Fault("a sweep is of lines of a size: '--size' names it")
 
@@ -237,7 +294,9 @@ class Call:
 
     def reads_once(self) -> bool:
         """Whether the trace comes from a pipe or a terminal, and can be read once."""
-        is_pipe = self.subject == "-" or os.path.exists(self.subject) and not os.path.isfile(self.subject)
+        is_pipe = (
+            self.subject == "-" or os.path.exists(self.subject) and not os.path.isfile(self.subject)
+        )
         return self.how in ("replay", *ALONE) and is_pipe
 
     def trace(self) -> str | None:

@@ -17,7 +17,9 @@ LEFT_OUT = 2
 MOST_BASES = 64
 # What is of a library that most programs take their threads or containers from, and of the language itself.
 LIBRARY = re.compile(r"(?<![\w:])(?:std|__gnu_cxx|__cxxabiv1|tbb)::[\w:~]+|>::[\w:~]+")
-PLAIN = re.compile(r"\b(?:void|bool|w?char(?:\d*_t)?|short|int|long|float|double|unsigned|signed|const|volatile|true|false)\b|\d\w*")
+PLAIN = re.compile(
+    r"\b(?:void|bool|w?char(?:\d*_t)?|short|int|long|float|double|unsigned|signed|const|volatile|true|false)\b|\d\w*"
+)
 LAMBDA, CUT = "::{lambda(", "<..>"
 
 
@@ -42,7 +44,11 @@ class Classes:
         if not name or info not in self.words or not self.image.is_constant(name):
             return ""
         text = self.image.text(name)
-        return text.decode("latin-1").lstrip("*") if NAME.fullmatch(text) and re.match(rb"\*?[1-9NSZ]", text) else ""
+        return (
+            text.decode("latin-1").lstrip("*")
+            if NAME.fullmatch(text) and re.match(rb"\*?[1-9NSZ]", text)
+            else ""
+        )
 
     def functions(self, addr: int) -> Iterator[int]:
         """The functions of a table, but for those that another file has, and those at its beginning that are left out."""
@@ -60,7 +66,10 @@ class Classes:
         if single:
             return [single] if self.mangled(single) else []
         count = int.from_bytes(self.image.bytes(info + 20, 4), "little")
-        several = [self.words.get(info + 24 + 16 * it, 0) for it in range(count if count <= MOST_BASES else 0)]
+        several = [
+            self.words.get(info + 24 + 16 * it, 0)
+            for it in range(count if count <= MOST_BASES else 0)
+        ]
         return [it for it in several if it and self.mangled(it)]
 
     @functools.cache
@@ -80,14 +89,18 @@ class Classes:
         common = set(infos).intersection(*map(self.with_bases, infos))
         # (of a base and what it's derived from the latter has the function first)
         chosen = [min(common, key=lambda it: (len(self.with_bases(it)), it))] if common else infos
-        return min(filter(None, map(self.names.get, chosen)), default="") if len(chosen) <= FEW else ""
+        return (
+            min(filter(None, map(self.names.get, chosen)), default="") if len(chosen) <= FEW else ""
+        )
 
     @functools.cached_property
     def names(self) -> dict[int, str]:
         """The names of all classes, which are told by one call."""
         infos = list({it: None for own in self.owners.values() for it in own})
         told = demangled(["_ZTS" + self.mangled(it) for it in infos])
-        return {it: name.removeprefix(SHOWN) for it, name in zip(infos, told) if name.startswith(SHOWN)}
+        return {
+            it: name.removeprefix(SHOWN) for it, name in zip(infos, told) if name.startswith(SHOWN)
+        }
 
 
 def is_library(name: str) -> bool:
@@ -117,7 +130,11 @@ def lambda_of(name: str) -> str:
     deep = depths(name)
     if end < 0 or deep[end] == 0:
         return ""
-    begin = next(at for at in range(end - 1, -1, -1) if deep[at] < deep[end] or deep[at] == deep[end] and name[at] == ",")
+    begin = next(
+        at
+        for at in range(end - 1, -1, -1)
+        if deep[at] < deep[end] or deep[at] == deep[end] and name[at] == ","
+    )
     return short(name[begin + 1 : end].strip())
 
 
@@ -134,4 +151,6 @@ def told(name: str) -> str:
     if inner:
         return f"{outer}<lambda in {inner}>"
     own = own_argument(name) if len(name) > LONG and CUT in short(name) else ""
-    return f"{outer}<{short(own)}{'' if len(arguments(name)) == 1 else ',..'}>" if own else short(name)
+    return (
+        f"{outer}<{short(own)}{'' if len(arguments(name)) == 1 else ',..'}>" if own else short(name)
+    )

@@ -43,7 +43,11 @@ def loaded(path: str, call: Call) -> Before:
             raise Fault(f"{path}: it is of another version: its format isn't `{FORMAT}`")
         total = found["total"]
         is_good = total is None or all(is_number(total[it]) for it in ("useless", "useful"))
-        if not isinstance(found["outcome"], str) or not is_good or not all(is_thing(it) for it in found["objects"]):
+        if (
+            not isinstance(found["outcome"], str)
+            or not is_good
+            or not all(is_thing(it) for it in found["objects"])
+        ):
             raise ValueError
         return Before(found["objects"], found["outcome"], total)
     except (ValueError, KeyError, TypeError, AttributeError, RecursionError) as error:
@@ -57,9 +61,19 @@ def is_number(it: object) -> bool:
 def is_thing(it: Any) -> bool:
     """Whether something has what is compared of an object."""
     places = [*it["sites"], *([] if it["declared"] is None else [it["declared"]])]
-    texts = [it["key"], it["name"], *it["beside"], *(word["field"] for word in it["words"]), *(one["file"] for one in places)]
+    texts = [
+        it["key"],
+        it["name"],
+        *it["beside"],
+        *(word["field"] for word in it["words"]),
+        *(one["file"] for one in places),
+    ]
     texts += [one["function"] for one in it["sites"]]
-    numbers = [it["count"], *(word["writes"] for word in it["words"]), *(one["line"] for one in places)]
+    numbers = [
+        it["count"],
+        *(word["writes"] for word in it["words"]),
+        *(one["line"] for one in places),
+    ]
     numbers += [it[name] for name in ("useless", "useful") if it[name] is not None]
     return (
         all(isinstance(one, str) for one in texts)
@@ -86,7 +100,9 @@ def fields(thing: Record) -> dict[str, int]:
 
 def places(thing: Record) -> Places:
     """Where an object is declared, or where its blocks are made, as far as that has lines."""
-    found = [it for it in thing["sites"] if it["function"] not in ALLOCATORS] or ([thing["declared"]] if thing["declared"] else [])
+    found = [it for it in thing["sites"] if it["function"] not in ALLOCATORS] or (
+        [thing["declared"]] if thing["declared"] else []
+    )
     return tuple((os.path.basename(it["file"]), it["line"]) for it in found if it["line"])
 
 
@@ -139,7 +155,9 @@ def row(before: Record | None, after: Record | None, by: str) -> str:
     if before is None or after is None:
         one = before or after or {}
         numbers = [f"{one[it]} {it}" for it in ("useless", "useful") if one.get(it)]
-        told = " and ".join(numbers) if by == "useless" and numbers and one.get("useful") else one[by]
+        told = (
+            " and ".join(numbers) if by == "useless" and numbers and one.get("useful") else one[by]
+        )
         return f"gone: {told} before" if before else f"new: {told}"
     told = change(before[by], after[by])
     if by == "useless" and before["useful"] != after["useful"]:
@@ -158,7 +176,10 @@ def sums(view: View, old: Before, new: Record, by: str) -> list[tuple[str, int, 
     if by == "count" or name is not None or old.total is None:
         own = [it for it in old.objects if name is None or name in (it["name"], *it["beside"])]
         names = ("count",) if by == "count" else ("useless", "useful")
-        return [(it, sum(one[it] for one in own), sum(one[it] for one in new["objects"])) for it in names]
+        return [
+            (it, sum(one[it] for one in own), sum(one[it] for one in new["objects"]))
+            for it in names
+        ]
     return [(it, old.total[it], new["total"][it]) for it in ("useless", "useful")]
 
 
@@ -166,7 +187,9 @@ def compared(view: View, old: Before, path: str) -> Iterator[str]:
     """The lines that tell what became of the whole, and of each object; `old` is what was loaded of the path."""
     new, name = record(view), view.call.options.get("object")
     olds = [it for it in old.objects if name is None or name in (it["name"], *it["beside"])]
-    is_known = new["total"] and all(it[what] is not None for it in (*olds, *new["objects"]) for what in ("useless", "useful"))
+    is_known = new["total"] and all(
+        it[what] is not None for it in (*olds, *new["objects"]) for what in ("useless", "useful")
+    )
     by = "useless" if is_known else "count"
     yield f"against {plain(path)}, by {'useless misses' if by == 'useless' else 'the count of the report'}:"
     if old.outcome != view.report.outcome:
@@ -177,13 +200,24 @@ def compared(view: View, old: Before, path: str) -> Iterator[str]:
     if by == "useless":
         yield from (f"    {what}: {change(before, after)}" for what, before, after in parts)
     found = [it for it in pairs(olds, new["objects"]) if weight(it[0], by) or weight(it[1], by)]
-    rows = [(weight(after, by) - weight(before, by), (after or before or {})["name"], row(before, after, by)) for before, after in found]
-    yield from (plain(f"  {name}: {what}") for _, name, what in sorted(rows, key=lambda it: (-it[0], it[1])))
+    rows = [
+        (
+            weight(after, by) - weight(before, by),
+            (after or before or {})["name"],
+            row(before, after, by),
+        )
+        for before, after in found
+    ]
+    yield from (
+        plain(f"  {name}: {what}") for _, name, what in sorted(rows, key=lambda it: (-it[0], it[1]))
+    )
 
 
 def moved(before: Record, after: Record) -> str:
     """Which fields are fought over that weren't before, and which no more."""
     old, new = fields(before), fields(after)
     came, went = [it for it in new if it not in old], [it for it in old if it not in new]
-    told = [f"{what} {listing(names)}" for what, names in (("with", came), ("without", went)) if names]
+    told = [
+        f"{what} {listing(names)}" for what, names in (("with", came), ("without", went)) if names
+    ]
     return f" ({'; '.join(told)})" if told else ""

@@ -30,7 +30,13 @@ def templates(*folders: str) -> "jinja2.Environment":
     except ImportError as missing:
         raise Fault(f"python3-jinja2 isn't installed: {PACKAGES}", 127) from missing
     loader = jinja2.FileSystemLoader([*folders, HERE])
-    return jinja2.Environment(loader=loader, autoescape=True, undefined=jinja2.StrictUndefined, trim_blocks=True, finalize=visible)
+    return jinja2.Environment(
+        loader=loader,
+        autoescape=True,
+        undefined=jinja2.StrictUndefined,
+        trim_blocks=True,
+        finalize=visible,
+    )
 
 
 def visible(value: object) -> object:
@@ -48,7 +54,8 @@ def spread(count: int) -> list[range]:
 
 def strip(upper: Sequence[Number], lower: Sequence[Number], marked: int) -> Given:
     """Two rows of numbers, one above the other, in columns that each show the greatest of theirs; a tick for each column whose second
-    number is there, half as long if some of it isn't; and the place of one that is marked. A row without a number takes no room."""
+    number is there, half as long if some of it isn't; and the place of one that is marked. A row without a number takes no room.
+    """
     columns = spread(len(upper))
     wide = min(MOST, max(LEAST, STRIP // max(len(columns), 1)))
     most = [max((it for it in row if it is not None), default=None) for row in (upper, lower)]
@@ -67,19 +74,38 @@ def strip(upper: Sequence[Number], lower: Sequence[Number], marked: int) -> Give
             ticks += f"M{middle} {up + down + 2}v{5 if there == len(own) else 2}"
         if marked in own:
             mark = middle
-    size = {"width": len(columns) * wide, "wide": 2 * wide // 3, "height": up + down + 8, "middle": up}
+    size = {
+        "width": len(columns) * wide,
+        "wide": 2 * wide // 3,
+        "height": up + down + 8,
+        "middle": up,
+    }
     each = len(columns[0]) if columns else 0
-    return {**size, "each": each, "upper": bars[0], "lower": bars[1], "ticks": ticks, "mark": mark, "most": most}
+    return {
+        **size,
+        "each": each,
+        "upper": bars[0],
+        "lower": bars[1],
+        "ticks": ticks,
+        "mark": mark,
+        "most": most,
+    }
 
 
 def bar(part: int, whole: int, most: int) -> Given:
     """A number as a frame, as wide as it is large beside the greatest one, and a part of it as what fills the frame: something unless it is
     0, and all only where it is the whole, but in a frame of one point."""
     frame, fill = (max(round(BAR * it / most), 1) if it else 0 for it in (whole, part))
-    return {"width": BAR, "frame": frame, "fill": min(fill, max(frame - 1, 1)) if 0 < part < whole else fill}
+    return {
+        "width": BAR,
+        "frame": frame,
+        "fill": min(fill, max(frame - 1, 1)) if 0 < part < whole else fill,
+    }
 
 
-def curve(values: Sequence[int], marked: Sequence[tuple[int, str]], names: Sequence[object]) -> Given:
+def curve(
+    values: Sequence[int], marked: Sequence[tuple[int, str]], names: Sequence[object]
+) -> Given:
     """Numbers as a line, from 0 at the lower edge up to the greatest, with some of them marked by a shape and a text each; at the lower
     edge a tick for each, some of which have their names."""
     most, last = max([*values, 1]), max(len(values) - 1, 1)
@@ -88,11 +114,22 @@ def curve(values: Sequence[int], marked: Sequence[tuple[int, str]], names: Seque
         each *= 2
 
     def place(at: int) -> tuple[int, int]:
-        return EDGE + at * (WIDTH - 2 * EDGE) // last, HEIGHT - EDGE - values[at] * (HEIGHT - 2 * EDGE) // most
+        return (
+            EDGE + at * (WIDTH - 2 * EDGE) // last,
+            HEIGHT - EDGE - values[at] * (HEIGHT - 2 * EDGE) // most,
+        )
 
     points = " ".join("{},{}".format(*place(it)) for it in range(len(values)))
     marks = [{"x": place(at)[0], "y": place(at)[1], "text": text} for at, text in marked]
-    ticks = [{"x": place(at)[0], "text": name if at % each == 0 else ""} for at, name in enumerate(names)]
+    ticks = [
+        {"x": place(at)[0], "text": name if at % each == 0 else ""} for at, name in enumerate(names)
+    ]
     # (what its greatest number takes at the right)
-    size = {"room": 12 * len(str(most)), "width": WIDTH, "height": HEIGHT, "edge": EDGE, "most": most}
+    size = {
+        "room": 12 * len(str(most)),
+        "width": WIDTH,
+        "height": HEIGHT,
+        "edge": EDGE,
+        "most": most,
+    }
     return {**size, "points": points, "marks": marks, "ticks": ticks}

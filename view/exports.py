@@ -20,11 +20,22 @@ from worth import latency_of
 Record = dict[str, Any]
 
 FORMAT = "predator view 1"
-SARIF = "https://raw.githubusercontent.com/oasis-tcs/sarif-spec/master/Schemata/sarif-schema-2.1.0.json"
+SARIF = (
+    "https://raw.githubusercontent.com/oasis-tcs/sarif-spec/master/Schemata/sarif-schema-2.1.0.json"
+)
 RULES = {
-    "false-sharing": ("Useless misses", "Harts take a line from each other although they use different words of it."),
-    "true-sharing": ("Useful misses", "Harts hand words to each other: padding doesn't help, writing less often does."),
-    "predicted-sharing": ("Predicted useless misses", "Lines would be taken falsely if data lay otherwise, or lines were longer."),
+    "false-sharing": (
+        "Useless misses",
+        "Harts take a line from each other although they use different words of it.",
+    ),
+    "true-sharing": (
+        "Useful misses",
+        "Harts hand words to each other: padding doesn't help, writing less often does.",
+    ),
+    "predicted-sharing": (
+        "Predicted useless misses",
+        "Lines would be taken falsely if data lay otherwise, or lines were longer.",
+    ),
 }
 
 
@@ -44,14 +55,22 @@ def panics(view: View, addr: int) -> Record | None:
     """The places of panics that tell an instruction without debug information, or none."""
     near = view.naming.near(addr)
     places = getattr(near, "places", None)
-    return {"called": near.is_called, "places": [it._asdict() for it in places]} if near and places else None
+    return (
+        {"called": near.is_called, "places": [it._asdict() for it in places]}
+        if near and places
+        else None
+    )
 
 
 def landmarks(view: View, addr: int) -> Record | None:
     """What the function of an instruction without debug information refers to, or none."""
     near = view.naming.near(addr)
     found, more = getattr(near, "found", None), getattr(near, "more", 0)
-    return {"called": near.is_called, "texts": [it.text for it in found], "more": more} if near and found else None
+    return (
+        {"called": near.is_called, "texts": [it.text for it in found], "more": more}
+        if near and found
+        else None
+    )
 
 
 def site(view: View, it: Site) -> Record:
@@ -100,7 +119,9 @@ def time_of(view: View) -> Record:
         "band": worth.band(total),
         "latency": latency_of(view.call),
         "step": STEP,
-        "alternating": {"steps": found.steps, "useless": found.misses.total["useless"]} if found else None,
+        "alternating": {"steps": found.steps, "useless": found.misses.total["useless"]}
+        if found
+        else None,
         "most": rounded(worth.at_most()),
     }
 
@@ -110,7 +131,11 @@ def repaired(view: View, it: Thing) -> Record | None:
     tried = view.known(it)
     if tried is None or tried.after is None or not tried.is_saving():
         return None
-    return {"useless": tried.after.total["useless"], "useful": tried.after.total["useful"], "count": tried.after.rule}
+    return {
+        "useless": tried.after.total["useless"],
+        "useful": tried.after.total["useful"],
+        "count": tried.after.rule,
+    }
 
 
 def thing(view: View, it: Thing) -> Record:
@@ -131,7 +156,9 @@ def thing(view: View, it: Thing) -> Record:
         "most": rounded(view.worth.at_most(it)),
         "takings": view.takings(it),
         "declared": {"file": seen.declared[0], "line": seen.declared[1]} if seen.declared else None,
-        "sites": [site(view, one) for one in it.example.sites] if isinstance(it.example, Block) else [],
+        "sites": [site(view, one) for one in it.example.sites]
+        if isinstance(it.example, Block)
+        else [],
         "todo": seen.todo,
         "repaired": repaired(view, it),
         "worst": worst.name if worst else None,
@@ -147,7 +174,10 @@ def thing(view: View, it: Thing) -> Record:
             }
             for one in seen.fights()[:8]
         ],
-        "harts": [{"from": a, "to": b, "taken": taken} for (a, b), taken in (sorted(explained.harts.items()) if explained else [])],
+        "harts": [
+            {"from": a, "to": b, "taken": taken}
+            for (a, b), taken in (sorted(explained.harts.items()) if explained else [])
+        ],
     }
 
 
@@ -178,7 +208,12 @@ def record(view: View) -> Record:
         "steps": report.steps,
         "accesses": report.accesses,
         "layout": {"size": report.size, "offset": report.offset},
-        "thresholds": dict(zip(("tracking", "prediction", "report"), (None if it == "none" else int(it) for it in report.thresholds))),
+        "thresholds": dict(
+            zip(
+                ("tracking", "prediction", "report"),
+                (None if it == "none" else int(it) for it in report.thresholds),
+            )
+        ),
         "total": view.misses.total if view.misses else None,
         "time": time_of(view),
         "objects": [thing(view, it) for it in view.chosen()],
@@ -197,7 +232,9 @@ def location(view: View, file: str, number: int) -> Record:
     path = os.path.abspath(found) if found else os.path.normpath(file)
     below = os.path.relpath(path)
     path = path if below.startswith("..") else below
-    uri = ("file://" if os.path.isabs(path) else "") + urllib.parse.quote(path, errors="surrogateescape")
+    uri = ("file://" if os.path.isabs(path) else "") + urllib.parse.quote(
+        path, errors="surrogateescape"
+    )
     return {"physicalLocation": {"artifactLocation": {"uri": uri}, "region": {"startLine": number}}}
 
 
@@ -209,7 +246,11 @@ def told(text: str) -> str:
 def locations(view: View, it: Thing) -> list[Record]:
     """Where an object's sharing happens in the sources: the lines that fight, and else where it is declared or made."""
     fight = view.seen(it).fight()
-    places = [view.naming.sources.place(at) for at in (fight.taker, fight.victim)] if fight and view.naming.sources else []
+    places = (
+        [view.naming.sources.place(at) for at in (fight.taker, fight.victim)]
+        if fight and view.naming.sources
+        else []
+    )
     found = [location(view, place.file, place.line) for place in dict.fromkeys(places) if place]
     declared = view.seen(it).declared
     return found or ([location(view, *declared)] if declared else [])
@@ -217,16 +258,27 @@ def locations(view: View, it: Thing) -> list[Record]:
 
 def result(view: View, it: Thing) -> Record:
     known = view.misses is not None
-    is_false = it.useless >= it.useful if known else any(spot.line and spot.line.verdict != "true" for spot in it.spots)
-    much = f"{it.useless} useless and {it.useful} useful misses, count {it.count}" if known else f"count {it.count}"
+    is_false = (
+        it.useless >= it.useful
+        if known
+        else any(spot.line and spot.line.verdict != "true" for spot in it.spots)
+    )
+    much = (
+        f"{it.useless} useless and {it.useful} useful misses, count {it.count}"
+        if known
+        else f"count {it.count}"
+    )
     declared = view.seen(it).declared
     return {
         "ruleId": "false-sharing" if is_false else "true-sharing",
         "level": "warning" if is_false else "note",
-        "message": {"text": f"{it.name}: {much}, lines: {len(it.spots)}. {told(view.seen(it).todo)}"},
+        "message": {
+            "text": f"{it.name}: {much}, lines: {len(it.spots)}. {told(view.seen(it).todo)}"
+        },
         "locations": locations(view, it)[:1],
         "relatedLocations": [
-            {**one, "message": {"text": "declared or made here"}} for one in ([location(view, *declared)] if declared else [])
+            {**one, "message": {"text": "declared or made here"}}
+            for one in ([location(view, *declared)] if declared else [])
         ],
         "partialFingerprints": {"object/v1": view.keys[it.key]},
     }
@@ -239,7 +291,9 @@ def foreseen(view: View, it: Foretold) -> Record:
     return {
         "ruleId": "predicted-sharing",
         "level": "note",
-        "message": {"text": f"{names}: a {it.line.kind} line of {it.line.size} bytes would have {much}."},
+        "message": {
+            "text": f"{names}: a {it.line.kind} line of {it.line.size} bytes would have {much}."
+        },
         "locations": [location(view, *declared)] if declared else [],
     }
 
@@ -247,12 +301,27 @@ def foreseen(view: View, it: Foretold) -> Record:
 def sarif_text(view: View) -> str:
     """The objects, and the predicted lines that are shown, as results."""
     top = view.call.number("top", TOP)
-    results = [result(view, it) for it in view.listed()[:top]] + [foreseen(view, it) for it in view.foretold() if it.is_shown]
+    results = [result(view, it) for it in view.listed()[:top]] + [
+        foreseen(view, it) for it in view.foretold() if it.is_shown
+    ]
     rules = [
-        {"id": name, "name": title, "shortDescription": {"text": title}, "fullDescription": {"text": text}}
+        {
+            "id": name,
+            "name": title,
+            "shortDescription": {"text": title},
+            "fullDescription": {"text": text},
+        }
         for name, (title, text) in RULES.items()
     ]
     tool = {"driver": {"name": "predator", "rules": rules}}
-    ended = {"executionSuccessful": view.report.ended_well(), "exitCodeDescription": view.report.outcome}
-    run = {"tool": tool, "results": results, "invocations": [ended], "columnKind": "unicodeCodePoints"}
+    ended = {
+        "executionSuccessful": view.report.ended_well(),
+        "exitCodeDescription": view.report.outcome,
+    }
+    run = {
+        "tool": tool,
+        "results": results,
+        "invocations": [ended],
+        "columnKind": "unicodeCodePoints",
+    }
     return json.dumps({"version": "2.1.0", "$schema": SARIF, "runs": [run]}, indent=1) + "\n"

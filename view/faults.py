@@ -14,4 +14,7 @@ def plain(text: object) -> str:
     text = str(text)
     if text.isprintable():
         return text
-    return "".join(it if it.isprintable() else it.encode("unicode_escape", "surrogatepass").decode() for it in text)
+    return "".join(
+        it if it.isprintable() else it.encode("unicode_escape", "surrogatepass").decode()
+        for it in text
+    )

@@ -23,7 +23,13 @@ except ImportError as missing:
 RECORDS = ("DW_TAG_structure_type", "DW_TAG_class_type", "DW_TAG_union_type")
 SCOPES = ("DW_TAG_namespace", "DW_TAG_module", "DW_TAG_subprogram", "DW_TAG_enumeration_type")
 UNITS = ("DW_TAG_compile_unit", "DW_TAG_partial_unit", "DW_TAG_type_unit")
-NAMES_FOR = ("DW_TAG_typedef", "DW_TAG_const_type", "DW_TAG_volatile_type", "DW_TAG_atomic_type", "DW_TAG_restrict_type")
+NAMES_FOR = (
+    "DW_TAG_typedef",
+    "DW_TAG_const_type",
+    "DW_TAG_volatile_type",
+    "DW_TAG_atomic_type",
+    "DW_TAG_restrict_type",
+)
 POINTERS = ("DW_TAG_pointer_type", "DW_TAG_reference_type", "DW_TAG_rvalue_reference_type")
 # A unit's entry, by pyelftools, which has no types; a type is one, or none where it is void or isn't told.
 Die = Any
@@ -47,7 +53,10 @@ def origins(die: Die) -> Iterator[Die]:
     """An entry, and those that it goes on: the declaration of what it defines, and the function or variable that it is a copy of."""
     for _ in range(DEEPEST):
         yield die
-        link = next((it for it in ("DW_AT_specification", "DW_AT_abstract_origin") if it in die.attributes), None)
+        link = next(
+            (it for it in ("DW_AT_specification", "DW_AT_abstract_origin") if it in die.attributes),
+            None,
+        )
         if link is None:
             return
         die = die.get_DIE_from_attribute(link)
@@ -60,7 +69,11 @@ def qualified(die: Die) -> str:
         # (what is defined outside has its place by its declaration)
         *_, die = origins(die)
         if die.tag in (*RECORDS, *SCOPES) or not parts:
-            parts.insert(0, name_of(die) or ("(anonymous namespace)" if die.tag == "DW_TAG_namespace" else "(unnamed)"))
+            parts.insert(
+                0,
+                name_of(die)
+                or ("(anonymous namespace)" if die.tag == "DW_TAG_namespace" else "(unnamed)"),
+            )
         die = die.get_parent()
         if die is None or die.tag in UNITS:
             break
@@ -78,7 +91,11 @@ def last_name(name: str) -> str:
 
 
 def type_of(die: Die) -> Die:
-    return die.get_DIE_from_attribute("DW_AT_type") if die is not None and "DW_AT_type" in die.attributes else None
+    return (
+        die.get_DIE_from_attribute("DW_AT_type")
+        if die is not None and "DW_AT_type" in die.attributes
+        else None
+    )
 
 
 def bare(die: Die) -> Die:
@@ -134,9 +151,18 @@ def alignment_of(die: Die) -> int:
     if die.tag == "DW_TAG_array_type":
         return max(found, alignment_of(type_of(die)))
     if die.tag in RECORDS:
-        fields = [it for it in die.iter_children() if it.tag in ("DW_TAG_member", "DW_TAG_inheritance")]
+        fields = [
+            it for it in die.iter_children() if it.tag in ("DW_TAG_member", "DW_TAG_inheritance")
+        ]
         return max(
-            [found, *(max(value(it, "alignment", 1), alignment_of(type_of(it))) for it in fields if "DW_AT_external" not in it.attributes)]
+            [
+                found,
+                *(
+                    max(value(it, "alignment", 1), alignment_of(type_of(it)))
+                    for it in fields
+                    if "DW_AT_external" not in it.attributes
+                ),
+            ]
         )
     return max(found, min(size_of(die) or 1, 16))
 
@@ -151,7 +177,11 @@ def type_name(die: Die) -> str:
         return type_name(type_of(die)) + "".join(f"[{it}]" for it in counts(die))
     if die.tag in NAMES_FOR and die.tag != "DW_TAG_typedef":
         return type_name(type_of(die))
-    heads = {"DW_TAG_structure_type": "struct ", "DW_TAG_union_type": "union ", "DW_TAG_enumeration_type": "enum "}
+    heads = {
+        "DW_TAG_structure_type": "struct ",
+        "DW_TAG_union_type": "union ",
+        "DW_TAG_enumeration_type": "enum ",
+    }
     is_c = value(die.cu.get_top_DIE(), "language", 0) in (0x01, 0x02, 0x0C, 0x1D, 0x2C)
     return heads.get(die.tag, "") + (name_of(die) or "(unnamed)") if is_c else qualified(die)
 
@@ -174,7 +204,10 @@ def place_in(die: Die) -> tuple[int, int | None]:
 def parts_of(die: Die) -> Iterator[tuple[str, int, int, Die]]:
     """What a record or an array is made of, as (name, place in bits, size in bits, type); of an array a function of the range."""
     for it in die.iter_children():
-        if it.tag in ("DW_TAG_member", "DW_TAG_inheritance") and "DW_AT_external" not in it.attributes:
+        if (
+            it.tag in ("DW_TAG_member", "DW_TAG_inheritance")
+            and "DW_AT_external" not in it.attributes
+        ):
             start, bits = place_in(it)
             own = name_of(it)
             name = f".{own}" if own and it.tag == "DW_TAG_member" else ""
@@ -227,7 +260,10 @@ def are_several(die: Die, low: int, high: int, depth: int = 0) -> bool:
         return False
     parts = elements(die, low, high) if die.tag == "DW_TAG_array_type" else parts_of(die)
     own = [it for it in parts if it[1] < high and low < it[1] + it[2]]
-    inner = [are_several(of, max(low - start, 0), min(high - start, wide), depth + 1) for _, start, wide, of in own]
+    inner = [
+        are_several(of, max(low - start, 0), min(high - start, wide), depth + 1)
+        for _, start, wide, of in own
+    ]
     if die.tag == "DW_TAG_union_type":
         return bool(inner) and all(inner)
     return len(own) > 1 or any(inner)
@@ -260,7 +296,12 @@ class Variable:
         self.name = next((name_of(it) for it in self.dies if name_of(it)), "")
 
     def alignment(self) -> int:
-        return sound(lambda: max([alignment_of(self.type), *(value(it, "alignment", 1) for it in self.dies)]), 1)
+        return sound(
+            lambda: max(
+                [alignment_of(self.type), *(value(it, "alignment", 1) for it in self.dies)]
+            ),
+            1,
+        )
 
 
 class Program:
@@ -285,7 +326,11 @@ class Program:
         # (by pyelftools; none without debug information)
         self.dwarf: Any = None
         with contextlib.suppress(Exception):
-            self.dwarf = self.elf.get_dwarf_info() if self.elf.has_dwarf_info() and self.elf.get_section_by_name(".debug_info") else None
+            self.dwarf = (
+                self.elf.get_dwarf_info()
+                if self.elf.has_dwarf_info() and self.elf.get_section_by_name(".debug_info")
+                else None
+            )
         if self.dwarf is not None:
             self.dwarf.program = self
 
@@ -297,7 +342,11 @@ class Program:
         """Where the program has code, as ranges of addresses."""
 
         def found() -> list[tuple[int, int]]:
-            parts = [it for it in self.elf.iter_segments() if it["p_type"] == "PT_LOAD" and it["p_flags"] & 1]
+            parts = [
+                it
+                for it in self.elf.iter_segments()
+                if it["p_type"] == "PT_LOAD" and it["p_flags"] & 1
+            ]
             return [(it["p_vaddr"], it["p_vaddr"] + it["p_memsz"]) for it in parts]
 
         return sound(found, [])
@@ -311,7 +360,12 @@ class Program:
     def symbols_of(self, kind: str) -> list[tuple[int, int, str]]:
         def found() -> list[tuple[int, int, str]]:
             tables = [it for it in self.elf.iter_sections() if isinstance(it, SymbolTableSection)]
-            symbols = [it for table in tables for it in table.iter_symbols() if it["st_info"]["type"] == kind]
+            symbols = [
+                it
+                for table in tables
+                for it in table.iter_symbols()
+                if it["st_info"]["type"] == kind
+            ]
             return [(it["st_value"], it["st_size"], it.name) for it in symbols]
 
         return sound(found, [])
@@ -341,7 +395,11 @@ class Program:
             kind = bare(type_of(die))
             if kind is not None and kind.tag in POINTERS:
                 self.pointers.setdefault(name_of(die), type_of(kind))
-        elif die.tag in (*RECORDS, "DW_TAG_typedef", "DW_TAG_base_type") and name_of(die) and "DW_AT_declaration" not in die.attributes:
+        elif (
+            die.tag in (*RECORDS, "DW_TAG_typedef", "DW_TAG_base_type")
+            and name_of(die)
+            and "DW_AT_declaration" not in die.attributes
+        ):
             self.types.setdefault(name_of(die), []).append(die)
 
     def address(self, die: Die) -> int | None:
@@ -377,14 +435,23 @@ class Program:
         words = [f"--name={it}" for it in names if it]
         if tool is None or not words:
             return []
-        told = subprocess.run([tool, *words, self.path], capture_output=True).stdout.decode("utf-8", "replace")
-        return [(int(it[1], 16), it[0]) for it in re.finditer(r"^(0x[0-9a-f]+): +DW_TAG_.*\n(?:.+\n)*", told, re.MULTILINE)]
+        told = subprocess.run([tool, *words, self.path], capture_output=True).stdout.decode(
+            "utf-8", "replace"
+        )
+        return [
+            (int(it[1], 16), it[0])
+            for it in re.finditer(r"^(0x[0-9a-f]+): +DW_TAG_.*\n(?:.+\n)*", told, re.MULTILINE)
+        ]
 
     def definition(self, die: Die) -> Die:
         """The definition of a type, and where there is none its declaration."""
         name = qualified(die)
         if name not in self.definitions:
-            places = [at for at, text in self.named(name_of(die)) if die.tag in text and "DW_AT_declaration" not in text]
+            places = [
+                at
+                for at, text in self.named(name_of(die))
+                if die.tag in text and "DW_AT_declaration" not in text
+            ]
             found = (self.dwarf.get_DIE_from_refaddr(it) for it in places)
             self.definitions[name] = next((it for it in found if qualified(it) == name), die)
         return self.definitions[name]
@@ -392,11 +459,15 @@ class Program:
     def declared(self, variable: Variable) -> tuple[str, int] | None:
         """The file and line of a variable's definition, or else of its declaration, or none. (llvm-dwarfdump reads the tables of files that
         pyelftools 0.29 doesn't.)"""
-        tool, line = shutil.which("llvm-dwarfdump"), next((it for die in variable.dies if (it := value(die, "decl_line"))), None)
+        tool, line = shutil.which("llvm-dwarfdump"), next(
+            (it for die in variable.dies if (it := value(die, "decl_line"))), None
+        )
         if tool is None or not line:
             return None
         for die in variable.dies:
-            ran = subprocess.run([tool, f"--debug-info={die.offset:#x}", self.path], capture_output=True)
+            ran = subprocess.run(
+                [tool, f"--debug-info={die.offset:#x}", self.path], capture_output=True
+            )
             found = re.search(rb'DW_AT_decl_file\s*\("(.*)"\)', ran.stdout)
             if found:
                 return os.path.normpath(found[1].decode("utf-8", "replace")), line
@@ -408,7 +479,9 @@ def chosen(several: list[Die], name: str) -> Die:
     if len(several) < 2 and "::" not in name:
         return next(iter(several), None)
     whole = [(it, qualified(it)) for it in several]
-    exact = [it for it, own in whole if own == name] + [it for it, own in whole if own.endswith("::" + name)]
+    exact = [it for it, own in whole if own == name] + [
+        it for it, own in whole if own.endswith("::" + name)
+    ]
     return next(iter(exact), None)
 
 

@@ -13,7 +13,9 @@ from image import CALL, FAR, JUMP, LEA, NEAR, SHORT, Image, jumped
 # Functions begin at multiples of this, unless they are made as small as can be.
 ALIGNED = 16
 # What stands before a function that isn't aligned: the end of the one before, and what fills up; the longest of these.
-BEFORE = re.compile(rb"(?:\xc3|\x90|\xcc|\x0f\x1f(?:\x00|\x40\x00|\x44\x00\x00|\x80\x00{4}|\x84\x00{5}))\Z")
+BEFORE = re.compile(
+    rb"(?:\xc3|\x90|\xcc|\x0f\x1f(?:\x00|\x40\x00|\x44\x00\x00|\x80\x00{4}|\x84\x00{5}))\Z"
+)
 LONGEST_BEFORE = 8
 # The end of a function, or a call that doesn't come back, and what fills up behind it; the longest of these.
 FILLED = re.compile(
@@ -48,7 +50,11 @@ class Functions:
     def outside(self, starts: list[int]) -> Iterator[int]:
         """Where jumps go that leave a function for an address that looks like a beginning."""
         for at, to in self.image.found(JUMP):
-            if to % ALIGNED == 0 and bisect.bisect_right(starts, at) != bisect.bisect_right(starts, to) and self.is_behind(to):
+            if (
+                to % ALIGNED == 0
+                and bisect.bisect_right(starts, at) != bisect.bisect_right(starts, to)
+                and self.is_behind(to)
+            ):
                 yield to
 
     def is_behind(self, addr: int) -> bool:
@@ -62,7 +68,9 @@ class Functions:
         sure = {*image.unwound[0], *image.exported, *self.known}
         maybe = {it for it in self.called if self.is_beginning(it)}
         maybe.update(to for _, to in (*image.found(LEA), *image.moved) if to % ALIGNED == 0)
-        maybe.update(to for to in (() if image.is_fixed else image.words.values()) if to % ALIGNED == 0)
+        maybe.update(
+            to for to in (() if image.is_fixed else image.words.values()) if to % ALIGNED == 0
+        )
         ends = {it[1] for start in image.unwound[0] if (it := image.function(start))}
         ends.update(start + size for start, size in image.exported.items() if size)
         maybe.update(-it // ALIGNED * -ALIGNED for it in ends)
@@ -84,9 +92,17 @@ class Functions:
         size = self.image.exported.get(start, 0)
         if size or at < 0:
             return (start, start + size) if addr < start + size else None
-        last = next(begin + len(code) for begin, code in self.image.code if begin <= addr < begin + len(code))
+        last = next(
+            begin + len(code)
+            for begin, code in self.image.code
+            if begin <= addr < begin + len(code)
+        )
         end = min([last, *self.starts[at + 1 : at + 2]])
-        return self.cut(start, end, addr) if end <= start + LARGEST and self.image.function(start) is None else None
+        return (
+            self.cut(start, end, addr)
+            if end <= start + LARGEST and self.image.function(start) is None
+            else None
+        )
 
     def cut(self, start: int, end: int, addr: int) -> Range:
         """What is around an instruction between two beginnings: a function that is never called may begin between these, behind what fills
@@ -100,14 +116,30 @@ class Functions:
         """Where functions may begin so between two beginnings."""
         code = self.image.bytes(start, end - start)
         places = range((start // ALIGNED + 1) * ALIGNED, end, ALIGNED)
-        found = [it for it in places if FILLED.search(code[max(it - start - FILLED_SIZE, 0) : it - start])]
-        reached = {to for form in (FAR, SHORT, JUMP, NEAR) for _, to in jumped(code, start, form)} if found else set[int]()
-        reached.update(it for _, table in (jumped(code, start, LEA) if found else ()) for it in self.branches(table, start, end))
+        found = [
+            it
+            for it in places
+            if FILLED.search(code[max(it - start - FILLED_SIZE, 0) : it - start])
+        ]
+        reached = (
+            {to for form in (FAR, SHORT, JUMP, NEAR) for _, to in jumped(code, start, form)}
+            if found
+            else set[int]()
+        )
+        reached.update(
+            it
+            for _, table in (jumped(code, start, LEA) if found else ())
+            for it in self.branches(table, start, end)
+        )
         return [it for it in found if it not in reached]
 
     def branches(self, table: int, start: int, end: int) -> Iterator[int]:
         """Where a function may go on by a table, which has the distances from there."""
-        for at in range(table, table + BRANCHES * DISTANCE.size if self.image.is_constant(table) else 0, DISTANCE.size):
+        for at in range(
+            table,
+            table + BRANCHES * DISTANCE.size if self.image.is_constant(table) else 0,
+            DISTANCE.size,
+        ):
             told = self.image.bytes(at, DISTANCE.size)
             to = table + DISTANCE.unpack(told)[0] if told else 0
             if not start <= to < end:
@@ -129,6 +161,11 @@ class Functions:
         found = [(start, end)]
         for _, to in jumped(self.image.bytes(start, end - start), start, FAR):
             part = self.image.function(to) if not start <= to < end else None
-            if part and part not in found and part[0] not in self.called and part[0] not in self.image.exported:
+            if (
+                part
+                and part not in found
+                and part[0] not in self.called
+                and part[0] not in self.image.exported
+            ):
                 found.append(part)
         return found

@@ -28,7 +28,8 @@ SLICES, COUNT, LOWEST, HIGHEST, TEXT = (1, 4, 7, 10, 13, 16), 17, 20, 21, 22
 
 class Version(NamedTuple):
     """How a version of the table is written: the words of its header, the numbers in its list of functions, the record of a function, and
-    that of an inlined call. `data` is the module's word for where trees are, or none where functions have addresses of them."""
+    that of an inlined call. `data` is the module's word for where trees are, or none where functions have addresses of them.
+    """
 
     words: int
     number: str
@@ -54,7 +55,11 @@ class Loaded(Image):
         return {} if self.is_fixed else self.words
 
     def word(self, addr: int) -> int:
-        return self.relocated[addr] if addr in self.relocated else int.from_bytes(self.bytes(addr, 8), "little")
+        return (
+            self.relocated[addr]
+            if addr in self.relocated
+            else int.from_bytes(self.bytes(addr, 8), "little")
+        )
 
     def standing(self, what: bytes) -> Iterator[int]:
         """Where some bytes stand."""
@@ -108,7 +113,11 @@ class Table:
         self.count, places = words[0], [at + it for it in words[-5:]]
         self.names, self.units, self.files, self.values, self.functions = places
         first, last = at + 8 + 8 * self.version.words, self.begin + len(self.data)
-        if at % 8 or not 0 < self.count <= FUNCTIONS or [first, *places, last] != sorted([first, *places, last]):
+        if (
+            at % 8
+            or not 0 < self.count <= FUNCTIONS
+            or [first, *places, last] != sorted([first, *places, last])
+        ):
             raise ValueError("it is no header of a table")
         self.module = self.module_of(at)
         text = self.module[TEXT] if self.module else image.word(at + 24)
@@ -117,9 +126,19 @@ class Table:
 
     def module_of(self, at: int) -> Sequence[int]:
         """The words of the runtime's record of the module, which points to the table; none where it isn't found."""
-        wanted = [self.names, self.units, self.files, self.values, self.functions, self.functions, self.count + 1]
+        wanted = [
+            self.names,
+            self.units,
+            self.files,
+            self.values,
+            self.functions,
+            self.functions,
+            self.count + 1,
+        ]
         for place in itertools.islice(self.image.pointing(at), POINTERS):
-            words = [self.image.word(place + 8 * it) for it in range((self.version.data or TEXT) + 1)]
+            words = [
+                self.image.word(place + 8 * it) for it in range((self.version.data or TEXT) + 1)
+            ]
             if [words[it] for it in (*SLICES, COUNT)] == wanted:
                 return words
         return ()
@@ -127,9 +146,13 @@ class Table:
     def listed(self, text: int) -> tuple[list[int], Sequence[int]]:
         """Where each function begins and the last one ends, and where the record of each is."""
         size = struct.calcsize(self.version.number)
-        found = struct.unpack_from(f"<{2 * self.count + 1}{self.version.number}", self.data, self.functions - self.begin)
+        found = struct.unpack_from(
+            f"<{2 * self.count + 1}{self.version.number}", self.data, self.functions - self.begin
+        )
         if size == 8 and not self.image.is_fixed:
-            return [self.image.word(self.functions + 16 * it) for it in range(self.count + 1)], found[1::2]
+            return [
+                self.image.word(self.functions + 16 * it) for it in range(self.count + 1)
+            ], found[1::2]
         return [text + it for it in found[::2]], found[1::2]
 
     def check(self) -> None:
@@ -137,7 +160,11 @@ class Table:
         low, high = self.starts[0], self.starts[-1]
         is_code = any(begin <= low and high <= begin + len(code) for begin, code in self.image.code)
         is_module = not self.module or (self.module[LOWEST], self.module[HIGHEST]) == (low, high)
-        if not is_code or not is_module or any(it > other for it, other in itertools.pairwise(self.starts)):
+        if (
+            not is_code
+            or not is_module
+            or any(it > other for it, other in itertools.pairwise(self.starts))
+        ):
             raise ValueError("its functions aren't in order")
 
     @functools.cache
@@ -145,7 +172,9 @@ class Table:
         place, how = self.functions + self.records[at], self.version.function
         name, files, lines, tables, unit, pieces = how.unpack_from(self.data, place - self.begin)
         start, end = self.starts[at : at + 2]
-        return Function(start, end - start, name, files, lines, tables, unit, pieces, place + how.size)
+        return Function(
+            start, end - start, name, files, lines, tables, unit, pieces, place + how.size
+        )
 
     @functools.cache
     def steps(self, table: int) -> tuple[list[int], list[int]]:
@@ -173,7 +202,11 @@ class Table:
     def text(self, begin: int, end: int, offset: int) -> str:
         """The text at a place of a list of texts, each of which ends with a zero; an empty one where none begins there."""
         at, last = begin + offset - self.begin, end - self.begin
-        stop = self.data.find(b"\0", at, min(at + NAME, last)) if offset == 0 or self.data[at - 1 : at] == b"\0" else -1
+        stop = (
+            self.data.find(b"\0", at, min(at + NAME, last))
+            if offset == 0 or self.data[at - 1 : at] == b"\0"
+            else -1
+        )
         return self.data[at:stop].decode("utf-8", "replace") if stop > at else ""
 
     def name(self, offset: int) -> str:
@@ -193,7 +226,11 @@ class Table:
 
     def place(self, own: Function, function: str, addr: int) -> Place:
         file, line = self.file(own, addr), self.value(own.lines, addr)
-        return Place(function, file, line) if file and line is not None and line > 0 else Place(function, "", 0)
+        return (
+            Place(function, file, line)
+            if file and line is not None and line > 0
+            else Place(function, "", 0)
+        )
 
     def index(self, own: Function, addr: int) -> int | None:
         """Which inlined call a place in a function is of, -1 if of none, or none where that isn't known."""

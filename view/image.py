@@ -24,7 +24,12 @@ ABSOLUTE, IN_SLOT, RELATIVE = 1, (1, 6, 7), 8
 EXECUTABLE, WRITABLE, FIXED, FUNCTION = 1, 2, "ET_EXEC", 2
 LOADED = ("PT_LOAD", "PT_DYNAMIC")
 # How tables for unwinding and their entries are written, as all linkers do; relocations, and symbols.
-TABLE, LINK, RELOCATION, SYMBOL = b"\x01\x1b\x03\x3b", struct.Struct("<ii"), struct.Struct("<QQq"), struct.Struct("<IBBHQQ")
+TABLE, LINK, RELOCATION, SYMBOL = (
+    b"\x01\x1b\x03\x3b",
+    struct.Struct("<ii"),
+    struct.Struct("<QQq"),
+    struct.Struct("<IBBHQQ"),
+)
 
 
 Pattern = re.Pattern[bytes]
@@ -46,7 +51,11 @@ def form(pattern: bytes, first: int, size: int) -> Form:
 
 
 # Calls, jumps, both through a word, jumps on a condition, and near jumps; `lea`, and `mov` from a word.
-CALL, JUMP, THROUGH = form(rb"\xe8(?=(....))", 0, 5), form(rb"\xe9(?=(....))", 0, 5), form(rb"\xff(?=[\x15\x25](....))", 0, 6)
+CALL, JUMP, THROUGH = (
+    form(rb"\xe8(?=(....))", 0, 5),
+    form(rb"\xe9(?=(....))", 0, 5),
+    form(rb"\xff(?=[\x15\x25](....))", 0, 6),
+)
 FAR, SHORT = form(rb"\x0f(?=[\x80-\x8f](....))", 0, 6), form(rb"(?=[\x70-\x7f](.))", 0, 2)
 NEAR = form(rb"\xeb(?=(.))", 0, 2)
 LEA = form(rb"\x8d(?<=[\x48\x4c]\x8d)(?=[\x05\x0d\x15\x1d\x25\x2d\x35\x3d](....))", 1, 7)
@@ -96,11 +105,23 @@ class Image:
 
     def read_sections(self, elf: ELFFile) -> None:
         """Takes what is constant, and the exported symbols, from the sections, where these are still there."""
-        found = [(it["sh_type"], it["sh_flags"], it["sh_addr"], it["sh_size"]) for it in elf.iter_sections()]
-        constant = [(addr, addr + size) for kind, flags, addr, size in found if kind == "SHT_PROGBITS" and flags & 7 == 2 and size]
+        found = [
+            (it["sh_type"], it["sh_flags"], it["sh_addr"], it["sh_size"])
+            for it in elf.iter_sections()
+        ]
+        constant = [
+            (addr, addr + size)
+            for kind, flags, addr, size in found
+            if kind == "SHT_PROGBITS" and flags & 7 == 2 and size
+        ]
         self.constant, self.has_sections = constant or self.constant, bool(constant)
-        self.exports = next(((addr, size) for kind, _, addr, size in found if kind == "SHT_DYNSYM"), (0, 0))
-        self.is_go = any(it.name in (".gopclntab", ".data.rel.ro.gopclntab", ".go.buildinfo") for it in elf.iter_sections())
+        self.exports = next(
+            ((addr, size) for kind, _, addr, size in found if kind == "SHT_DYNSYM"), (0, 0)
+        )
+        self.is_go = any(
+            it.name in (".gopclntab", ".data.rel.ro.gopclntab", ".go.buildinfo")
+            for it in elf.iter_sections()
+        )
 
     def text(self, addr: int) -> bytes:
         """What stands at an address before the next zero byte, or none where there isn't one soon."""
@@ -118,7 +139,9 @@ class Image:
         return b""
 
     def is_code(self, addr: int) -> bool:
-        return any(begin <= addr < begin + len(data) for begin, data in self.code) and not self.is_constant(addr)
+        return any(
+            begin <= addr < begin + len(data) for begin, data in self.code
+        ) and not self.is_constant(addr)
 
     @functools.cached_property
     def bounds(self) -> list[int]:
@@ -136,11 +159,18 @@ class Image:
     @functools.cached_property
     def tags(self) -> dict[int, int]:
         """What the dynamic section tells."""
-        return {tag: value for tag, value in struct.iter_unpack("<qQ", self.dynamic[: len(self.dynamic) // 16 * 16])}
+        return {
+            tag: value
+            for tag, value in struct.iter_unpack(
+                "<qQ", self.dynamic[: len(self.dynamic) // 16 * 16]
+            )
+        }
 
     def relocations(self, place: int, size: int) -> Iterator[tuple[int, int, int]]:
         """A table of relocations, by the tags of its place and its size."""
-        table = self.bytes(self.tags.get(place, 0), self.tags.get(size, 0) // RELOCATION.size * RELOCATION.size)
+        table = self.bytes(
+            self.tags.get(place, 0), self.tags.get(size, 0) // RELOCATION.size * RELOCATION.size
+        )
         yield from ((addr, info, by) for addr, info, by in RELOCATION.iter_unpack(table))
 
     def pointers(self) -> Iterator[tuple[int, int]]:
@@ -149,18 +179,30 @@ class Image:
             if info & 0xFFFFFFFF == RELATIVE:
                 yield addr, to
         relr = self.bytes(self.tags.get(RELR, 0), self.tags.get(RELR_SIZE, 0) // 8 * 8)
-        for addr in itertools.islice(packed(it for (it,) in struct.iter_unpack("<Q", relr)), PACKED):
+        for addr in itertools.islice(
+            packed(it for (it,) in struct.iter_unpack("<Q", relr)), PACKED
+        ):
             yield addr, int.from_bytes(self.bytes(addr, 8), "little")
-        low, high = min((it for it, _ in self.parts), default=0), max((it + len(data) for it, data in self.parts), default=0)
+        low, high = min((it for it, _ in self.parts), default=0), max(
+            (it + len(data) for it, data in self.parts), default=0
+        )
         for begin, data in filter(self.has_words, self.parts) if self.is_fixed else ():
             first = -begin % 8
             words = memoryview(data)[first : first + (len(data) - first) // 8 * 8].cast("Q")
-            yield from ((begin + first + 8 * at, it) for at, it in enumerate(words) if low <= it < high and it)
+            yield from (
+                (begin + first + 8 * at, it)
+                for at, it in enumerate(words)
+                if low <= it < high and it
+            )
 
     def has_words(self, part: Part) -> bool:
         """Whether a part may have addresses in words: it's more than code, as far as sections tell."""
         begin, end = part[0], part[0] + len(part[1])
-        return part not in self.code or not self.has_sections or any(begin <= at < end for at in self.bounds)
+        return (
+            part not in self.code
+            or not self.has_sections
+            or any(begin <= at < end for at in self.bounds)
+        )
 
     @functools.cached_property
     def words(self) -> dict[int, int]:
@@ -168,7 +210,11 @@ class Image:
 
     def symbol(self, index: int) -> tuple[str, int]:
         """The name of a symbol for the loader, and its address, 0 where another file has it."""
-        told = self.bytes(self.tags.get(SYMBOLS, 0) + SYMBOL.size * index, SYMBOL.size) if SYMBOLS in self.tags else b""
+        told = (
+            self.bytes(self.tags.get(SYMBOLS, 0) + SYMBOL.size * index, SYMBOL.size)
+            if SYMBOLS in self.tags
+            else b""
+        )
         if not told:
             return "", 0
         name, _, _, part, value, _ = SYMBOL.unpack(told)
@@ -178,20 +224,32 @@ class Image:
     def named(self) -> dict[int, int]:
         """Each word that the loader makes a symbol's address, with that, which is 0 where the symbol is another file's."""
         rows = self.relocations(RELA, RELA_SIZE)
-        found = ((addr, self.symbol(info >> 32)[1], by) for addr, info, by in rows if info & 0xFFFFFFFF == ABSOLUTE)
+        found = (
+            (addr, self.symbol(info >> 32)[1], by)
+            for addr, info, by in rows
+            if info & 0xFFFFFFFF == ABSOLUTE
+        )
         return {addr: to and to + by for addr, to, by in found}
 
     def slots(self, name: str) -> set[int]:
         """The words that the loader makes the address of some function of another file."""
         rows = [*self.relocations(PLT, PLT_SIZE), *self.relocations(RELA, RELA_SIZE)]
-        return {addr for addr, info, _ in rows if info & 0xFFFFFFFF in IN_SLOT and self.symbol(info >> 32) == (name, 0)}
+        return {
+            addr
+            for addr, info, _ in rows
+            if info & 0xFFFFFFFF in IN_SLOT and self.symbol(info >> 32) == (name, 0)
+        }
 
     @functools.cached_property
     def exported(self) -> dict[int, int]:
         """Where the functions begin that others may call by their names, and their sizes."""
         addr, size = self.exports
         rows = SYMBOL.iter_unpack(self.bytes(addr, size // SYMBOL.size * SYMBOL.size))
-        return {value: size for _, info, _, part, value, size in rows if info & 15 == FUNCTION and part and self.is_code(value)}
+        return {
+            value: size
+            for _, info, _, part, value, size in rows
+            if info & 15 == FUNCTION and part and self.is_code(value)
+        }
 
     @functools.cached_property
     def unwound(self) -> tuple[list[int], list[int]]:
@@ -226,13 +284,23 @@ class Image:
     def moves(self) -> list[Pattern]:
         """How numbers are loaded that may be addresses of a program with a fixed place; of another one none are."""
         last = max((begin + len(data) for begin, data in self.parts), default=0) >> 24
-        return [re.compile(it % re.escape(bytes([min(last, 255)])), re.DOTALL) for it in MOVES] if self.is_fixed else []
+        return (
+            [re.compile(it % re.escape(bytes([min(last, 255)])), re.DOTALL) for it in MOVES]
+            if self.is_fixed
+            else []
+        )
 
     @functools.cached_property
     def moved(self) -> list[tuple[int, int]]:
         """Where such numbers are loaded in all code, with these."""
         is_small = sum(len(code) for _, code in self.code) <= MOST
-        return [it for begin, code in self.code if is_small for pattern in self.moves for it in numbers(code, begin, pattern)]
+        return [
+            it
+            for begin, code in self.code
+            if is_small
+            for pattern in self.moves
+            for it in numbers(code, begin, pattern)
+        ]
 
     def called(self, starts: Iterable[int]) -> dict[int, list[int]]:
         """From where some functions are called. One whose address is taken otherwise, and so may be called from anywhere, isn't there, as
@@ -248,7 +316,9 @@ class Image:
                 found[words[word]].append(at)
                 through.add(word)
         taken = {to for _, to in self.found(LEA) if to in found} if found else set()
-        taken.update(words[word] for _, word in (self.found(LOAD) if words else ()) if word in words)
+        taken.update(
+            words[word] for _, word in (self.found(LOAD) if words else ()) if word in words
+        )
         taken.update(to for word, to in words.items() if word not in through)
         return {start: sorted(calls) for start, calls in found.items() if start not in taken}
 

@@ -27,9 +27,24 @@ ROW = re.compile(r"^ *([0-9a-f]+):\s+([a-z][a-z0-9._]*)\s*(.*)$")
 FORMAT = re.compile(r"file format (\S+)")
 RISCV = 243
 # Those of x86-64: prefixes that llvm-objdump prints as rows, what writes its last operand and doesn't read it, and what only reads it.
-PREFIXES = ("lock", "rep", "repne", "repe", "repz", "repnz", "data16", "xacquire", "xrelease", "notrack")
-WRITES = re.compile(r"v?p?(mov|extr)|set|stos|f(n?st|ist)|pop|v?cvt|vextract|xsave|fxsave|v?stmxcsr")
-READS = re.compile(r"cmp(?!xchg)|test|bt[lqw]?$|v?u?com|prefetch|i?(div|mul)|push|fi?(ld|add|sub|mul|div|u?com)|v?ldmxcsr|nop|scas|lods")
+PREFIXES = (
+    "lock",
+    "rep",
+    "repne",
+    "repe",
+    "repz",
+    "repnz",
+    "data16",
+    "xacquire",
+    "xrelease",
+    "notrack",
+)
+WRITES = re.compile(
+    r"v?p?(mov|extr)|set|stos|f(n?st|ist)|pop|v?cvt|vextract|xsave|fxsave|v?stmxcsr"
+)
+READS = re.compile(
+    r"cmp(?!xchg)|test|bt[lqw]?$|v?u?com|prefetch|i?(div|mul)|push|fi?(ld|add|sub|mul|div|u?com)|v?ldmxcsr|nop|scas|lods"
+)
 
 
 class Does(NamedTuple):
@@ -41,7 +56,11 @@ class Does(NamedTuple):
 
 
 ATOMICALLY = Does(True, True, True)
-UPDATES, READS_ONLY, WRITES_ONLY = Does(False, True, True), Does(False, False, True), Does(False, False, False)
+UPDATES, READS_ONLY, WRITES_ONLY = (
+    Does(False, True, True),
+    Does(False, False, True),
+    Does(False, False, False),
+)
 
 
 class Row(NamedTuple):
@@ -64,10 +83,18 @@ def of_riscv(row: Row) -> Does | None:
 def of_runtime(name: str) -> Does | None:
     """What a call of the runtime says that the program does there, by the function's name."""
     if "atomic" in name:
-        return READS_ONLY if name.endswith("_load") else WRITES_ONLY if name.endswith("_store") else ATOMICALLY
+        return (
+            READS_ONLY
+            if name.endswith("_load")
+            else WRITES_ONLY
+            if name.endswith("_store")
+            else ATOMICALLY
+        )
     if "read_write" in name:
         return UPDATES
-    return READS_ONLY if "read" in name else WRITES_ONLY if "write" in name or "vptr" in name else None
+    return (
+        READS_ONLY if "read" in name else WRITES_ONLY if "write" in name or "vptr" in name else None
+    )
 
 
 def is_memory(operand: str) -> bool:
@@ -91,12 +118,16 @@ def of_x86(row: Row) -> Does | None:
         return UPDATES
     if row.name.startswith("push"):
         return READS_ONLY._replace(reads=last)
-    return READS_ONLY if last or any(first) or row.name.startswith(("pop", "ret", "leave")) else None
+    return (
+        READS_ONLY if last or any(first) or row.name.startswith(("pop", "ret", "leave")) else None
+    )
 
 
 def all_that_do(text: str, addresses: Iterable[int]) -> dict[int, Does]:
     """What the instructions at some addresses do, as far as a text of llvm-objdump tells it. An address may be the last byte of a call."""
-    rows, found = [Row(int(it[1], 16), it[2], it[3]) for line in text.split("\n") if (it := ROW.match(line))], FORMAT.search(text)
+    rows, found = [
+        Row(int(it[1], 16), it[2], it[3]) for line in text.split("\n") if (it := ROW.match(line))
+    ], FORMAT.search(text)
     begins, made = [it.addr for it in rows], {}
     for addr in addresses if found else ():
         at = bisect.bisect_right(begins, addr) - 1
@@ -106,7 +137,13 @@ def all_that_do(text: str, addresses: Iterable[int]) -> dict[int, Does]:
         while found and "x86-64" in found[1] and rows[at].name in PREFIXES and at + 1 < len(rows):
             prefixes.append(rows[at].name)
             at += 1
-        told = of_riscv(rows[at]) if found and "riscv" in found[1] else of_x86(rows[at]) if found and "x86-64" in found[1] else None
+        told = (
+            of_riscv(rows[at])
+            if found and "riscv" in found[1]
+            else of_x86(rows[at])
+            if found and "x86-64" in found[1]
+            else None
+        )
         if told:
             made[addr] = ATOMICALLY if "lock" in prefixes else told
     return made
@@ -116,7 +153,9 @@ def starts(file: str, addresses: Sequence[int]) -> dict[int, int]:
     """Where the function of each address begins, by llvm-symbolizer, and else the address itself."""
     asked = "".join(f'"{file}" {it:#x}\n' for it in addresses)
     words = ["llvm-symbolizer", "--output-style=JSON", "--inlines"]
-    ran = subprocess.run(words, input=os.fsencode(asked), stdout=subprocess.PIPE, stderr=subprocess.DEVNULL)
+    ran = subprocess.run(
+        words, input=os.fsencode(asked), stdout=subprocess.PIPE, stderr=subprocess.DEVNULL
+    )
     found = {it: it for it in addresses}
     for addr, row in zip(addresses, ran.stdout.decode("utf-8", "replace").splitlines()):
         symbols = json.loads(row).get("Symbol", [])
@@ -147,8 +186,18 @@ def of_file(file: str, names: str, addresses: Iterable[int]) -> dict[int, Does]:
     # (what an older compiler or a small linker writes says nothing of its extensions)
     more = ["--mattr=+m,+a,+f,+d,+c"] if is_riscv(file) else []
     for begin, end in parts:
-        words = ["llvm-objdump", "-d", "--no-show-raw-insn", *more, f"--start-address={begin:#x}", f"--stop-address={end:#x}", file]
-        text = subprocess.run(words, stdout=subprocess.PIPE, stderr=subprocess.DEVNULL).stdout.decode("utf-8", "replace")
+        words = [
+            "llvm-objdump",
+            "-d",
+            "--no-show-raw-insn",
+            *more,
+            f"--start-address={begin:#x}",
+            f"--stop-address={end:#x}",
+            file,
+        ]
+        text = subprocess.run(
+            words, stdout=subprocess.PIPE, stderr=subprocess.DEVNULL
+        ).stdout.decode("utf-8", "replace")
         made.update(all_that_do(text, [it for it in wanted if begin <= it < end]))
     return made
 
@@ -197,7 +246,11 @@ def told(kinds: Mapping[str, int], is_read: bool = True) -> str:
         (kinds[STORE], "by stores over stores"),
         (kinds[UNKNOWN], "by what isn't known"),
     )
-    hidden = "" if is_read or kinds[STORE] * 2 < sum(kinds.values()) else ": the line is hardly read, and a store buffer hides most of that"
+    hidden = (
+        ""
+        if is_read or kinds[STORE] * 2 < sum(kinds.values())
+        else ": the line is hardly read, and a store buffer hides most of that"
+    )
     return ", ".join(f"{count} {what}" for count, what in own if count) + hidden
 
 

@@ -56,7 +56,9 @@ class Marks(NamedTuple):
 def text_shown(text: str) -> str:
     """A literal's first line that has letters, cut, or an empty text where it names nothing."""
     lines = (re.sub(r"^[\s:;,.\-]+|\s+$", "", it) for it in re.split(r"[\n\r\t]+", text))
-    line = next((it for it in lines if len(re.findall("[A-Za-z]", FORMAT.sub("", it))) >= LETTERS), "")
+    line = next(
+        (it for it in lines if len(re.findall("[A-Za-z]", FORMAT.sub("", it))) >= LETTERS), ""
+    )
     if EMPTY.match(line):
         return ""
     return line if len(line) <= SHOWN else line[:SHOWN].rstrip() + CUT
@@ -73,7 +75,10 @@ class Landmarks:
     def texts_of(self, start: int, end: int) -> Iterator[int]:
         """The addresses of texts that a part of a function refers to."""
         code = self.image.bytes(start, end - start)
-        told = (*jumped(code, start, LEA), *(it for pattern in self.image.moves for it in numbers(code, start, pattern)))
+        told = (
+            *jumped(code, start, LEA),
+            *(it for pattern in self.image.moves for it in numbers(code, start, pattern)),
+        )
         yield from (it for _, it in told if self.image.is_constant(it) and self.image.begins(it))
 
     @functools.cached_property
@@ -90,17 +95,31 @@ class Landmarks:
         other, or none."""
         made: list[tuple[bool, bool, int, Assertion]] = []
         found = [it for part in parts for it in self.assertions.of(*part)]
-        jumps = conditional(self.image.bytes(parts[0][0], parts[0][1] - parts[0][0]), parts[0][0]) if found else {}
+        jumps = (
+            conditional(self.image.bytes(parts[0][0], parts[0][1] - parts[0][0]), parts[0][0])
+            if found
+            else {}
+        )
         # (what an assertion's call takes is loaded without a jump)
         loaded = {at for it in found for at in range(it.begin, it.at + CALL_SIZE)}
         for it in found:
-            checks = [at for to in jumps if it.begin <= to <= it.at for at in jumps[to] if at not in loaded]
+            checks = [
+                at
+                for to in jumps
+                if it.begin <= to <= it.at
+                for at in jumps[to]
+                if at not in loaded
+            ]
             distance = min(abs(at - addr) for at in (checks or [it.at]))
-            made.append((it.is_library(), self.users_of(it) > (1 if it.is_header() else MANY), distance, it))
+            made.append(
+                (it.is_library(), self.users_of(it) > (1 if it.is_header() else MANY), distance, it)
+            )
         if not made:
             return None
         is_library, is_common, _, nearest = min(made)
-        return Landmark(COMMON if is_common else ASSERTION, nearest.told(), self.users_of(nearest), is_library)
+        return Landmark(
+            COMMON if is_common else ASSERTION, nearest.told(), self.users_of(nearest), is_library
+        )
 
     def users_of(self, assertion: Assertion) -> int:
         """How many functions an assertion's own one is inlined in."""
@@ -108,7 +127,11 @@ class Landmarks:
 
     def class_of(self, start: int) -> Landmark | None:
         name = self.classes.of(start)
-        return Landmark(CLASS, f"in a method of {classes.told(name)}", 1, classes.is_library(name)) if name else None
+        return (
+            Landmark(CLASS, f"in a method of {classes.told(name)}", 1, classes.is_library(name))
+            if name
+            else None
+        )
 
     @functools.cache
     def text_in(self, parts: tuple[Range, ...]) -> Landmark | None:
@@ -131,7 +154,11 @@ class Landmarks:
         assertion = self.assertion_near(addr, parts)
         if assertion and assertion.strength == ASSERTION and not assertion.is_library:
             return assertion
-        found = [it for it in (assertion, self.class_of(function[0]), self.text_in(tuple(parts))) if it is not None]
+        found = [
+            it
+            for it in (assertion, self.class_of(function[0]), self.text_in(tuple(parts)))
+            if it is not None
+        ]
         return min(found, key=lambda it: (it.is_library, it.strength)) if found else None
 
     def runs(self, low: int, high: int) -> bool:
@@ -170,7 +197,9 @@ class Landmarks:
                         else:
                             above.append(function[0])
             level = above
-        best = sorted(found.values(), key=lambda it: (it[0], it[1].strength, it[1].functions, it[1].text))
+        best = sorted(
+            found.values(), key=lambda it: (it[0], it[1].strength, it[1].functions, it[1].text)
+        )
         told, count = tuple(it for _, it in best[:NAMED]), len(best) + lost + len(level)
         return Marks(told, True, count - len(told)) if told and count <= MOST else None
 
@@ -181,5 +210,9 @@ class Landmarks:
         own = self.own(addr, function) if function else None
         # (what ran before the recording began may have been called from elsewhere)
         has_run = self.runs(addr - CALL_SIZE + 1, addr + 1)
-        called = self.called(function[0]) if function and has_run and (own is None or own.is_library) else None
+        called = (
+            self.called(function[0])
+            if function and has_run and (own is None or own.is_library)
+            else None
+        )
         return called or (Marks((own,)) if own else None)

@@ -2,7 +2,18 @@
 
 from typing import Iterable, Iterator, NamedTuple, Sequence
 
-from fields import RECORDS, Die, alignment_of, bare, counts, name_of, place_in, size_of, type_of, value
+from fields import (
+    RECORDS,
+    Die,
+    alignment_of,
+    bare,
+    counts,
+    name_of,
+    place_in,
+    size_of,
+    type_of,
+    value,
+)
 
 # So many ranges are moved at most.
 MOST = 100_000
@@ -21,10 +32,18 @@ class Shape(NamedTuple):
 
     def dims(self) -> list[int]:
         kind = bare(self.die)
-        return [it or 0 for it in counts(kind)][self.skip :] if kind is not None and kind.tag == "DW_TAG_array_type" else []
+        return (
+            [it or 0 for it in counts(kind)][self.skip :]
+            if kind is not None and kind.tag == "DW_TAG_array_type"
+            else []
+        )
 
     def element(self) -> "Shape":
-        return Shape(self.die, self.skip + 1) if len(self.dims()) > 1 else Shape(type_of(bare(self.die)))
+        return (
+            Shape(self.die, self.skip + 1)
+            if len(self.dims()) > 1
+            else Shape(type_of(bare(self.die)))
+        )
 
     def size(self) -> int:
         dims = self.dims()
@@ -66,7 +85,9 @@ def members_of(record: Die) -> list[Member] | None:
             start, bits = place_in(it)
             if bits is not None or start % 8 or not name_of(it):
                 return None
-            found.append(Member(name_of(it), start // 8, size_of(type_of(it)), Shape(type_of(it)), it))
+            found.append(
+                Member(name_of(it), start // 8, size_of(type_of(it)), Shape(type_of(it)), it)
+            )
     return found if all(it.size for it in found) else None
 
 
@@ -121,7 +142,9 @@ def laid(shape: Shape, change: Change, path: str = "") -> Laid:
     if found.is_as_before(size):
         found = whole
     if record.offset in change.aligned or record.offset in change.parted:
-        return Laid(rounded(found.size, change.line), max(found.alignment, change.line), found.parts)
+        return Laid(
+            rounded(found.size, change.line), max(found.alignment, change.line), found.parts
+        )
     return found
 
 
@@ -133,7 +156,9 @@ def laid_record(record: Die, members: Sequence[Member], change: Change, path: st
     for group in groups or [list(members)]:
         for first, member in enumerate(group):
             inner = by_name[member.name]
-            alignment = max(member.alignment(), inner.alignment, change.line if groups and not first else 1)
+            alignment = max(
+                member.alignment(), inner.alignment, change.line if groups and not first else 1
+            )
             at, most = rounded(at, alignment), max(most, alignment)
             parts += [Part(member.begin + it.begin, it.size, at + it.to) for it in inner.parts]
             at += inner.size
@@ -143,14 +168,21 @@ def laid_record(record: Die, members: Sequence[Member], change: Change, path: st
 def laid_array(shape: Shape, change: Change, path: str) -> Laid:
     element, count = shape.element(), shape.dims()[0]
     wide, inner = element.size(), laid(element, change, f"{path}[]")
-    stride, alignment = rounded(inner.size, inner.alignment) if inner.alignment else inner.size, inner.alignment
+    stride, alignment = (
+        rounded(inner.size, inner.alignment) if inner.alignment else inner.size,
+        inner.alignment,
+    )
     if f"{path}[]" in change.wrapped:
         stride, alignment = rounded(stride, change.line), max(alignment, change.line)
     if stride == wide and inner.is_as_before(wide):
         return Laid(count * wide, alignment, [Part(0, count * wide, 0)])
     if count * len(inner.parts) > MOST:
         raise Unmovable("it has too many elements")
-    parts = [Part(at * wide + it.begin, it.size, at * stride + it.to) for at in range(count) for it in inner.parts]
+    parts = [
+        Part(at * wide + it.begin, it.size, at * stride + it.to)
+        for at in range(count)
+        for it in inner.parts
+    ]
     return Laid(count * stride, alignment, parts)
 
 
@@ -196,7 +228,9 @@ def arrays_in(shape: Shape, begins: list[int], path: str = "", depth: int = 0) -
         yield from arrays_in(element, own, f"{path}[]", depth + 1)
     elif record is not None:
         for it in members_of(record) or []:
-            yield from arrays_in(it.shape, [at + it.begin for at in begins], f"{path}.{it.name}", depth + 1)
+            yield from arrays_in(
+                it.shape, [at + it.begin for at in begins], f"{path}.{it.name}", depth + 1
+            )
 
 
 class Record(NamedTuple):
@@ -218,10 +252,17 @@ def records_in(shape: Shape, begins: list[int], path: str = "", depth: int = 0) 
         element = shape.element()
         wide = element.size()
         if wide and len(begins) * dims[0] <= MOST:
-            yield from records_in(element, [it + at * wide for it in begins for at in range(dims[0])], f"{path}[]", depth + 1)
+            yield from records_in(
+                element,
+                [it + at * wide for it in begins for at in range(dims[0])],
+                f"{path}[]",
+                depth + 1,
+            )
     elif record is not None:
         members = members_of(record)
         if members and len(members) > 1:
             yield Record(path, record, shape, members, begins)
         for it in members or []:
-            yield from records_in(it.shape, [at + it.begin for at in begins], f"{path}.{it.name}", depth + 1)
+            yield from records_in(
+                it.shape, [at + it.begin for at in begins], f"{path}.{it.name}", depth + 1
+            )

@@ -9,7 +9,9 @@ from objects import Thing
 from reports import Block, Site, Symbol
 
 # Files of a program of this machine, and what the kernel and valgrind put beside them.
-LIBRARIES = re.compile(r"(?:^|/)(?:lib(?:c|m|dl|rt|pthread|resolv|gcc_s)[.-][^/]*|ld-linux[^/]*|vgpreload_[^/]*)$|^\[")
+LIBRARIES = re.compile(
+    r"(?:^|/)(?:lib(?:c|m|dl|rt|pthread|resolv|gcc_s)[.-][^/]*|ld-linux[^/]*|vgpreload_[^/]*)$|^\["
+)
 # Sources of the kit for guests, and names that are kept for a C library.
 KIT = re.compile(r"(?:^|/)guest/(?:(?:calls|library|pthread)\.c|start\.S|clib/[^/]*)$")
 RESERVED = re.compile(r"__|_[A-Z]")
@@ -23,7 +25,11 @@ def is_foreign(thing: Thing, naming: Naming) -> bool:
         return bool(LIBRARIES.search(thing.key.path))
     if isinstance(thing.example, Symbol):
         return is_foreign_symbol(thing.example, naming)
-    if isinstance(thing.example, Block) and thing.example.sites and thing.example.sites[0].name != OWN:
+    if (
+        isinstance(thing.example, Block)
+        and thing.example.sites
+        and thing.example.sites[0].name != OWN
+    ):
         return all(is_foreign_site(it, naming) for it in thing.example.sites)
     return False
 
@@ -56,14 +62,24 @@ def is_foreign_site(site: Site, naming: Naming) -> bool:
     path = path_of(site.addr, naming)
     if path is not None:
         return not path or bool(LIBRARIES.search(path))
-    files = [it.file for it in naming.sources.frames(site.addr) if it.file] if naming.sources else []
+    files = (
+        [it.file for it in naming.sources.frames(site.addr) if it.file] if naming.sources else []
+    )
     return site.name in BEGINNINGS or all(KIT.search(it) for it in files)
 
 
-def row_of(folded: Iterable[Thing], is_counted: bool, has_runtime: bool = False) -> tuple[list[int | str], str]:
+def row_of(
+    folded: Iterable[Thing], is_counted: bool, has_runtime: bool = False
+) -> tuple[list[int | str], str]:
     """The numbers of objects that are folded into one line, and what that says; `has_runtime` is whether some are of Go's runtime."""
     own = list(folded)
-    numbers: list[int | str] = [sum(it.useless for it in own), sum(it.useful for it in own)] if is_counted else ["-", "-"]
+    numbers: list[int | str] = (
+        [sum(it.useless for it in own), sum(it.useful for it in own)] if is_counted else ["-", "-"]
+    )
     what = "1 object" if len(own) == 1 else f"{len(own)} objects"
     whose = "the C library or of Go's runtime" if has_runtime else "the C library"
-    return [*numbers, sum(it.count for it in own), sum(len(it.spots) for it in own)], f"{what} of {whose}: --library shows them"
+    return [
+        *numbers,
+        sum(it.count for it in own),
+        sum(len(it.spots) for it in own),
+    ], f"{what} of {whose}: --library shows them"

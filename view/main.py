@@ -74,7 +74,9 @@ def program_of(call: Call) -> "tuple[Program | NativeProgram | None, Sources | N
 
 def lacking(native: "NativeProgram | None") -> str:
     """What a program has in the place of debug information, what is unknown for this, and how that comes to be known."""
-    package = ", or install its package of debug information (Debian: NAME-dbgsym)" if native else ""
+    package = (
+        ", or install its package of debug information (Debian: NAME-dbgsym)" if native else ""
+    )
     if native and native.has_go_table():
         how = f"leave it unstripped, without -s and -w in -ldflags{package}"
         return f"Go's table of functions and lines, but no types, so fields are unknown: {how}"
@@ -143,7 +145,9 @@ def check_seen(view: View) -> None:
     name = view.call.options.get("object")
     if name is not None and not view.chosen():
         if view.naming.program is None and "fail-above" in view.call.options:
-            raise Fault(f"nothing is seen of '{name}', and without '--program' it can't be told whether there is such a variable")
+            raise Fault(
+                f"nothing is seen of '{name}', and without '--program' it can't be told whether there is such a variable"
+            )
         check_name(name, view.naming)
 
 
@@ -175,7 +179,11 @@ def found(call: Call, predator: Predator | None, passes: Passes | None) -> View:
     report = report_of(call, predator)
     strange = stranger(program, report) if program and call.how != "run" else None
     if strange:
-        named = f"{call.program} isn't the program" if call.program else f"{table_of(call)} isn't the table"
+        named = (
+            f"{call.program} isn't the program"
+            if call.program
+            else f"{table_of(call)} isn't the table"
+        )
         say(f"{named} of this report: {strange}; it is left aside")
         call.program = program = sources = None
     memory = memory_of(call, predator, native_of(program))
@@ -206,11 +214,15 @@ def is_above(view: View) -> bool:
     """Whether an object has more than the call allows, which is said."""
     most, by = view.call.number("fail-above", 0), view.call.options.get("by", "useless")
     if by == "useless" and view.misses is None:
-        raise Fault("useless misses are unknown here, so --fail-above can't judge them; --by count can")
+        raise Fault(
+            "useless misses are unknown here, so --fail-above can't judge them; --by count can"
+        )
     found = False
     for it in view.chosen():
         if getattr(it, by) > most:
-            say(f"{view.label(it)} has {getattr(it, by)} {'useless misses' if by == 'useless' else 'counted'}, more than {most}")
+            say(
+                f"{view.label(it)} has {getattr(it, by)} {'useless misses' if by == 'useless' else 'counted'}, more than {most}"
+            )
             found = True
     return found
 
@@ -248,7 +260,13 @@ def keep_inputs(call: Call) -> None:
     """Refuses outputs that are a file which is read or written by the program, or one another, and those for which there is no folder."""
     taken = [
         it
-        for it in (call.subject, call.program, table_of(call), *call.words, *(word.partition("=")[2] for word in call.words))
+        for it in (
+            call.subject,
+            call.program,
+            table_of(call),
+            *call.words,
+            *(word.partition("=")[2] for word in call.words),
+        )
         if it and it != "-"
     ]
     if [call.options.get(name) for name in OUTPUTS].count("-") > 1:

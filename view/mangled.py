@@ -13,7 +13,9 @@ SUFFIX, HASH = re.compile(r"\.llvm\.\d+$"), re.compile(r"::h[0-9a-f]{16}$|\[[0-9
 # as the runtime does.
 PACKAGE = re.compile(r"^(type[.:]\.\w+\.|)[\w.~%-]+(?:/[\w.~%-]+)*/(?=[^/(\[]+\.)")
 SHAPES = re.compile(r"\[go\.shape\..*\]")
-STRING = re.compile(r"std::(?:__cxx11::|__1::)?basic_string<char, ?std::(?:__1::)?char_traits<char>, ?std::(?:__1::)?allocator<char> ?>")
+STRING = re.compile(
+    r"std::(?:__cxx11::|__1::)?basic_string<char, ?std::(?:__1::)?char_traits<char>, ?std::(?:__1::)?allocator<char> ?>"
+)
 # A short name with more letters loses what stands in angle brackets.
 LONG = 48
 OPERATOR = re.compile(r"operator *(?:<=>|<<=|>>=|<<|>>|<=|>=|\(\)|<|>)")
@@ -29,7 +31,9 @@ def demangled(names: list[str]) -> list[str]:
     ran = subprocess.run([tool], input=rows.encode("utf-8", "surrogateescape"), capture_output=True)
     told = ran.stdout.decode("utf-8", "replace").splitlines()
     # (a comma with a blank is between fields that lie in one word)
-    return [HASH.sub("", it).replace(", ", ",") for it in told] if len(told) == len(names) else names
+    return (
+        [HASH.sub("", it).replace(", ", ",") for it in told] if len(told) == len(names) else names
+    )
 
 
 def depths(name: str) -> list[int]:
@@ -49,13 +53,30 @@ def without(name: str, opening: str, kept: str, least: int = 0) -> str:
     deep, out, at = depths(name), "", 0
     closing = CLOSES[OPENS.index(opening)]
     while at < len(name):
-        is_one = name[at] == opening and deep[at] >= least and not name.startswith(("(anonymous", "(*"), at)
+        is_one = (
+            name[at] == opening
+            and deep[at] >= least
+            and not name.startswith(("(anonymous", "(*"), at)
+        )
         if opening == "(" and name.startswith("operator()", max(at - 8, 0)):
             out, at = out + "()", at + 2
             continue
-        end = next((it for it in range(at + 1, len(name)) if name[it] == closing and deep[it] == deep[at]), None) if is_one else None
+        end = (
+            next(
+                (
+                    it
+                    for it in range(at + 1, len(name))
+                    if name[it] == closing and deep[it] == deep[at]
+                ),
+                None,
+            )
+            if is_one
+            else None
+        )
         # (a bracket that a name begins with names a type: `<T as Trait>::name`)
-        is_type = at == 0 or name[at - 1] in " (," or (name[at - 1] == "<" and deep[at] > deep[at - 1])
+        is_type = (
+            at == 0 or name[at - 1] in " (," or (name[at - 1] == "<" and deep[at] > deep[at - 1])
+        )
         if end is not None and not is_type:
             out, at = out + kept, end + 1
         else:
@@ -68,13 +89,23 @@ def short(name: str) -> str:
     angle brackets."""
     if "::" not in name and "(" not in name and "/" not in name:
         return name
-    name = STRING.sub("std::string", PACKAGE.sub(r"\1", name)).replace("std::__cxx11::", "std::").replace("[abi:cxx11]", "")
+    name = (
+        STRING.sub("std::string", PACKAGE.sub(r"\1", name))
+        .replace("std::__cxx11::", "std::")
+        .replace("[abi:cxx11]", "")
+    )
     if len(name) > LONG:
         name = SHAPES.sub("[...]", name)
     name = without(re.sub(r"\) const\b", ")", name), "(", "")
-    if "operator" not in name and not re.search(r"(?:^|\W)\w+ for ", name) and not name.startswith("<"):
+    if (
+        "operator" not in name
+        and not re.search(r"(?:^|\W)\w+ for ", name)
+        and not name.startswith("<")
+    ):
         deep = depths(name)
-        name = name[max((at + 1 for at, it in enumerate(name) if it == " " and deep[at] == 0), default=0) :]
+        name = name[
+            max((at + 1 for at, it in enumerate(name) if it == " " and deep[at] == 0), default=0) :
+        ]
     for least in (1, 0):
         if len(name) > LONG:
             name = without(name, "<", "<..>", least)
@@ -111,10 +142,16 @@ class Names:
 
     def shortened(self, text: str) -> str:
         """A text with each name in it short."""
-        for it in sorted((it for it, other in self.shorts.items() if it != other and it in text), key=len, reverse=True):
+        for it in sorted(
+            (it for it, other in self.shorts.items() if it != other and it in text),
+            key=len,
+            reverse=True,
+        ):
             text = text.replace(it, self.shorts[it])
         return text
 
     def lasting(self, name: str) -> str:
         """A symbol's name as another build has it too."""
-        return self.readable(name) if re.search(r"17h[0-9a-f]{16}E|\.llvm\.\d+$|^_R", name) else name
+        return (
+            self.readable(name) if re.search(r"17h[0-9a-f]{16}E|\.llvm\.\d+$|^_R", name) else name
+        )

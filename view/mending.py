@@ -17,7 +17,9 @@ def patch_text(view: View) -> str:
     """The patch. What it can't say is noted."""
     if view.tried is None:
         wanted = "a trace in a file, a program with debug information, and a predator with `move`"
-        raise Fault(f"`--patch` writes repairs that were counted, and none could be: it takes {wanted}")
+        raise Fault(
+            f"`--patch` writes repairs that were counted, and none could be: it takes {wanted}"
+        )
     edits: list[Edit] = []
     for it in view.tried.values():
         if it.repair is None or not it.is_saving():

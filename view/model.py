@@ -38,8 +38,21 @@ Declared = tuple[str, int]
 class Seen:
     """One object as it is shown: its words, the explained lines, and what to do about it."""
 
-    def __init__(self, thing: Thing, words: list[Told], explained: Takings | None, todo: str, declared: Declared | None) -> None:
-        self.thing, self.words, self.explained, self.todo, self.declared = thing, words, explained, todo, declared
+    def __init__(
+        self,
+        thing: Thing,
+        words: list[Told],
+        explained: Takings | None,
+        todo: str,
+        declared: Declared | None,
+    ) -> None:
+        self.thing, self.words, self.explained, self.todo, self.declared = (
+            thing,
+            words,
+            explained,
+            todo,
+            declared,
+        )
 
     def worst(self) -> Told | None:
         return worst_word([it for it in self.words if it.key == self.thing.key])
@@ -86,10 +99,14 @@ class View:
     def count(self, predator: Predator | None, passes: Passes | None) -> None:
         """Has the misses counted, under the report's layout, for each word, and under the layouts of predicted lines."""
         if predator is None:
-            self.notes.append("a report alone doesn't tell misses: `view run` or `view replay` does; objects stand by the report's count")
+            self.notes.append(
+                "a report alone doesn't tell misses: `view run` or `view replay` does; objects stand by the report's count"
+            )
             return
         if not predator.has("misses"):
-            self.notes.append("this program has no command `misses`, so misses are unknown; objects stand by the report's count")
+            self.notes.append(
+                "this program has no command `misses`, so misses are unknown; objects stand by the report's count"
+            )
             return
         if self.call.reads_once():
             self.notes.append(
@@ -97,32 +114,48 @@ class View:
             )
             return
         brief, foreseen = is_brief(self.call), self.foreseen_layouts()
-        asked = first_readers((self.report.size, self.report.offset), is_blamed(self.call, predator), brief)
+        asked = first_readers(
+            (self.report.size, self.report.offset), is_blamed(self.call, predator), brief
+        )
         readers = [*asked.values(), *map(misses_under, foreseen)]
         try:
             if passes is not None and self.call.trace():
                 counted = passes.told(readers)
             else:
-                counted = predator.counted_of_run([*self.call.words_to_run(), *self.call.own], readers, self.call.spare)
+                counted = predator.counted_of_run(
+                    [*self.call.words_to_run(), *self.call.own], readers, self.call.spare
+                )
         except Refused as refused:
             self.notes.append(f"misses are unknown: {refused}")
             return
         if any(it.accesses != self.report.accesses for it in counted):
-            self.notes.append("the trace is a part of what the report counts, so its misses are unknown")
+            self.notes.append(
+                "the trace is a part of what the report counts, so its misses are unknown"
+            )
             return
         self.note_lacked(predator)
         told = dict(zip(asked, counted))
-        self.by_word, self.misses = cast("Misses | None", told.get("words")), cast(Misses, told["lines"])
-        self.each, self.blame = cast("Report | None", told.get("each")), cast("Blame | None", told.get("blame"))
+        self.by_word, self.misses = cast("Misses | None", told.get("words")), cast(
+            Misses, told["lines"]
+        )
+        self.each, self.blame = cast("Report | None", told.get("each")), cast(
+            "Blame | None", told.get("blame")
+        )
         self.by_layout = dict(zip(foreseen, cast(list[Misses], counted[len(asked) :])))
         if brief:
             all_of_it = "unless `--words` asks for all"
-            self.notes.append(f"of a long trace repairs are counted in its first part, and predicted lines left out, {all_of_it}")
+            self.notes.append(
+                f"of a long trace repairs are counted in its first part, and predicted lines left out, {all_of_it}"
+            )
 
     def foreseen_layouts(self) -> list[Layout]:
         """The layouts of the predicted lines whose misses are counted."""
         options = self.call.options
-        return [] if "no-predicted" in options or is_brief(self.call) else worth_counting(self.report, self.naming, "predicted" in options)
+        return (
+            []
+            if "no-predicted" in options or is_brief(self.call)
+            else worth_counting(self.report, self.naming, "predicted" in options)
+        )
 
     def note_lacked(self, predator: Predator) -> None:
         """Notes that a thread never ran since no hart was free."""
@@ -134,11 +167,20 @@ class View:
 
     def look_for_overflow(self, predator: Predator | None) -> None:
         """Looks, where the run didn't end well, whether a hart ran out of its stack."""
-        if predator is None or self.report.ended_well() or not self.naming.memory.each or self.call.reads_once():
+        if (
+            predator is None
+            or self.report.ended_well()
+            or not self.naming.memory.each
+            or self.call.reads_once()
+        ):
             return
         trace = self.call.trace()
         with contextlib.suppress(Refused, OSError):
-            last = last_of_file(trace) if trace else last_of_run(predator, [*self.call.words_to_run(), *self.call.own])
+            last = (
+                last_of_file(trace)
+                if trace
+                else last_of_run(predator, [*self.call.words_to_run(), *self.call.own])
+            )
             self.overflow = overflow(last, self.naming.memory)
 
     def place(self, predator: Predator | None, things: Sequence[Thing]) -> None:
@@ -169,9 +211,15 @@ class View:
             name_by_instructions(self.things, self.blame, self.naming)
             self.runtime = of_runtime(self.things, self.blame, self.naming)
             self.all.update(together(self.things))
-            self.things = sorted(dict.fromkeys(self.all[it.key] for it in self.things), key=Thing.rank)
+            self.things = sorted(
+                dict.fromkeys(self.all[it.key] for it in self.things), key=Thing.rank
+            )
         self.keys = keys_over_builds(dict.fromkeys(self.all.values()), self.naming)
-        self.predicted = [] if "no-predicted" in self.call.options else judged(self.report, self.misses, self.by_layout, self.naming)
+        self.predicted = (
+            []
+            if "no-predicted" in self.call.options
+            else judged(self.report, self.misses, self.by_layout, self.naming)
+        )
         for line in self.predicted:
             for key, example in line.keys.items():
                 if key not in self.all:
@@ -188,11 +236,22 @@ class View:
             if addr % 8 != 4 or addr - 4 not in words or words[addr - 4].useful != word.useful:
                 needed[(addr - offset) // size * size + offset] += word.useful
         for it in self.things if self.by_word or self.blame else ():
-            missed = [(spot.missed.useless, spot.missed.useful, spot.base) for spot in it.spots if spot.missed]
+            missed = [
+                (spot.missed.useless, spot.missed.useful, spot.base)
+                for spot in it.spots
+                if spot.missed
+            ]
             if self.by_word:
-                it.saves = sum(max(0, min(useless, useless + useful - needed[base])) for useless, useful, base in missed)
+                it.saves = sum(
+                    max(0, min(useless, useless + useful - needed[base]))
+                    for useless, useful, base in missed
+                )
             else:
-                it.saves = sum(min(useless, self.taken_for_nothing(base)) for useless, _, base in missed if useless)
+                it.saves = sum(
+                    min(useless, self.taken_for_nothing(base))
+                    for useless, _, base in missed
+                    if useless
+                )
         self.things.sort(key=Thing.rank)
         self.foreign = {it.key for it in self.things if is_foreign(it, self.naming)}
 
@@ -211,7 +270,11 @@ class View:
     def saved(self, thing: Thing) -> int:
         """How many misses the best repair of an object saves, as far as that was counted; what words can't tell isn't."""
         found = (self.tried or {}).get(thing.key)
-        return found.saved() if found is not None and found.after is not None and not found.mixed() else thing.saves
+        return (
+            found.saved()
+            if found is not None and found.after is not None and not found.mixed()
+            else thing.saves
+        )
 
     def chosen(self) -> list[Thing]:
         """The objects that the call wants to see."""
@@ -231,18 +294,30 @@ class View:
     def foretold(self) -> list[Foretold]:
         """The predicted lines of the objects that the call wants to see."""
         name = self.call.options.get("object")
-        return [it for it in self.predicted if name is None or name in {self.all[key].name for key in it.keys if key in self.all}]
+        return [
+            it
+            for it in self.predicted
+            if name is None or name in {self.all[key].name for key in it.keys if key in self.all}
+        ]
 
     def label(self, thing: Thing) -> str:
         """An object's name, and what tells it from others of the same one: the line that an inlined function was called from, or an
         address."""
         if self.label_counts is None:
-            self.label_counts = Counter(name for it in dict.fromkeys(self.all.values()) for name in {it.name, it.name + self.caller(it)})
+            self.label_counts = Counter(
+                name
+                for it in dict.fromkeys(self.all.values())
+                for name in {it.name, it.name + self.caller(it)}
+            )
         if self.label_counts[thing.name] < 2:
             return thing.name
         if isinstance(thing.example, Block) and thing.example.sites:
             own = thing.name + self.caller(thing)
-            return own if self.label_counts[own] == 1 else f"{thing.name}, by {self.told_apart(thing, thing.example)}"
+            return (
+                own
+                if self.label_counts[own] == 1
+                else f"{thing.name}, by {self.told_apart(thing, thing.example)}"
+            )
         if isinstance(thing.key, (OfSymbol, OfMemory)):
             return f"{thing.name}, at {shown(thing.key.addr if isinstance(thing.key, OfSymbol) else thing.key.page)}"
         return thing.name
@@ -250,7 +325,11 @@ class View:
     def told_apart(self, thing: Thing, block: Block) -> str:
         """The first line among a block's callers that no other object of its name has there, or else an address."""
         chain = self.naming.chain(block.sites)
-        same = [it.example for it in dict.fromkeys(self.all.values()) if it.name == thing.name and it is not thing]
+        same = [
+            it.example
+            for it in dict.fromkeys(self.all.values())
+            if it.name == thing.name and it is not thing
+        ]
         others = [self.naming.chain(it.sites) for it in same if isinstance(it, Block) and it.sites]
         for at, site in enumerate(chain):
             line = self.naming.site(site)
@@ -260,9 +339,17 @@ class View:
 
     def caller(self, thing: Thing) -> str:
         """Of blocks that an inlined function makes the line that it was called from, as a part of their label."""
-        if not isinstance(thing.example, Block) or not thing.example.sites or not self.naming.sources:
+        if (
+            not isinstance(thing.example, Block)
+            or not thing.example.sites
+            or not self.naming.sources
+        ):
             return ""
-        lines = [it.short() for it in self.naming.sources.frames(self.naming.chain(thing.example.sites)[0].addr) if it.short()]
+        lines = [
+            it.short()
+            for it in self.naming.sources.frames(self.naming.chain(thing.example.sites)[0].addr)
+            if it.short()
+        ]
         return f", from {lines[-1]}" if len(lines) > 1 else ""
 
     def is_named(self, thing: Thing) -> bool:
@@ -276,7 +363,11 @@ class View:
         """What a call may name an object by: its own name, and those beside it."""
         parts = [thing, *(self.all[key] for key in thing.beside)]
         own = {it.name for it in parts} | {self.naming.key_name(it.key, it.example) for it in parts}
-        return own | {self.naming.names.shortened(it) for it in own} | {it.partition(" made at ")[2].partition(" ")[0] for it in own}
+        return (
+            own
+            | {self.naming.names.shortened(it) for it in own}
+            | {it.partition(" made at ")[2].partition(" ")[0] for it in own}
+        )
 
     def explain(self, predator: Predator | None, things: Sequence[Thing]) -> None:
         """Tells what takes the worst lines of the first objects: by the trace, or by as many runs side by side."""
@@ -285,24 +376,42 @@ class View:
         if self.blame is not None:
             found = (self.blame.takings(it.worst().base) for it in things)
             self.explained = {it.base: it for it in found if it}
-        elif predator is not None and most and program is None and trace and has_pcs(trace) and not predator.has("blame"):
-            self.notes.append("this program has no command `blame`, so the instructions that fight are unknown")
+        elif (
+            predator is not None
+            and most
+            and program is None
+            and trace
+            and has_pcs(trace)
+            and not predator.has("blame")
+        ):
+            self.notes.append(
+                "this program has no command `blame`, so the instructions that fight are unknown"
+            )
         elif is_brief(self.call) and "explain" not in self.call.options:
             runs = "unless `--explain N` asks: each takes a run"
-            self.notes.append(f"of a long trace without pcs the instructions that fight are unknown, {runs}")
+            self.notes.append(
+                f"of a long trace without pcs the instructions that fight are unknown, {runs}"
+            )
         elif program is not None and predator is not None and most:
             self.explain_by_runs(predator, program, things[:most])
         shown = None if "words" in self.call.options else 8
-        self.naming.prepare({at for it in self.explained.values() for pair in it.pairs[:shown] for at in pair[:2]})
+        self.naming.prepare(
+            {at for it in self.explained.values() for pair in it.pairs[:shown] for at in pair[:2]}
+        )
         if self.naming.program is not None:
-            self.does = of_program(self.naming.program, {at for it in self.explained.values() for pair in it.pairs for at in pair[:2]})
+            self.does = of_program(
+                self.naming.program,
+                {at for it in self.explained.values() for pair in it.pairs for at in pair[:2]},
+            )
             self.put_dear_first()
 
     def put_dear_first(self) -> None:
         """Puts those objects whose worst lines are explained in the order of what they save, where a taking for which no instruction waits
         counts less."""
         own = [at for at, it in enumerate(self.things) if it.worst().base in self.explained]
-        ranked = sorted((self.things[at] for at in own), key=lambda it: (-it.saves * self.weight(it), it.rank()))
+        ranked = sorted(
+            (self.things[at] for at in own), key=lambda it: (-it.saves * self.weight(it), it.rank())
+        )
         for at, it in zip(own, ranked):
             self.things[at] = it
 
@@ -322,14 +431,18 @@ class View:
     def explain_by_runs(self, predator: Predator, program: str, things: Sequence[Thing]) -> None:
         spots = [spot for spot in (it.worst() for it in things) if spot.base >= 0]
         if spots and not predator.has("explain"):
-            self.notes.append("this program has no command `explain`, so the instructions that fight are unknown")
+            self.notes.append(
+                "this program has no command `explain`, so the instructions that fight are unknown"
+            )
             return
         asked = functools.partial(self.asked, predator, program)
         with concurrent.futures.ThreadPoolExecutor(max_workers=min(4, os.cpu_count() or 1)) as pool:
             for spot, it in zip(spots, pool.map(asked, spots)):
                 if isinstance(it, Refused):
                     self.notes.append(f"what fights over {spot.base:#010x} is unknown: {it}")
-                elif it.accesses == self.report.accesses and (spot.line is None or it.count == spot.line.count):
+                elif it.accesses == self.report.accesses and (
+                    spot.line is None or it.count == spot.line.count
+                ):
                     self.explained[spot.base] = it.takings
                 else:
                     self.notes.append(
@@ -338,30 +451,61 @@ class View:
 
     def note_idle(self) -> None:
         """Notes options that matched nothing: a type for blocks that aren't fought over, and a folder without a source of the program."""
-        blocks = [it.example for it in self.all.values() if isinstance(it.example, Block) and it.example.sites]
+        blocks = [
+            it.example
+            for it in self.all.values()
+            if isinstance(it.example, Block) and it.example.sites
+        ]
         sites = [self.naming.names_of_site(it) for it in blocks]
         for site in (site for site, _ in self.naming.types if not any(site in it for it in sites)):
             first = [self.naming.chain(it.sites)[0] for it in blocks]
             made = sorted({self.naming.site(it) or short(self.naming.called(it)) for it in first})
-            there = f"blocks that are fought over are made at {advice.listing(made)}" if made else "no block is fought over"
+            there = (
+                f"blocks that are fought over are made at {advice.listing(made)}"
+                if made
+                else "no block is fought over"
+            )
             self.notes.append(f"`--type {site}=..` matches nothing: {there}")
         folder, sources = self.call.options.get("sources", ""), self.naming.sources
-        files = sorted({it.file for frames in sources.places.values() for it in frames if it.file}) if folder and sources else []
-        if files and not any(os.path.isfile(os.path.join(folder, it)) for file in files for it in (file, os.path.basename(file))):
-            self.notes.append(f"`--sources {folder}` has none of the program's sources: {advice.listing(map(os.path.basename, files))}")
+        files = (
+            sorted({it.file for frames in sources.places.values() for it in frames if it.file})
+            if folder and sources
+            else []
+        )
+        if files and not any(
+            os.path.isfile(os.path.join(folder, it))
+            for file in files
+            for it in (file, os.path.basename(file))
+        ):
+            self.notes.append(
+                f"`--sources {folder}` has none of the program's sources: {advice.listing(map(os.path.basename, files))}"
+            )
 
     def asked(self, predator: Predator, program: str, spot: Spot) -> Explained | Refused:
         """What `explain` says of a line, or how it refuses to."""
         start, words = spot.line.start if spot.line else 0, self.call.settings_words()
         try:
-            return predator.explained([program, f"{spot.base:#010x}", str(self.report.size), str(start), *words, *self.call.own])
+            return predator.explained(
+                [
+                    program,
+                    f"{spot.base:#010x}",
+                    str(self.report.size),
+                    str(start),
+                    *words,
+                    *self.call.own,
+                ]
+            )
         except Refused as refused:
             return refused
 
     def seen(self, thing: Thing) -> Seen:
         """What is shown of an object."""
         if thing.key not in self.cached:
-            words = [it for spot in thing.worst_first() for it in words_of(spot, self.naming, self.by_word)]
+            words = [
+                it
+                for spot in thing.worst_first()
+                for it in words_of(spot, self.naming, self.by_word)
+            ]
             todo = self.advised(thing, words)
             explained = self.explained.get(thing.worst().base)
             self.cached[thing.key] = Seen(thing, words, explained, todo, self.declared(thing))
@@ -398,8 +542,18 @@ class View:
         if thing.name == HEAP:
             return advice.of_allocator()
         names = {key: self.label(self.all[key]) for key in thing.beside}
-        todo = advice.sentence(thing, words, names, self.align_to(thing), self.misses is not None, self.element(thing), self.turns())
-        return todo + advice.placing(self.placed.get(thing.key), lambda addr: field_at(addr, thing.example, self.naming))
+        todo = advice.sentence(
+            thing,
+            words,
+            names,
+            self.align_to(thing),
+            self.misses is not None,
+            self.element(thing),
+            self.turns(),
+        )
+        return todo + advice.placing(
+            self.placed.get(thing.key), lambda addr: field_at(addr, thing.example, self.naming)
+        )
 
     def turns(self) -> int:
         """How many steps a hart's turn has, or 0 where that isn't known."""
@@ -429,8 +583,18 @@ class View:
             from repairs import own_lines
 
             program, is_block = self.naming.program, isinstance(thing.example, Block)
-            variable = program.variable(thing.example.addr) if program and isinstance(thing.example, Symbol) else None
-            whole = variable.type if variable else self.naming.type_of_block(thing.example) if isinstance(thing.example, Block) else None
+            variable = (
+                program.variable(thing.example.addr)
+                if program and isinstance(thing.example, Symbol)
+                else None
+            )
+            whole = (
+                variable.type
+                if variable
+                else self.naming.type_of_block(thing.example)
+                if isinstance(thing.example, Block)
+                else None
+            )
             of = at_path(whole, array.removeprefix(thing.name)) if whole is not None else None
             of = element_of(of) if element_of(of) is not None else (of if is_block else None)
             return own_lines(Shape(of), self.align_to(thing)) if of is not None else ""
@@ -460,7 +624,9 @@ def keys_over_builds(things: Iterable[Thing], naming: Naming) -> dict[Key, str]:
             text = f"symbol {naming.names.lasting(it.key.name)}"
         elif isinstance(it.key, OfBlocks):
             text = "block " + (
-                " < ".join(naming.functions(it.example.sites)) if isinstance(it.example, Block) and it.example.sites else "-"
+                " < ".join(naming.functions(it.example.sites))
+                if isinstance(it.example, Block) and it.example.sites
+                else "-"
             )
         else:
             text = "memory" if isinstance(it.key, OfMemory) else f"{it.key.kind} {it.key[1]}"
@@ -471,7 +637,9 @@ def keys_over_builds(things: Iterable[Thing], naming: Naming) -> dict[Key, str]:
     return found
 
 
-def memory_of(call: Call, predator: Predator | None, native: "NativeProgram | None" = None) -> Memory:
+def memory_of(
+    call: Call, predator: Predator | None, native: "NativeProgram | None" = None
+) -> Memory:
     """Where the stacks of a program lie: of one of this machine by its table back, and of a guest under the settings of the call."""
     if native is not None:
         from native import NativeMemory
@@ -480,5 +648,9 @@ def memory_of(call: Call, predator: Predator | None, native: "NativeProgram | No
     if call.program is None or predator is None:
         return Memory()
     words = call.settings_words()
-    own = [it for at, it in enumerate(words) if not (it.startswith("--schedule") or at and words[at - 1] == "--schedule")]
+    own = [
+        it
+        for at, it in enumerate(words)
+        if not (it.startswith("--schedule") or at and words[at - 1] == "--schedule")
+    ]
     return Memory(stacks(predator, call.program, own), setting(own, "harts"))

@@ -30,21 +30,52 @@ Found = Union[Symbol, Block, None]
 
 # Functions of allocators: a block's name begins with the call of one, or of what calls it.
 ALLOCATORS = {
-    *("malloc", "calloc", "realloc", "reallocarray", "aligned_alloc", "memalign", "posix_memalign", "valloc", "strdup", "strndup"),
+    *(
+        "malloc",
+        "calloc",
+        "realloc",
+        "reallocarray",
+        "aligned_alloc",
+        "memalign",
+        "posix_memalign",
+        "valloc",
+        "strdup",
+        "strndup",
+    ),
     *("predator_alloc", "mmap", "sbrk", "_Znwj", "_Znaj", "_Znwm", "_Znam", "operator"),
 }
 # The function of the kit that notes what each hart has for itself.
 OWN = "thread_locals"
 # Where harts begin: callers that say nothing.
 BEGINNINGS = {
-    *("_start", "start", "predator_start", "thread_entry", "hart_entry", "predator_thread", "begin_thread", "-"),
+    *(
+        "_start",
+        "start",
+        "predator_start",
+        "thread_entry",
+        "hart_entry",
+        "predator_thread",
+        "begin_thread",
+        "-",
+    ),
     # (of programs of this machine)
-    *("__libc_start_call_main", "__libc_start_main", "start_thread", "clone", "clone3", "runtime.main", "runtime.goexit"),
+    *(
+        "__libc_start_call_main",
+        "__libc_start_main",
+        "start_thread",
+        "clone",
+        "clone3",
+        "runtime.main",
+        "runtime.goexit",
+    ),
 }
 # The same by how their names begin: code of the C library without one, and of Rust.
 BEGUN = (
     *("libc.so.", "ld-linux", "std::rt::lang_start"),
-    *("std::sys::backtrace::__rust_begin_short_backtrace", "std::sys_common::backtrace::__rust_begin_short"),
+    *(
+        "std::sys::backtrace::__rust_begin_short_backtrace",
+        "std::sys_common::backtrace::__rust_begin_short",
+    ),
 )
 
 
@@ -53,7 +84,15 @@ LIBRARIES = re.compile(
     r"/include/c\+\+/|/lib/gcc/|/rustc/[0-9a-f]+/library/|(?:^|/)(?:sync|runtime/internal|internal/runtime)/atomic/[^/]*\.go$"
 )
 # The libraries of C and C++ that each program has, by how their files' names begin, and functions of Go's runtime.
-OF_LANGUAGE = ("libc.so.", "ld-linux", "libpthread.so.", "libm.so.", "libstdc++.so.", "libc++.so.", "libgcc_s.so.")
+OF_LANGUAGE = (
+    "libc.so.",
+    "ld-linux",
+    "libpthread.so.",
+    "libm.so.",
+    "libstdc++.so.",
+    "libc++.so.",
+    "libgcc_s.so.",
+)
 OF_GO = re.compile(r"(?:runtime|(?:runtime/)?internal/[\w/]+)\.")
 # Sources of the C library's allocator.
 ALLOCATING = re.compile(r"(?:^|/)malloc/(?:malloc|arena)\.c$")
@@ -98,7 +137,12 @@ class Naming:
         types: Iterable[str] = (),
         memory: Memory | None = None,
     ) -> None:
-        self.where, self.program, self.sources, self.memory = report.where if report else {}, program, sources, memory or Memory()
+        self.where, self.program, self.sources, self.memory = (
+            report.where if report else {},
+            program,
+            sources,
+            memory or Memory(),
+        )
         self.names = Names()
         self.keys: dict[tuple[Site, ...], tuple[str, ...]] = {}
         self.types = [it.partition("=")[::2] for it in types]
@@ -124,7 +168,9 @@ class Naming:
     def near(self, addr: int) -> "Near | Marks | None":
         """What is told of an instruction without a function and a line by what its function refers to, or none; reports of native programs
         tell it."""
-        is_known = self.sources is not None and any(it.function or it.file for it in self.sources.frames(addr))
+        is_known = self.sources is not None and any(
+            it.function or it.file for it in self.sources.frames(addr)
+        )
         from_file = None if is_known else getattr(self.program, "near", None)
         return from_file(addr) if from_file else None
 
@@ -132,7 +178,11 @@ class Naming:
         """The function of a call site, or where it has none its library."""
         if site.name != "-":
             return self.readable(site.name)
-        return (self.frame(site.addr) if self.site(site) else "") or self.library(site.addr) or site.name
+        return (
+            (self.frame(site.addr) if self.site(site) else "")
+            or self.library(site.addr)
+            or site.name
+        )
 
     def is_beginning(self, site: Site) -> bool:
         name = self.called(site)
@@ -164,7 +214,9 @@ class Naming:
     def own_frames(self, addr: int) -> list[Place]:
         """The functions inlined at an instruction, the innermost first, from the first on that isn't of a language's own library."""
         frames = self.sources.frames(addr) if self.sources else []
-        first = next((at for at, it in enumerate(frames) if it.file and not LIBRARIES.search(it.file)), 0)
+        first = next(
+            (at for at, it in enumerate(frames) if it.file and not LIBRARIES.search(it.file)), 0
+        )
         return frames[first:]
 
     def instruction(self, addr: int) -> str:
@@ -173,18 +225,38 @@ class Naming:
         place = next((it for it in frames if it.file and it.line), None)
         names = [self.readable(it.function) for it in frames if it.function]
         near = sources.near(addr) if sources and place is None else None
-        told = place.short() if place else f"near {near.short()}" if near else self.library(addr) or f"0x{addr:08x}"
+        told = (
+            place.short()
+            if place
+            else f"near {near.short()}"
+            if near
+            else self.library(addr) or f"0x{addr:08x}"
+        )
         beside = self.near(addr) if not names else None
-        return f"{told} ({' < '.join(names[:2])})" if names else f"{told} ({beside.told()})" if beside else told
+        return (
+            f"{told} ({' < '.join(names[:2])})"
+            if names
+            else f"{told} ({beside.told()})"
+            if beside
+            else told
+        )
 
     def is_of_language(self, addr: int) -> bool:
         """Whether an instruction is of a library that each program of its language has, as far as its line was looked up."""
         frames = self.sources.frames(addr) if self.sources else []
-        return self.library(addr).startswith(OF_LANGUAGE) or bool(frames) and bool(OF_GO.match(frames[-1].function))
+        return (
+            self.library(addr).startswith(OF_LANGUAGE)
+            or bool(frames)
+            and bool(OF_GO.match(frames[-1].function))
+        )
 
     def is_allocator(self, addr: int) -> bool:
         """Whether an instruction is of the C library's allocator."""
-        return any(ALLOCATING.search(it.file) for it in self.sources.frames(addr)) if self.sources else False
+        return (
+            any(ALLOCATING.search(it.file) for it in self.sources.frames(addr))
+            if self.sources
+            else False
+        )
 
     def frame(self, addr: int) -> str:
         """The function whose frame an instruction runs in, which isn't inlined, or an empty text."""
@@ -196,7 +268,9 @@ class Naming:
         is_native = hasattr(self.program, "library")
         if not is_native:
             return list(sites)
-        return list(itertools.takewhile(lambda it: it.name != "-" or self.library(it.addr), sites)) or list(sites[:1])
+        return list(
+            itertools.takewhile(lambda it: it.name != "-" or self.library(it.addr), sites)
+        ) or list(sites[:1])
 
     def chain(self, sites: Sequence[Site]) -> list[Site]:
         """The sites of a block from the one that wants it on: without the allocator's own, and without where harts begin."""
@@ -208,7 +282,10 @@ class Naming:
         """The call sites by functions alone, which other builds of the program have too."""
         sites = self.in_code(sites)
         own = [it for it in sites if it.name not in ALLOCATORS] or list(sites)
-        return [self.names.lasting(it.name) for it in [it for it in own if it.name not in BEGINNINGS] or own[:1]]
+        return [
+            self.names.lasting(it.name)
+            for it in [it for it in own if it.name not in BEGINNINGS] or own[:1]
+        ]
 
     def near_sites(self, chain: Sequence[Site]) -> tuple[int, str]:
         """Of a block's call sites the first whose function refers to something, if need be by what calls the last one; and what that is."""
@@ -222,7 +299,9 @@ class Naming:
     def is_told(self, sites: Sequence[Site]) -> bool:
         """Whether a function, a line, or what stripped code refers to tells any of a block's call sites."""
         chain = self.chain(sites) if sites else []
-        return any(it.name != "-" or self.site(it) for it in chain) or bool(self.near_sites(chain)[1])
+        return any(it.name != "-" or self.site(it) for it in chain) or bool(
+            self.near_sites(chain)[1]
+        )
 
     def block(self, sites: Sequence[Site]) -> str:
         if not sites:
@@ -232,11 +311,19 @@ class Naming:
         chain = self.chain(sites)
         at = self.site(chain[0])
         near, told = self.near_sites(chain)
-        rest = [self.called(it) + (told if at == near else "") for at, it in enumerate(chain) if at > 0]
+        rest = [
+            self.called(it) + (told if at == near else "") for at, it in enumerate(chain) if at > 0
+        ]
         name = self.called(chain[0])
         first = at or ("an unknown function" if name == "-" else name)
         # (a line says more with its function, unless that is named next anyway)
-        first += f" ({self.function(chain[0])})" if at and not rest and chain[0].name != "main" else told if near == 0 else ""
+        first += (
+            f" ({self.function(chain[0])})"
+            if at and not rest and chain[0].name != "main"
+            else told
+            if near == 0
+            else ""
+        )
         return ("block made at " if at else "block made in ") + " < ".join(
             [first, *(rest or (["main"] if at and chain[0].name == "main" else []))]
         )
@@ -249,7 +336,11 @@ class Naming:
             return self.block(example.sites if isinstance(example, Block) else ())
         if isinstance(key, OfFile):
             return f"memory of {os.path.basename(key.path)}"
-        return f"stack of {self.memory.owner(key.hart)}" if isinstance(key, OfStack) else f"memory at {shown(key.page)}"
+        return (
+            f"stack of {self.memory.owner(key.hart)}"
+            if isinstance(key, OfStack)
+            else f"memory at {shown(key.page)}"
+        )
 
     def type_of_block(self, block: Block) -> Any:
         """The type of a block's elements as the call tells it, or none."""
@@ -261,7 +352,13 @@ class Naming:
     def names_of_site(self, block: Block) -> set[str]:
         """What a call may name the call site of a block by: its line, its function, also as the screen has it, or its address."""
         chain = self.chain(block.sites)
-        names = {self.site(chain[0]), self.function(chain[0]), chain[0].name, self.called(chain[0]), shown(chain[0].addr)}
+        names = {
+            self.site(chain[0]),
+            self.function(chain[0]),
+            chain[0].name,
+            self.called(chain[0]),
+            shown(chain[0].addr),
+        }
         return {*names, *map(short, names)} - {""}
 
     def word(self, addr: int, thing: Found) -> tuple[str, str, str]:
@@ -288,7 +385,11 @@ class Naming:
             return None
         if isinstance(thing, Symbol):
             variable = self.program.variable(thing.addr)
-            return (variable.type, addr - thing.addr) if variable and variable.type is not None else None
+            return (
+                (variable.type, addr - thing.addr)
+                if variable and variable.type is not None
+                else None
+            )
         from fields import size_of
 
         element = None if thing.sites and thing.sites[0].name == OWN else self.type_of_block(thing)
@@ -311,9 +412,15 @@ class Naming:
             return None
         if isinstance(thing, Symbol):
             variable = self.program.variable(thing.addr)
-            return self.parts(variable.type, name, offset) if variable and variable.type is not None else None
+            return (
+                self.parts(variable.type, name, offset)
+                if variable and variable.type is not None
+                else None
+            )
         if thing.sites and thing.sites[0].name == OWN:
-            own = next((it for it in self.program.thread_locals() if it[0] <= offset < it[0] + it[1]), None)
+            own = next(
+                (it for it in self.program.thread_locals() if it[0] <= offset < it[0] + it[1]), None
+            )
             return self.parts(None, own[2], offset - own[0]) if own else None
         element = self.type_of_block(thing)
         return None if element is None else self.element(element, "", offset, thing.size)
@@ -328,7 +435,11 @@ class Naming:
             whole = words_of(kind, name, offset)
             return whole, "", whole
         whole = words_of(kind, name, offset)
-        return whole, f"{name}[{offset // size_of(of)}]", words_of(of, "", offset % size_of(of)) or "itself"
+        return (
+            whole,
+            f"{name}[{offset // size_of(of)}]",
+            words_of(of, "", offset % size_of(of)) or "itself",
+        )
 
     def element(self, kind: Any, name: str, offset: int, size: int) -> tuple[str, str, str]:
         from fields import size_of, words_of

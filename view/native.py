@@ -30,7 +30,9 @@ DEBUG = "/usr/lib/debug/.build-id"
 
 
 # What follows `site` and `frame` in a table back; a file's name may have blanks.
-SITE, FRAME = re.compile(r"(0x\S+) (0x\S+) (\S+) (-|.*?:\d+) .*"), re.compile(r"(0x\S+) (-|.*?:\d+) (.*)")
+SITE, FRAME = re.compile(r"(0x\S+) (0x\S+) (\S+) (-|.*?:\d+) .*"), re.compile(
+    r"(0x\S+) (-|.*?:\d+) (.*)"
+)
 
 
 class Site(NamedTuple):
@@ -65,7 +67,9 @@ class Back:
         except OSError as error:
             raise Fault(f"{path}: {error.strerror}") from error
         except (ValueError, IndexError, AttributeError) as error:
-            raise Fault(f"{path}: it is no table back, which native/ writes with a trace") from error
+            raise Fault(
+                f"{path}: it is no table back, which native/ writes with a trace"
+            ) from error
         if not self.program:
             raise Fault(f"{path}: it is no table back: its first line doesn't name a program")
 
@@ -110,12 +114,23 @@ class File:
         self.is_stripped = False
         with contextlib.suppress(Exception), open(path, "rb") as file:
             elf = ELFFile(file)
-            self.ranges = [(it["p_vaddr"], it["p_memsz"]) for it in elf.iter_segments() if it["p_type"] == "PT_LOAD"]
+            self.ranges = [
+                (it["p_vaddr"], it["p_memsz"])
+                for it in elf.iter_segments()
+                if it["p_type"] == "PT_LOAD"
+            ]
             self.debug = self.debug_of(elf)
         with contextlib.suppress(Exception), open(self.debug, "rb") as file:
-            tables = [it for it in ELFFile(file).iter_sections() if isinstance(it, SymbolTableSection)]
+            tables = [
+                it for it in ELFFile(file).iter_sections() if isinstance(it, SymbolTableSection)
+            ]
             self.is_stripped = all(it.name != ".symtab" for it in tables)
-            for it in (symbol for table in tables for symbol in table.iter_symbols() if symbol["st_info"]["type"] == "STT_OBJECT"):
+            for it in (
+                symbol
+                for table in tables
+                for symbol in table.iter_symbols()
+                if symbol["st_info"]["type"] == "STT_OBJECT"
+            ):
                 self.names.setdefault(it["st_value"], it.name.partition("@")[0])
 
     def debug_of(self, elf: ELFFile) -> str:
@@ -140,12 +155,23 @@ class File:
             name = self.names.get(addr, "")
             plain = last_name(demangled([name])[0]) if name[:2] in ("_Z", "_R") else ""
             with contextlib.suppress(Exception):
-                self.found[addr] = next((it for it in self.defined(name, plain) if self.program().address(it.dies[0]) == addr), None)
+                self.found[addr] = next(
+                    (
+                        it
+                        for it in self.defined(name, plain)
+                        if self.program().address(it.dies[0]) == addr
+                    ),
+                    None,
+                )
         return self.found[addr]
 
     def type_named(self, text: str) -> Die:
         """A type that is defined in this file, by its name, or none."""
-        places = [at for at, own in self.program().named(last_name(text)) if "_type\n" in own and "DW_AT_declaration" not in own]
+        places = [
+            at
+            for at, own in self.program().named(last_name(text))
+            if "_type\n" in own and "DW_AT_declaration" not in own
+        ]
         return chosen([self.program().dwarf.get_DIE_from_refaddr(it) for it in places], text)
 
     def defined(self, *names: str) -> Iterator["NativeVariable"]:
@@ -172,7 +198,10 @@ class NativeProgram:
         self.go_tables: dict[str, Table | None] = {}
         self.landmarks: dict[str, Landmarks | None] = {}
         self.path = back.program
-        own = next((it for it in self.files if os.path.realpath(it.path) == os.path.realpath(self.path)), None)
+        own = next(
+            (it for it in self.files if os.path.realpath(it.path) == os.path.realpath(self.path)),
+            None,
+        )
         self.main, self.own = own.program() if own else Program(self.path), own
         self.dwarf, self.sha256 = self.main.dwarf, self.main.sha256
 
@@ -215,7 +244,9 @@ class NativeProgram:
     def panics_of(self, path: str) -> Panics | None:
         if path not in self.panics:
             image = self.image_of(path)
-            self.panics[path] = sound(lambda: Panics(path, self.ran.get(path, ()), image), None) if image else None
+            self.panics[path] = (
+                sound(lambda: Panics(path, self.ran.get(path, ()), image), None) if image else None
+            )
         return self.panics[path]
 
     def landmarks_of(self, path: str) -> Landmarks | None:
@@ -223,7 +254,11 @@ class NativeProgram:
         if path not in self.landmarks:
             image, panics = self.image_of(path), self.panics_of(path)
             is_other = image is None or panics is not None and panics.places
-            self.landmarks[path] = None if is_other else sound(lambda: Landmarks(path, self.ran.get(path, ()), image), None)
+            self.landmarks[path] = (
+                None
+                if is_other
+                else sound(lambda: Landmarks(path, self.ran.get(path, ()), image), None)
+            )
         return self.landmarks[path]
 
     def near(self, addr: int) -> Near | Marks | None:
@@ -231,7 +266,10 @@ class NativeProgram:
         found = self.file(addr)
         if found is None:
             return None
-        own: list[Panics | Landmarks | None] = [self.panics_of(found[0].path), self.landmarks_of(found[0].path)]
+        own: list[Panics | Landmarks | None] = [
+            self.panics_of(found[0].path),
+            self.landmarks_of(found[0].path),
+        ]
         told = (sound(functools.partial(it.near, found[1]), None) for it in own if it)
         return next(filter(None, told), None)
 
@@ -272,12 +310,19 @@ class NativeProgram:
             raise
 
     def declared(self, variable: Variable) -> tuple[str, int] | None:
-        return variable.file.program().declared(variable) if isinstance(variable, NativeVariable) else None
+        return (
+            variable.file.program().declared(variable)
+            if isinstance(variable, NativeVariable)
+            else None
+        )
 
     def stranger(self, report: Report) -> str | None:
         """What of a report isn't in the table, or none."""
         for line in report.lines[:1000]:
-            if line.kind == "observed" and all(self.back.was(it) is None for it in range(max(line.base, 0), line.base + line.size, 4)):
+            if line.kind == "observed" and all(
+                self.back.was(it) is None
+                for it in range(max(line.base, 0), line.base + line.size, 4)
+            ):
                 return f"it has no page of {line.base:#010x}"
         return None
 
@@ -302,7 +347,11 @@ class NativeMemory(Memory):
             self.known[page] = self.found(page)
         found = self.known[page]
         # (Go's allocator has what it keeps itself on the pages of what it hands out)
-        return OfMemory("memory", addr // LINE * LINE) if isinstance(found, OfMemory) and self.is_go else found
+        return (
+            OfMemory("memory", addr // LINE * LINE)
+            if isinstance(found, OfMemory) and self.is_go
+            else found
+        )
 
     def found(self, page: int) -> OfPlace:
         back, was = self.native.back, self.native.back.was(page)
@@ -315,7 +364,9 @@ class NativeMemory(Memory):
         own = None if path else self.native.file(page)
         path = own[0].path if own else path
         # (what Go's runtime keeps lies beside the program's own variables, and nothing tells where which is)
-        is_mixed = own is not None and own[0].is_stripped and self.native.go_table(own[0].path) is not None
+        is_mixed = (
+            own is not None and own[0].is_stripped and self.native.go_table(own[0].path) is not None
+        )
         return OfFile("file", path) if path and not is_mixed else OfMemory("memory", page)
 
     def stack(self, was: int) -> tuple[int, int, int] | None:
@@ -324,7 +375,11 @@ class NativeMemory(Memory):
 
     def owner(self, hart: int) -> str:
         threads = self.threads.get(hart, [hart])
-        return f"thread {hart}" if len(threads) == 1 else f"threads {', '.join(map(str, threads[:-1]))} and {threads[-1]}"
+        return (
+            f"thread {hart}"
+            if len(threads) == 1
+            else f"threads {', '.join(map(str, threads[:-1]))} and {threads[-1]}"
+        )
 
     def below(self, addr: int) -> int:
         was = self.native.back.was(addr) or 0
@@ -351,15 +406,29 @@ class NativeSources(Sources):
                 self.places[it] = found if has_line(found) else self.places[it] or found
         for it in wanted:
             if not has_line(self.places[it]):
-                told: list[Site] = self.native.back.frames.get(it) or self.native.back.sites.get(it) or []
-                self.places[it] = [place for own in told for place in told_by(own)] or self.places[it]
+                told: list[Site] = (
+                    self.native.back.frames.get(it) or self.native.back.sites.get(it) or []
+                )
+                self.places[it] = [place for own in told for place in told_by(own)] or self.places[
+                    it
+                ]
 
     def symbolized(self, addresses: Iterable[tuple[File, int]]) -> list[list[Place]]:
         """What debug information tells of addresses of files."""
         rows = "".join(f'"{own.debug}" {addr:#x}\n' for own, addr in addresses)
         words = [self.tool, "--output-style=JSON", "--inlines"]
-        ran = subprocess.run(words, input=os.fsencode(rows), stdout=subprocess.PIPE, stderr=subprocess.DEVNULL) if rows else None
-        return [places(json.loads(it)) for it in ran.stdout.decode("utf-8", "replace").splitlines()] if ran else []
+        ran = (
+            subprocess.run(
+                words, input=os.fsencode(rows), stdout=subprocess.PIPE, stderr=subprocess.DEVNULL
+            )
+            if rows
+            else None
+        )
+        return (
+            [places(json.loads(it)) for it in ran.stdout.decode("utf-8", "replace").splitlines()]
+            if ran
+            else []
+        )
 
     def near(self, address: int) -> Place | None:
         """The same by the file's own addresses: an instruction's number says nothing of those before it."""
@@ -368,7 +437,9 @@ class NativeSources(Sources):
         if where is None or where[0].is_stripped:
             return None
         own, at = where
-        for frames in self.symbolized((own, it) for it in range(at - 4, max(at - 4 * NEAR, 0) - 1, -4)):
+        for frames in self.symbolized(
+            (own, it) for it in range(at - 4, max(at - 4 * NEAR, 0) - 1, -4)
+        ):
             if not frames or frames[-1].function != function:
                 return None
             if has_line(frames):

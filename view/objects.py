@@ -30,7 +30,9 @@ class Spot(NamedTuple):
 
     def stands(self) -> str:
         """The rows of what stands on the line: since its start where the report lists it."""
-        return (self.line.stands if self.line else "") or (self.missed.stands if self.missed else "")
+        return (self.line.stands if self.line else "") or (
+            self.missed.stands if self.missed else ""
+        )
 
     def rows(self) -> list[Symbol | Block]:
         """The objects on the line."""
@@ -38,7 +40,11 @@ class Spot(NamedTuple):
 
 
 def rank_of(spot: Spot) -> tuple[int, int, int]:
-    return -spot.missed.useless if spot.missed else 0, -spot.line.count if spot.line else 0, spot.base
+    return (
+        -spot.missed.useless if spot.missed else 0,
+        -spot.line.count if spot.line else 0,
+        spot.base,
+    )
 
 
 # Objects of a line by their keys, each with one of them, and with its share of the accesses.
@@ -84,7 +90,11 @@ class Thing:
         """What `place` may know the object by, or none: a variable by its name, and the only block of a call site by its address."""
         if isinstance(self.key, OfSymbol):
             return bytes_of(self.key.name)
-        return f"{self.example.addr:#010x}" if isinstance(self.example, Block) and len(self.lives) == 1 else None
+        return (
+            f"{self.example.addr:#010x}"
+            if isinstance(self.example, Block) and len(self.lives) == 1
+            else None
+        )
 
 
 def key_of(thing: Found, naming: Naming, addr: int) -> Key:
@@ -114,7 +124,12 @@ def holder(things: Sequence[Symbol | Block], addr: int) -> Found:
     return max(found, key=lambda it: it[1])[0] if found else None
 
 
-def shares_of(words: Iterable[tuple[int, int]], things: Sequence[Symbol | Block], keys: Sequence[Key], naming: Naming) -> Shares:
+def shares_of(
+    words: Iterable[tuple[int, int]],
+    things: Sequence[Symbol | Block],
+    keys: Sequence[Key],
+    naming: Naming,
+) -> Shares:
     """What each object of some has of a line's accesses, by its key, with an object of it: `words` has the place of each
     word and its number of accesses, and `keys` those of the objects."""
     found: Shares = {}
@@ -126,16 +141,23 @@ def shares_of(words: Iterable[tuple[int, int]], things: Sequence[Symbol | Block]
             # (of one block and symbols that it lies in, the block; of several blocks each by its life)
             blocks = [at for at in met if isinstance(things[at], Block)]
             if len(blocks) != 1:
-                own = [(keys[things.index(thing)], thing, share) for thing, share in holders(things, addr)]
+                own = [
+                    (keys[things.index(thing)], thing, share)
+                    for thing, share in holders(things, addr)
+                ]
             met = blocks
         if own is None:
-            own = [(keys[met[0]], things[met[0]], 1)] if met else [(naming.memory.key(addr), None, 1)]
+            own = (
+                [(keys[met[0]], things[met[0]], 1)] if met else [(naming.memory.key(addr), None, 1)]
+            )
         for key, thing, share in own:
             found[key] = thing, found.get(key, (0, 0))[1] + share * accesses
     return found
 
 
-def parties(spot: Spot, things: Sequence[Symbol | Block], naming: Naming, keys: Sequence[Key] | None = None) -> Shares:
+def parties(
+    spot: Spot, things: Sequence[Symbol | Block], naming: Naming, keys: Sequence[Key] | None = None
+) -> Shares:
     """The keys of the objects that are fought over on a line, each with an object of it and its share of the accesses. Where the keys of
     the things are given, and are one, its share isn't looked for."""
     is_one = keys is not None and len({*keys}) < 2
@@ -143,7 +165,11 @@ def parties(spot: Spot, things: Sequence[Symbol | Block], naming: Naming, keys: 
     told = spot.told()
     if is_one and things and told and not is_touched(told, things):
         return shares_of(told.accesses(), (), (), naming)
-    found: Shares = {} if is_one or len(things) < 2 or told is None else shares_of(told.accesses(), things, keys, naming)
+    found: Shares = (
+        {}
+        if is_one or len(things) < 2 or told is None
+        else shares_of(told.accesses(), things, keys, naming)
+    )
     # The first object, as long as it isn't told how the words were accessed.
     for at, key in enumerate(() if found else keys):
         found.setdefault(key, (things[at], -at))
@@ -157,7 +183,9 @@ def is_touched(line: Line, things: Sequence[Symbol | Block]) -> bool:
         if it.addr <= base and end <= it.addr + it.size:
             return True
     words = line.accesses()
-    return not words or any(it.addr < addr + 4 and addr < it.addr + it.size for it in things for addr, _ in words)
+    return not words or any(
+        it.addr < addr + 4 and addr < it.addr + it.size for it in things for addr, _ in words
+    )
 
 
 def spots(report: Report, misses: Misses | None, each: Report | None = None) -> Iterator[Spot]:
@@ -215,7 +243,9 @@ class Folding:
                 self.found[its].lives.add(it.addr << 44 | it.born)
 
 
-def things_of(report: Report, misses: Misses | None, naming: Naming, each: Report | None = None) -> tuple[list[Thing], dict[Key, Thing]]:
+def things_of(
+    report: Report, misses: Misses | None, naming: Naming, each: Report | None = None
+) -> tuple[list[Thing], dict[Key, Thing]]:
     """The objects that have lines, the worst first, and all by their keys, those beside them too."""
     folding = Folding(naming)
     for spot in spots(report, misses, each):

@@ -49,7 +49,12 @@ def last_of_run(predator: Predator, words: list[str]) -> bytes:
     keeping = threading.Thread(target=keep)
     keeping.start()
     try:
-        predator.text(with_trace(words, f"/dev/fd/{give}"), REPORTED, pass_fds=(give,), stderr=subprocess.DEVNULL)
+        predator.text(
+            with_trace(words, f"/dev/fd/{give}"),
+            REPORTED,
+            pass_fds=(give,),
+            stderr=subprocess.DEVNULL,
+        )
     finally:
         os.close(give)
         keeping.join()
@@ -85,7 +90,10 @@ def overflow(trace: bytes, memory: Memory) -> Overflow | None:
     for hart, addr in writes(trace):
         if memory.each and addr < memory.top(hart + 1):
             below.setdefault(hart, set()).add(addr)
-    found = [Overflow(hart, memory.each, memory.top(hart) - edge(own, memory.top(hart + 1))) for hart, own in below.items()]
+    found = [
+        Overflow(hart, memory.each, memory.top(hart) - edge(own, memory.top(hart + 1)))
+        for hart, own in below.items()
+    ]
     deep = [it for it in found if it.depth >= it.size + LEAST]
     return max(deep, key=lambda it: it.depth) if deep else None
 

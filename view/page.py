@@ -53,18 +53,27 @@ def cell(word: Told, most: int, own: bool, strip: str = "", is_alone: bool = Fal
     }
 
 
-def cells(base: int, size: int, words: Sequence[Told], thing: Key | None, name: str) -> list[Given | None]:
+def cells(
+    base: int, size: int, words: Sequence[Told], thing: Key | None, name: str
+) -> list[Given | None]:
     """The cells of a range, in order; none where a word wasn't accessed."""
     most = max([it.reads for it in words] + [it.writes for it in words] + [1])
     at, is_alone = {it.addr: it for it in words}, sum(it.key == thing for it in words) < 2
-    return [cell(at[it], most, at[it].key == thing, name, is_alone) if it in at else None for it in range(base, base + size, 4)]
+    return [
+        cell(at[it], most, at[it].key == thing, name, is_alone) if it in at else None
+        for it in range(base, base + size, 4)
+    ]
 
 
 def row(spot: Spot, seen: Seen, size: int) -> Given:
     """A line, in rows of words."""
     words = [it for it in seen.words if spot.base <= it.addr < spot.base + size]
     own = cells(spot.base, size, words, seen.thing.key, seen.thing.name) if spot.told() else []
-    missed = f"{spot.missed.useless} useless and {spot.missed.useful} useful misses" if spot.missed else ""
+    missed = (
+        f"{spot.missed.useless} useless and {spot.missed.useful} useful misses"
+        if spot.missed
+        else ""
+    )
     return {
         "base": shown(spot.base),
         "misses": missed,
@@ -81,9 +90,15 @@ def matrix(explained: Takings) -> Given:
 
     def one(victim: int, taker: int) -> Given:
         taken = explained.harts.get((victim, taker), 0)
-        return {"text": taken or "", "style": f"background:rgba(213,94,0,{0.75 * taken / most:.2f})" if taken else ""}
+        return {
+            "text": taken or "",
+            "style": f"background:rgba(213,94,0,{0.75 * taken / most:.2f})" if taken else "",
+        }
 
-    return {"harts": [letter(it) for it in harts], "rows": [{"hart": letter(it), "cells": [one(it, to) for to in harts]} for it in harts]}
+    return {
+        "harts": [letter(it) for it in harts],
+        "rows": [{"hart": letter(it), "cells": [one(it, to) for to in harts]} for it in harts],
+    }
 
 
 def side(view: View, addr: int, role: str) -> Given:
@@ -95,9 +110,18 @@ def side(view: View, addr: int, role: str) -> Given:
         text = sources.text(place.file)
         for number in range(max(1, place.line - AROUND), min(len(text), place.line + AROUND) + 1):
             lines.append({"number": number, "text": text[number - 1], "hit": number == place.line})
-    lacks = f"{place.file} isn't here: --sources tells where it is" if place else "it has no line of a source"
+    lacks = (
+        f"{place.file} isn't here: --sources tells where it is"
+        if place
+        else "it has no line of a source"
+    )
     at = f", {shown(addr)}" if place else ""
-    return {"role": role, "place": view.naming.instruction(addr) + at, "lines": lines, "lacks": lacks}
+    return {
+        "role": role,
+        "place": view.naming.instruction(addr) + at,
+        "lines": lines,
+        "lacks": lacks,
+    }
 
 
 def pairs(view: View, seen: Seen) -> Iterator[Given]:
@@ -110,9 +134,13 @@ def worth_drawing(view: View, it: Thing) -> list[Spot]:
     """The first lines of an object, those left out that have few of the misses and counts of its worst one, or of all."""
 
     def much(spot: Spot) -> int:
-        return (spot.missed.useless + spot.missed.useful if spot.missed else 0) + (spot.line.count if spot.line else 0)
+        return (spot.missed.useless + spot.missed.useful if spot.missed else 0) + (
+            spot.line.count if spot.line else 0
+        )
 
-    total, worst = sum(one.useless + one.useful + one.count for one in view.things), much(it.worst())
+    total, worst = sum(one.useless + one.useful + one.count for one in view.things), much(
+        it.worst()
+    )
     first = [one for one in it.worst_first()[:LINES] if one.told() and much(one) * FEW >= worst]
     return [one for at, one in enumerate(first) if at < FIRST or much(one) * LITTLE >= total]
 
@@ -137,7 +165,9 @@ def thing(view: View, it: Thing) -> Given:
         "is_block": isinstance(it.key, OfBlocks),
         "beside": [view.label(view.all[key]) for key in it.beside],
         "worst": worst.whole() if worst else "",
-        "fight": [view.naming.instruction(at) for at in (fight.taker, fight.victim)] if fight else [],
+        "fight": [view.naming.instruction(at) for at in (fight.taker, fight.victim)]
+        if fight
+        else [],
         "takings": told(view.takings(it) or {}, view.is_read(it)),
         "worth": view.worth.told(it),
         "declared": "{}:{}".format(*seen.declared) if seen.declared else "",
@@ -156,7 +186,12 @@ def strip(view: View, foretold: Foretold, observed: dict[int, Spot]) -> Given:
     first = (line.base - view.report.offset) // size * size + view.report.offset
     bases = list(range(first, line.base + line.size, size))
     own = words_of(Spot(line.base, line, None), view.naming, view.by_word)
-    beside = [word for it in bases if it in observed for word in words_of(observed[it], view.naming, view.by_word)]
+    beside = [
+        word
+        for it in bases
+        if it in observed
+        for word in words_of(observed[it], view.naming, view.by_word)
+    ]
     words = own + [it for it in beside if not line.base <= it.addr < line.base + line.size]
     name = view.name_of(next(iter(foretold.keys))) if len(foretold.keys) == 1 else ""
     told = f"count {line.count}"
@@ -176,7 +211,11 @@ def strip(view: View, foretold: Foretold, observed: dict[int, Spot]) -> Given:
 def library(view: View) -> str:
     """What is said of the objects of the C library, which aren't drawn, or nothing."""
     numbers, text = row_of(view.folded(), view.misses is not None, bool(view.runtime))
-    return "{} useless, {} useful, count {}, lines {}: {}".format(*numbers, text) if view.folded() else ""
+    return (
+        "{} useless, {} useful, count {}, lines {}: {}".format(*numbers, text)
+        if view.folded()
+        else ""
+    )
 
 
 def title(view: View, chosen: Sequence[Thing]) -> str:
@@ -185,7 +224,11 @@ def title(view: View, chosen: Sequence[Thing]) -> str:
     if not chosen:
         return f"{name}: {'objects of libraries alone are' if view.folded() else 'no line is'} fought over"
     useless = view.misses.total["useless"] if view.misses else 0
-    how = f"{chosen[0].useless} of {useless} useless misses" if useless else f"a count of {chosen[0].count}"
+    how = (
+        f"{chosen[0].useless} of {useless} useless misses"
+        if useless
+        else f"a count of {chosen[0].count}"
+    )
     return f"{name}: the worst object is {view.label(chosen[0])}, with {how}"
 
 
@@ -194,12 +237,23 @@ def page(view: View) -> str:
     chosen, top = view.listed(), view.call.number("top", TOP)
     objects = [thing(view, it) for it in chosen[:top]]
     is_all = "predicted" in view.call.options
-    observed, foretold = {spot.base: spot for it in view.things for spot in it.spots if spot.line}, view.foretold()
-    strips = [strip(view, it, observed) for it in [one for one in foretold if one.is_shown or is_all][:STRIPS]]
+    observed, foretold = {
+        spot.base: spot for it in view.things for spot in it.spots if spot.line
+    }, view.foretold()
+    strips = [
+        strip(view, it, observed)
+        for it in [one for one in foretold if one.is_shown or is_all][:STRIPS]
+    ]
     drawn = [word for it in chosen[:top] for word in view.seen(it).words] + [
         word for it in foretold[: len(strips)] for word in it.line.words()
     ]
-    taking = {hart for it in chosen[:top] if (explained := view.seen(it).explained) for pair in explained.harts for hart in pair}
+    taking = {
+        hart
+        for it in chosen[:top]
+        if (explained := view.seen(it).explained)
+        for pair in explained.harts
+        for hart in pair
+    }
     harts = sorted({int(it.hart) for it in drawn if it.hart != "many"} | taking)
     return (
         templates()

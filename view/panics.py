@@ -19,8 +19,12 @@ CALL_SIZE = 8
 BLOCK = 48
 PATH = re.compile(rb"[^\x00-\x1f\x7f]+\.rs")
 # The standard library's sources, and those that are linked into it.
-LIBRARY = re.compile(r"^(?:/rustc/\w+/|.*/rustlib/src/rust/|/usr/src/rustc-[^/]+/|/rust/(?=deps/)|/cargo/(?=registry/)|)(?:library/)?")
-IS_LIBRARY = re.compile(r"library/|/rustc/|/usr/src/rustc-|/rust/deps/|/cargo/registry/|.*/rustlib/src/rust/")
+LIBRARY = re.compile(
+    r"^(?:/rustc/\w+/|.*/rustlib/src/rust/|/usr/src/rustc-[^/]+/|/rust/(?=deps/)|/cargo/(?=registry/)|)(?:library/)?"
+)
+IS_LIBRARY = re.compile(
+    r"library/|/rustc/|/usr/src/rustc-|/rust/deps/|/cargo/registry/|.*/rustlib/src/rust/"
+)
 # Where crates lie that were fetched.
 FETCHED = re.compile(r".*/(?:registry/(?:src/[^/]+/)?|git/checkouts/|(?=vendor/))")
 
@@ -37,7 +41,11 @@ class Panic(NamedTuple):
 
     def short(self) -> str:
         """The file from its crate on, or from `library/` where that is the standard one, with the line."""
-        file = "library/" + LIBRARY.sub("", self.file) if self.is_library() else FETCHED.sub("", self.file)
+        file = (
+            "library/" + LIBRARY.sub("", self.file)
+            if self.is_library()
+            else FETCHED.sub("", self.file)
+        )
         return f"{file}:{self.line}"
 
 
@@ -72,7 +80,9 @@ class Panics:
 
     def __init__(self, path: str, ran: Iterable[int] = (), image: Image | None = None) -> None:
         self.image, self.ran = image or Image(path), frozenset(ran)
-        self.places = {addr: place for addr, to in self.image.words.items() if (place := self.place(addr, to))}
+        self.places = {
+            addr: place for addr, to in self.image.words.items() if (place := self.place(addr, to))
+        }
 
     def place(self, addr: int, to: int) -> Panic | None:
         """The place at an address whose first word points to a text, or none where that is no place of a source."""
@@ -91,7 +101,10 @@ class Panics:
     def handed(self, start: int, end: int) -> list[Handed]:
         """The places that a function hands to panics, those of the standard library only where there are no others."""
         code = self.image.bytes(start, end - start)
-        told = [*jumped(code, start, LEA), *(numbers(code, start, MOVE) if self.image.is_fixed else ())]
+        told = [
+            *jumped(code, start, LEA),
+            *(numbers(code, start, MOVE) if self.image.is_fixed else ()),
+        ]
         found = [(at, self.places[to]) for at, to in sorted(told) if to in self.places]
         own = [it for it in found if not it[1].is_library()] or found
         jumps = conditional(code, start) if own else {}
@@ -105,7 +118,13 @@ class Panics:
         """Of the files that have most of some places the one of each whose check is nearest to an instruction."""
         counts = Counter(file for file, _ in {it.place for it in handed})
         files = sorted(counts, key=lambda it: (-counts[it], it))[:most]
-        return tuple(min((it for it in handed if it.place.file == file), key=lambda it: (it.distance(addr), it.at)).place for file in files)
+        return tuple(
+            min(
+                (it for it in handed if it.place.file == file),
+                key=lambda it: (it.distance(addr), it.at),
+            ).place
+            for file in files
+        )
 
     @functools.cached_property
     def calls(self) -> dict[int, list[int]]:

@@ -40,9 +40,18 @@ class Passes:
 def first_readers(layout: Layout, is_blamed: bool, is_brief: bool = False) -> dict[str, Reader]:
     """What is asked of each trace, the longest first: the misses of words and of lines, each line that was ever taken, and by what. In
     brief the last stands for the misses of words where it is known."""
-    asked = {"words": misses_under(WORD), "lines": misses_under(layout), "each": each_line(layout), "blame": blame_under(layout)}
+    asked = {
+        "words": misses_under(WORD),
+        "lines": misses_under(layout),
+        "each": each_line(layout),
+        "blame": blame_under(layout),
+    }
     left_out = {"each", "words" if is_blamed else ""} if is_brief else set()
-    return {name: it for name, it in asked.items() if name not in left_out and (is_blamed or name != "blame")}
+    return {
+        name: it
+        for name, it in asked.items()
+        if name not in left_out and (is_blamed or name != "blame")
+    }
 
 
 def is_brief(call: Call) -> bool:
@@ -55,12 +64,17 @@ def is_brief(call: Call) -> bool:
 def is_blamed(call: Call, predator: Predator) -> bool:
     """Whether the trace says itself which instructions fight, and the program reads that."""
     trace = call.trace()
-    return bool(trace and has_pcs(trace) and call.number("explain", EXPLAIN) and predator.has("blame"))
+    return bool(
+        trace and has_pcs(trace) and call.number("explain", EXPLAIN) and predator.has("blame")
+    )
 
 
 def layout_of(call: Call) -> Layout | None:
     """The layout of the report that a call is about to have, as far as its words tell."""
-    size, shift = call.value_of("--size") or str(setting(call.settings_words(), "line")), call.value_of("--shift") or "0"
+    size, shift = (
+        call.value_of("--size") or str(setting(call.settings_words(), "line")),
+        call.value_of("--shift") or "0",
+    )
     return (int(size), int(shift)) if size.isdigit() and shift.isdigit() else None
 
 

@@ -53,7 +53,9 @@ class AlignRecord(NamedTuple):
 
     def apply(self, lines: list[str]) -> None:
         at = self.place.line - 1
-        named = rf"\b{self.keyword}\s+{re.escape(self.name)}\b(?=\s*(?:final\s*)?(?::[^;]*)?(?:\{{|$))"
+        named = (
+            rf"\b{self.keyword}\s+{re.escape(self.name)}\b(?=\s*(?:final\s*)?(?::[^;]*)?(?:\{{|$))"
+        )
         for pattern in (named, rf"\b{self.keyword}\b(?=\s*(?:\{{|$))"):
             found = re.search(pattern, COMMENT.sub(lambda it: " " * len(it[0]), lines[at]))
             if found:
@@ -93,19 +95,32 @@ class OrderFields(NamedTuple):
         """Whether the file has a value of the record whose fields have their values by their order."""
         text = "\n".join(COMMENT.sub("", it) for it in lines)
         names = re.escape(self.name) if self.name else r"\}"
-        return bool(re.search(rf"(?:\b|(?=\}})){names}[^;{{}}()=]*=\s*\{{\s*(?!\s|\.|\}}|0?\s*,?\s*\}})", text))
+        return bool(
+            re.search(
+                rf"(?:\b|(?=\}})){names}[^;{{}}()=]*=\s*\{{\s*(?!\s|\.|\}}|0?\s*,?\s*\}})", text
+            )
+        )
 
     def apply(self, lines: list[str]) -> None:
         if self.by_position(lines):
             raise Unpatchable("its fields have values by their order")
         own = sorted((it for group in self.groups for it in group), key=lambda it: it.begin)
         starts = [value(it.die, "decl_line", 0) for it in own]
-        first = next((at for at in range(self.place.line - 1, starts[0]) if "{" in lines[at]), len(lines))
+        first = next(
+            (at for at in range(self.place.line - 1, starts[0]) if "{" in lines[at]), len(lines)
+        )
         if starts != sorted(set(starts)) or first >= starts[0] - 1:
             raise Unpatchable("fields")
         segments, at = {}, first + 1
         for it, start, after in zip(own, starts, [*starts[1:], len(lines) + 1]):
-            end = next((row for row in range(start, after) if COMMENT.sub("", lines[row - 1]).rstrip().endswith(";")), None)
+            end = next(
+                (
+                    row
+                    for row in range(start, after)
+                    if COMMENT.sub("", lines[row - 1]).rstrip().endswith(";")
+                ),
+                None,
+            )
             if end is None or FIXED.search("\n".join(lines[at:end])):
                 raise Unpatchable(it.name)
             segments[it.name], at = lines[at:end], end
@@ -157,7 +172,9 @@ def name_in_patch(path: str) -> str:
 
 def difference(name: str, old: str, new: str) -> str:
     rows = []
-    for it in difflib.unified_diff(old.splitlines(True), new.splitlines(True), f"a/{name}", f"b/{name}"):
+    for it in difflib.unified_diff(
+        old.splitlines(True), new.splitlines(True), f"a/{name}", f"b/{name}"
+    ):
         rows.append(it if it.endswith("\n") else f"{it}\n\\ No newline at end of file\n")
     return "".join(rows)
 
@@ -176,4 +193,7 @@ def why_not(edits: Sequence[Edit] | None, path: Callable[[str], str | None]) -> 
 def patch(edits: Sequence[Edit], path: Callable[[str], str | None]) -> str:
     """All of some edits that can be made, as a unified diff."""
     files = applied(edits, lambda it: text_of(path(it)))
-    return "".join(difference(name_in_patch(path(file) or file), old, new) for file, (old, new) in sorted(files.items()))
+    return "".join(
+        difference(name_in_patch(path(file) or file), old, new)
+        for file, (old, new) in sorted(files.items())
+    )

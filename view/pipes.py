@@ -21,7 +21,9 @@ def fed(path: str) -> Iterator[int]:
     """A pipe that gets what is read of a file, or of standard input, for the standard input of a program: that opens it anew, and a pipe
     with a name may have no writer any more by then."""
     try:
-        source: BinaryIO = sys.stdin.buffer if path == "-" else open(path, "rb", 0)  # noqa: SIM115 (the thread closes it)
+        source: BinaryIO = (
+            sys.stdin.buffer if path == "-" else open(path, "rb", 0)
+        )  # noqa: SIM115 (the thread closes it)
     except OSError as error:
         raise Fault(f"{path}: {error.strerror}") from error
     take, give = os.pipe()

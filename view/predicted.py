@@ -75,7 +75,9 @@ def can_lie(line: Line, naming: Naming) -> bool:
     if line.kind == "doubled":
         return True
     return all(
-        (it.addr - line.base) % min(alignment(it, naming), line.size) == 0 for it in line.objects() if isinstance(it, (Symbol, Block))
+        (it.addr - line.base) % min(alignment(it, naming), line.size) == 0
+        for it in line.objects()
+        if isinstance(it, (Symbol, Block))
     )
 
 
@@ -88,14 +90,25 @@ def inside(lines: Iterable[Range], misses: Misses) -> int:
     return sum(misses.lines[it].useless for it in met if it in misses.lines)
 
 
-def judged(report: Report, misses: Misses | None, by_layout: dict[Layout, Misses], naming: Naming) -> list[Foretold]:
+def judged(
+    report: Report, misses: Misses | None, by_layout: dict[Layout, Misses], naming: Naming
+) -> list[Foretold]:
     """Each predicted line of a report, those that are shown first, the worst of them first."""
     found = []
     for line in report.predicted():
         keys = {key_of(it, naming, line.base): it for it in line.objects()}
         counted = by_layout.get(layout_of(line))
         if misses is None or counted is None:
-            found.append(Foretold(line, keys, None, None, False, UNCOUNTED if misses is None or can_lie(line, naming) else UNALIGNED))
+            found.append(
+                Foretold(
+                    line,
+                    keys,
+                    None,
+                    None,
+                    False,
+                    UNCOUNTED if misses is None or can_lie(line, naming) else UNALIGNED,
+                )
+            )
             continue
         own = counted.lines[line.base].useless if line.base in counted.lines else 0
         seen = inside([line], misses)
@@ -104,7 +117,15 @@ def judged(report: Report, misses: Misses | None, by_layout: dict[Layout, Misses
         else:
             why = "" if can_lie(line, naming) else UNALIGNED
         found.append(Foretold(line, keys, own, seen, not why, why))
-    return sorted(found, key=lambda it: (not it.is_shown, (it.inside or 0) - (it.useless or 0), -it.line.count, it.line.base))
+    return sorted(
+        found,
+        key=lambda it: (
+            not it.is_shown,
+            (it.inside or 0) - (it.useless or 0),
+            -it.line.count,
+            it.line.base,
+        ),
+    )
 
 
 def together(found: Iterable[Foretold]) -> list[list[Foretold]]:

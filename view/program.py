@@ -24,7 +24,11 @@ Counted = Union[Misses, Report, Blame]
 
 def launcher() -> str:
     """The command `predator` of this checkout, or that of the folder where this was installed."""
-    for it in (os.environ.get("PREDATOR"), os.path.join(TOP, "bin", "predator"), os.path.join(TOP, "..", "..", "bin", "predator")):
+    for it in (
+        os.environ.get("PREDATOR"),
+        os.path.join(TOP, "bin", "predator"),
+        os.path.join(TOP, "..", "..", "bin", "predator"),
+    ):
         if it and os.path.exists(it):
             return it
     raise Fault("there is no command predator beside this one", 127)
@@ -36,7 +40,8 @@ class Refused(Fault):
 
 class Predator:
     """The program. What the first run says on standard error, which has what the guest puts out too, is handed on as it comes; the runs
-    behind it would say the same again, so theirs is lost. Only a status tells that a call has failed."""
+    behind it would say the same again, so theirs is lost. Only a status tells that a call has failed.
+    """
 
     def __init__(self) -> None:
         self.command = launcher()
@@ -48,12 +53,21 @@ class Predator:
     def text(self, words: Sequence[str | bytes], good: Sequence[int] = (0,), **how: Any) -> str:
         """What a call prints, which must end with one of these statuses."""
         command = how.pop("command", self.command)
-        ran = subprocess.run([command, *words], stdout=subprocess.PIPE, stdin=how.pop("stdin", subprocess.DEVNULL), **how)
+        ran = subprocess.run(
+            [command, *words],
+            stdout=subprocess.PIPE,
+            stdin=how.pop("stdin", subprocess.DEVNULL),
+            **how,
+        )
         text = ran.stdout.decode("latin-1")
         if ran.stderr:
             self.said = ran.stderr.decode("utf-8", "replace")
         if ran.returncode not in good:
-            said = text.partition("\n")[0] if text.startswith("predator: ") else f"status {ran.returncode}"
+            said = (
+                text.partition("\n")[0]
+                if text.startswith("predator: ")
+                else f"status {ran.returncode}"
+            )
             if ran.stderr:
                 said += f" ({ran.stderr.decode('utf-8', 'replace').strip().rpartition(chr(10))[2].removeprefix('predator: ')})"
             raise Refused(f"`predator {words[0]!s}` was refused: {said.removeprefix('predator: ')}")
@@ -62,12 +76,19 @@ class Predator:
     def direct(self) -> str:
         """The program without its launcher, which a first screen calls dozens of times; or the launcher where that doesn't know it."""
         if self.found is None:
-            path = os.environ.get("PREDATOR_PROGRAM") or ("" if os.environ.get("PREDATOR_TRY") else self.where())
+            path = os.environ.get("PREDATOR_PROGRAM") or (
+                "" if os.environ.get("PREDATOR_TRY") else self.where()
+            )
             self.found = path if os.access(path, os.X_OK) else self.command
         return self.found
 
     def where(self) -> str:
-        ran = subprocess.run([self.command, "--where"], stdout=subprocess.PIPE, stderr=subprocess.DEVNULL, stdin=subprocess.DEVNULL)
+        ran = subprocess.run(
+            [self.command, "--where"],
+            stdout=subprocess.PIPE,
+            stderr=subprocess.DEVNULL,
+            stdin=subprocess.DEVNULL,
+        )
         return os.fsdecode(ran.stdout).rstrip("\n")
 
     def told(self, words: Sequence[str | bytes], good: Sequence[int] = (0,), **how: Any) -> str:
@@ -77,10 +98,21 @@ class Predator:
     def has(self, command: str) -> bool:
         """Whether the program knows a command, by its lines of usage."""
         if self.known is None:
-            ran = subprocess.run([self.command], stdout=subprocess.PIPE, stderr=subprocess.PIPE, stdin=subprocess.DEVNULL)
+            ran = subprocess.run(
+                [self.command],
+                stdout=subprocess.PIPE,
+                stderr=subprocess.PIPE,
+                stdin=subprocess.DEVNULL,
+            )
             if ran.returncode != 1:
-                raise Fault(ran.stderr.decode("utf-8", "replace").strip() or "the command predator doesn't answer", 127)
-            self.known = set(re.findall(r"^usage: predator (\w+)", ran.stdout.decode("latin-1"), re.MULTILINE))
+                raise Fault(
+                    ran.stderr.decode("utf-8", "replace").strip()
+                    or "the command predator doesn't answer",
+                    127,
+                )
+            self.known = set(
+                re.findall(r"^usage: predator (\w+)", ran.stdout.decode("latin-1"), re.MULTILINE)
+            )
         return command in self.known
 
     def report(self, words: Sequence[str], **how: Any) -> Report:
@@ -106,7 +138,9 @@ class Predator:
         with concurrent.futures.ThreadPoolExecutor(max_workers=min(4, os.cpu_count() or 1)) as pool:
             return list(pool.map(functools.partial(self.counted_of_file, trace), readers))
 
-    def counted_of_run(self, words: list[str], readers: "Sequence[Reader]", kept: str | None = None) -> list[Counted]:
+    def counted_of_run(
+        self, words: list[str], readers: "Sequence[Reader]", kept: str | None = None
+    ) -> list[Counted]:
         """What readers tell of the trace of a run, which is written to a file if one is named. Else it goes through pipes where the program
         can have it so, and else through a file that is lost."""
         if kept is not None:
@@ -121,24 +155,38 @@ class Predator:
 
     def record(self, words: list[str], trace: str) -> None:
         """Has a run write its trace to a file. (What the program puts out was shown with its report.)"""
-        self.text(with_trace([words[0], "--output", os.devnull, *words[1:]], trace), REPORTED, stderr=subprocess.PIPE)
+        self.text(
+            with_trace([words[0], "--output", os.devnull, *words[1:]], trace),
+            REPORTED,
+            stderr=subprocess.PIPE,
+        )
 
     def counted_by_pipes(self, words: list[str], readers: "Sequence[Reader]") -> list[Counted]:
         return self.run_by_pipes(words, readers)[1]
 
-    def run_by_pipes(self, words: list[str], readers: "Sequence[Reader]", is_told: bool = True) -> tuple[str, list[Counted]]:
+    def run_by_pipes(
+        self, words: list[str], readers: "Sequence[Reader]", is_told: bool = True
+    ) -> tuple[str, list[Counted]]:
         """The report of a run, and what readers tell of its trace; what it says on standard error is kept only if that is told."""
         said = subprocess.PIPE if is_told else subprocess.DEVNULL
-        return self.read_output(lambda name: with_trace(words, name), readers, good=REPORTED, stderr=said)
+        return self.read_output(
+            lambda name: with_trace(words, name), readers, good=REPORTED, stderr=said
+        )
 
     def counted_of_move(self, trace: str, table: str, readers: "Sequence[Reader]") -> list[Counted]:
         """What readers tell of a trace whose words have moved by a table, which is written nowhere."""
         words = ["move", "--", trace, table]
-        return self.read_output(lambda name: [*words, name], readers, command=self.direct(), stderr=subprocess.DEVNULL)[1]
+        return self.read_output(
+            lambda name: [*words, name], readers, command=self.direct(), stderr=subprocess.DEVNULL
+        )[1]
 
-    def read_output(self, words: Callable[[str], list[str]], readers: "Sequence[Reader]", **how: Any) -> tuple[str, list[Counted]]:
+    def read_output(
+        self, words: Callable[[str], list[str]], readers: "Sequence[Reader]", **how: Any
+    ) -> tuple[str, list[Counted]]:
         """What a call prints, and what readers tell of the trace that it writes; its words are made of the trace's name."""
-        with concurrent.futures.ThreadPoolExecutor(max_workers=len(readers) + 1) as pool, contextlib.ExitStack() as open_ends:
+        with concurrent.futures.ThreadPoolExecutor(
+            max_workers=len(readers) + 1
+        ) as pool, contextlib.ExitStack() as open_ends:
             mains: list[Any] = []
             counts = []
             for it in readers:
@@ -179,7 +227,9 @@ def blame_under(layout: tuple[int, int]) -> Reader:
 
 def each_line(layout: tuple[int, int]) -> Reader:
     """A report of every line that was ever taken."""
-    return Reader(["replay", "--set", "tracking=1,report=1", *layout_words(layout)], REPORTED, Report)
+    return Reader(
+        ["replay", "--set", "tracking=1,report=1", *layout_words(layout)], REPORTED, Report
+    )
 
 
 def layout_words(layout: tuple[int, int]) -> list[str]:
@@ -210,7 +260,9 @@ def stacks(predator: Predator, program: str, words: Sequence[str]) -> tuple[int,
     """The lowest and highest address of the stacks, or none where the program can't tell."""
     with contextlib.suppress(Fault):
         found = re.search(
-            r"^stacks (0x[0-9a-f]+) (0x[0-9a-f]+)$", predator.text(["check", program, *words], stderr=subprocess.DEVNULL), re.MULTILINE
+            r"^stacks (0x[0-9a-f]+) (0x[0-9a-f]+)$",
+            predator.text(["check", program, *words], stderr=subprocess.DEVNULL),
+            re.MULTILINE,
         )
         if found:
             return int(found[1], 16), int(found[2], 16)

@@ -79,7 +79,11 @@ def status_of(words: Sequence[str]) -> int:
             it.send_signal(number)
 
     # (what is ignored stays so, here and in the program)
-    before = {it: old for it in (*HANDED_ON, *FROM_TERMINAL) if (old := signal.getsignal(it)) is not signal.SIG_IGN}
+    before = {
+        it: old
+        for it in (*HANDED_ON, *FROM_TERMINAL)
+        if (old := signal.getsignal(it)) is not signal.SIG_IGN
+    }
     for it in before:
         signal.signal(it, take)
     try:
@@ -103,10 +107,25 @@ def recorded(call: Call) -> Iterator[None]:
         trace, program = os.path.join(folder, "trace"), call.subject
         recorder, replay = parted(call.words, program)
         # (as a shell has it, a name with a slash is a file, and another one is looked for)
-        name = program if "/" in program or not os.path.isfile(program) else os.path.join(".", program)
-        words = [launcher(), "native", *marks_of(call), *recorder, "--trace", trace, "--", name, *call.own[1:]]
+        name = (
+            program if "/" in program or not os.path.isfile(program) else os.path.join(".", program)
+        )
+        words = [
+            launcher(),
+            "native",
+            *marks_of(call),
+            *recorder,
+            "--trace",
+            trace,
+            "--",
+            name,
+            *call.own[1:],
+        ]
         status = status_of(words)
         if not os.path.exists(trace):
-            raise Fault(f"`predator native` was refused: status {status}", status if status in REFUSED[2:] else 2)
+            raise Fault(
+                f"`predator native` was refused: status {status}",
+                status if status in REFUSED[2:] else 2,
+            )
         call.how, call.subject, call.words, call.own = "replay", trace, [trace, *replay], []
         yield

@@ -3,7 +3,21 @@
 from typing import Callable, Iterator, NamedTuple, Sequence
 
 from advice import attribute
-from layouts import Array, Change, Member, Part, Record, Shape, Unmovable, arrays_in, in_words, laid, members_of, records_in, rounded
+from layouts import (
+    Array,
+    Change,
+    Member,
+    Part,
+    Record,
+    Shape,
+    Unmovable,
+    arrays_in,
+    in_words,
+    laid,
+    members_of,
+    records_in,
+    rounded,
+)
 from patches import AlignRecord, AlignVariable, Edit, OrderFields
 from spelled import Uses
 from subjects import Declared, Subject, Whose, declaration, patterns, spelled_record, users, whose
@@ -17,7 +31,8 @@ class Repair(NamedTuple):
     """One way, or several together, each of which `hows` says. The parts are words, and go to so many bytes behind the beginning of an area
     of `room` bytes; `edits` are none where the change isn't one of declarations alone. What changes in the types of the object is `change`,
     or none; `others` are variables beside it that get lines of their own; `sizes` are those of the object before and after, or none. Where
-    threads may share out the elements of an array otherwise, `instead` is that, whose parts go to places of the array itself."""
+    threads may share out the elements of an array otherwise, `instead` is that, whose parts go to places of the array itself.
+    """
 
     hows: list[str]
     parts: list[Part]
@@ -31,7 +46,11 @@ class Repair(NamedTuple):
 
     def said(self) -> str:
         """What to do, in a sentence."""
-        whole = ", and {} become {} in all".format(*self.sizes) if self.sizes and self.sizes[0] != self.sizes[1] else ""
+        whole = (
+            ", and {} become {} in all".format(*self.sizes)
+            if self.sizes and self.sizes[0] != self.sizes[1]
+            else ""
+        )
         own = self.hows[: len(self.hows) - bool(self.others)]
         return "; and ".join(["; and ".join(own) + whole, *self.hows[len(own) :]])
 
@@ -80,17 +99,27 @@ def own_lines(shape: Shape, line: int) -> str:
     return f"a struct around it, `struct {attribute(line)} {WRAPPER} {{ {declaration(shape, 'value')}; }};`"
 
 
-def element_apart(subject: Subject, array: Array, line: int) -> tuple[str, Change, list[Edit] | None]:
+def element_apart(
+    subject: Subject, array: Array, line: int
+) -> tuple[str, Change, list[Edit] | None]:
     """How each element of an array gets lines of its own: as code, as a change, and as edits where declarations alone change."""
     change, record, how = Change(line), array.shape.record(), own_lines(array.shape, line)
     place = users(record) if record is not None else None
     edits: list[Edit] | None = None
     if record is not None and place:
         change.aligned.add(record.offset)
-        edits = None if subject.is_blocks() else [AlignRecord(place, *spelled_record(array.shape), line)]
+        edits = (
+            None
+            if subject.is_blocks()
+            else [AlignRecord(place, *spelled_record(array.shape), line)]
+        )
     else:
         change.wrapped.add(array.path)
-    of = f"each element of {subject.name}{array.path.removesuffix('[]')}" if not subject.is_blocks() or array.path else "each element"
+    of = (
+        f"each element of {subject.name}{array.path.removesuffix('[]')}"
+        if not subject.is_blocks() or array.path
+        else "each element"
+    )
     return f"give {of} lines of its own by {how}{aligned_alloc(subject, line)}", change, edits
 
 
@@ -100,7 +129,16 @@ def elements(subject: Subject, array: Array, uses: Uses, line: int) -> Repair:
     parts, room = moved(subject, change)
     wide, whole = array.shape.size(), subject.size()
     told = [f"{how}: {becomes(wide, rounded(wide, line), whole == wide)}"]
-    return Repair(told, parts, room, edits, change, (), None if whole == wide else (whole, room), neighbouring(array, uses))
+    return Repair(
+        told,
+        parts,
+        room,
+        edits,
+        change,
+        (),
+        None if whole == wide else (whole, room),
+        neighbouring(array, uses),
+    )
 
 
 def neighbouring(array: Array, uses: Uses) -> Repair | None:
@@ -114,7 +152,11 @@ def neighbouring(array: Array, uses: Uses) -> Repair | None:
         return None
     order = sorted(range(len(harts)), key=lambda it: harts[it])
     try:
-        parts = in_words(Part(array.begins[old], wide, array.begins[new]) for new, old in enumerate(order) if new != old)
+        parts = in_words(
+            Part(array.begins[old], wide, array.begins[new])
+            for new, old in enumerate(order)
+            if new != old
+        )
     except Unmovable:
         return None
     return Repair(["give neighbouring elements to one thread"], parts, 0, None, is_in_place=True)
@@ -128,7 +170,11 @@ def bytewise(subject: Subject, uses: Uses, line: int) -> str:
             if array.shape.size() % 4 and any(it // 4 * 4 in mixed for it in array.begins):
                 return element_apart(subject, array, line)[0]
         for record in records_in(subject.shape, subject.begins()):
-            own = [it.name for it in record.members if any((at + it.begin) // 4 * 4 in mixed for at in record.begins)]
+            own = [
+                it.name
+                for it in record.members
+                if any((at + it.begin) // 4 * 4 in mixed for at in record.begins)
+            ]
             if len(own) > 1:
                 return f"put `{attribute(line)}` behind each of {', '.join(own)}"
     return f"give what each hart uses lines of its own, as `{attribute(line)}` makes them"
@@ -171,7 +217,11 @@ class Keys:
 
     def alone(self, it: Member) -> Key:
         """What harts share is alone; what they only read, and what each has for itself, is a group."""
-        return ("shared", it.name) if self.kind(it) == "shared" else (self.kind(it), *(self.harts(it) if self.kind(it) == "own" else ()))
+        return (
+            ("shared", it.name)
+            if self.kind(it) == "shared"
+            else (self.kind(it), *(self.harts(it) if self.kind(it) == "own" else ()))
+        )
 
     def by_writer(self, it: Member) -> Key:
         """The same, and what harts share by who writes it."""
@@ -195,7 +245,10 @@ def groupings(members: Sequence[Member], found: dict[str, Pattern]) -> list[list
     """The ways to put the fields of a record in groups: those that are only read, each hart's own ones, and what harts share, alone, by who
     writes it, or with what the writer has for itself."""
     keys = Keys(members, found)
-    used, unused = ([it for it in members if (keys.kind(it) == "none") == is_unused] for is_unused in (False, True))
+    used, unused = (
+        [it for it in members if (keys.kind(it) == "none") == is_unused]
+        for is_unused in (False, True)
+    )
     ways: list[list[list[Member]]] = []
     for key in (keys.together, keys.by_writer, keys.with_writer, keys.with_first, keys.alone):
         way = grouped(used, unused, key)
@@ -204,7 +257,9 @@ def groupings(members: Sequence[Member], found: dict[str, Pattern]) -> list[list
     return ways
 
 
-def grouped(used: Sequence[Member], unused: Sequence[Member], key: Callable[[Member], Key]) -> list[list[Member]]:
+def grouped(
+    used: Sequence[Member], unused: Sequence[Member], key: Callable[[Member], Key]
+) -> list[list[Member]]:
     """The fields by their keys, in the order of their firsts; those that nobody uses go to what is only read, or else behind the rest."""
     groups: dict[Key, list[Member]] = {}
     for it in used:
@@ -215,20 +270,31 @@ def grouped(used: Sequence[Member], unused: Sequence[Member], key: Callable[[Mem
     return list(groups.values())
 
 
-def fields(subject: Subject, record: Record, groups: list[list[Member]], found: dict[str, Pattern], line: int) -> Repair:
+def fields(
+    subject: Subject,
+    record: Record,
+    groups: list[list[Member]],
+    found: dict[str, Pattern],
+    line: int,
+) -> Repair:
     """The fields of a record in groups, each of which begins on a line of its own."""
     change = Change(line)
     change.parted[record.die.offset] = groups
     parts, room = moved(subject, change)
     keyword, name = spelled_record(record.shape)
     place = users(record.die)
-    told = [f"{', '.join(it.name for it in own)} ({of_whom([one for it in own for one in found[it.name]])})" for own in groups]
+    told = [
+        f"{', '.join(it.name for it in own)} ({of_whom([one for it in own for one in found[it.name]])})"
+        for own in groups
+    ]
     firsts = [f"`{own[0].name}`" for own in groups[1:]]
     behind = f"`{attribute(line)}` behind {', '.join(firsts[:-1])}{' and ' if len(firsts) > 1 else ''}{firsts[-1]}"
     what = f"`{keyword} {name}`" if name else f"the {keyword} of {subject.name}{record.path}"
     old, new, whole = record.shape.size(), laid(record.shape, change).size, subject.size()
     said = f"put the fields of {what}{at(place)} in this order, with {behind}: {'; '.join(told)}{aligned_alloc(subject, line)}"
-    edits: list[Edit] | None = [OrderFields(place, name, groups, line)] if place and not subject.is_blocks() else None
+    edits: list[Edit] | None = (
+        [OrderFields(place, name, groups, line)] if place and not subject.is_blocks() else None
+    )
     how = [f"{said}; {becomes(old, new, whole == old)}"]
     return Repair(how, parts, room, edits, change, (), None if whole == old else (whole, room))
 
@@ -245,10 +311,17 @@ def alone(subjects: Sequence[Subject], line: int) -> Repair:
         room = rounded(room + size, line)
         place = users(it.die) if it.die is not None else None
         told.append(it.name + at(place))
-        edits = [*edits, AlignVariable(place, it.name, line)] if edits is not None and place else None
+        edits = (
+            [*edits, AlignVariable(place, it.name, line)] if edits is not None and place else None
+        )
     names = ", ".join(told[:-1]) + (" and " if len(told) > 1 else "") + told[-1]
     how = f"`{attribute(line)}` behind {'the name of each' if len(told) > 1 else 'its name'}"
-    return Repair([f"give {names} lines of {'their' if len(told) > 1 else 'its'} own: {how}"], in_words(parts), room, edits)
+    return Repair(
+        [f"give {names} lines of {'their' if len(told) > 1 else 'its'} own: {how}"],
+        in_words(parts),
+        room,
+        edits,
+    )
 
 
 def blocks(subject: Subject, line: int) -> Repair:
@@ -268,7 +341,9 @@ def arenas(subject: Subject, uses: Uses, line: int) -> Repair | None:
     for word in subject.words():
         own = whose(uses, word, 4)
         if own.kind != "none":
-            found.setdefault(own if own.kind == "own" else Whose("shared", frozenset()), []).append(word)
+            found.setdefault(own if own.kind == "own" else Whose("shared", frozenset()), []).append(
+                word
+            )
     if sum(it.kind == "own" for it in found) < 2:
         return None
     parts: list[Part] = []
@@ -281,7 +356,9 @@ def arenas(subject: Subject, uses: Uses, line: int) -> Repair | None:
     else:
         where = " on the type of its elements" if subject.shape is None else ""
         how = f"give each hart's words lines of their own, by `{attribute(line)}`{where}"
-    return Repair([f"harts have words of their own in {subject.name}: {how}"], in_words(parts), to, None)
+    return Repair(
+        [f"harts have words of their own in {subject.name}: {how}"], in_words(parts), to, None
+    )
 
 
 def joined(first: Repair, others: Sequence[Subject], line: int) -> Repair:
@@ -290,7 +367,11 @@ def joined(first: Repair, others: Sequence[Subject], line: int) -> Repair:
     parts = [*first.parts, *(Part(it.begin, it.size, it.to + base) for it in second.parts)]
     edits = None if first.edits is None or second.edits is None else [*first.edits, *second.edits]
     return first._replace(
-        hows=[*first.hows, *second.hows], parts=sorted(parts), room=base + second.room, edits=edits, others=tuple(others)
+        hows=[*first.hows, *second.hows],
+        parts=sorted(parts),
+        room=base + second.room,
+        edits=edits,
+        others=tuple(others),
     )
 
 
@@ -300,14 +381,27 @@ def together(subject: Subject, first: Repair, second: Repair, line: int) -> Repa
     if one is None or other is None or {*one.parted} & {*other.parted} or second.others:
         return None
     change = Change(line)
-    change.aligned, change.wrapped, change.parted = one.aligned | other.aligned, one.wrapped | other.wrapped, {**one.parted, **other.parted}
+    change.aligned, change.wrapped, change.parted = (
+        one.aligned | other.aligned,
+        one.wrapped | other.wrapped,
+        {**one.parted, **other.parted},
+    )
     try:
         parts, room = moved(subject, change)
     except Unmovable:
         return None
     edits = None if first.edits is None or second.edits is None else [*first.edits, *second.edits]
     hows = first.hows[: len(first.hows) - bool(first.others)] + second.hows
-    found = Repair(hows, parts, room, edits, change, (), (subject.size(), room), first.instead or second.instead)
+    found = Repair(
+        hows,
+        parts,
+        room,
+        edits,
+        change,
+        (),
+        (subject.size(), room),
+        first.instead or second.instead,
+    )
     return joined(found, first.others, line) if first.others else found
 
 
@@ -324,7 +418,10 @@ def inner(subject: Subject, uses: Uses, line: int) -> Iterator[Callable[[], Repa
     if subject.is_blocks() and len(begins) > len(subject.ranges) and shape.record() is not None:
         yield lambda: elements(subject, whole, uses, line)
     for array in arrays_in(shape, begins):
-        if sum(whose(uses, it, array.shape.size()).kind != "none" for it in array.begins) > 1 and array.shape.size() >= 4:
+        if (
+            sum(whose(uses, it, array.shape.size()).kind != "none" for it in array.begins) > 1
+            and array.shape.size() >= 4
+        ):
             yield lambda array=array: elements(subject, array, uses, line)  # type: ignore[misc]
     for record in records_in(shape, begins):
         if users(record.die) is None:
@@ -332,7 +429,12 @@ def inner(subject: Subject, uses: Uses, line: int) -> Iterator[Callable[[], Repa
         found = patterns(record.members, record.begins, uses)
         for way in groupings(record.members, found):
             yield lambda record=record, way=way, found=found: fields(subject, record, way, found, line)  # type: ignore[misc]
-    if shape.dims() and shape.element().size() < 4 or shape.record() is not None and members_of(shape.record()) is None:
+    if (
+        shape.dims()
+        and shape.element().size() < 4
+        or shape.record() is not None
+        and members_of(shape.record()) is None
+    ):
         yield lambda: arenas(subject, uses, line)
 
 

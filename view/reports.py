@@ -19,13 +19,18 @@ LINE = re.compile(
     rf"line (observed|shifted|doubled) {ADDRESS} {NUMBER} start {NUMBER} count {NUMBER} verdict (false|true|mixed)\n({STANDS}){WORDS}"
 )
 MISSES = re.compile(rf"line {ADDRESS} cold {NUMBER} useful {NUMBER} useless {NUMBER}\n({STANDS})")
-OBJECT = re.compile(r"object (?:symbol (\S+) (\S+) (\d+)|block (\S+) (\d+) born (\d+) (?:live|died (\d+)))((?:\nsite .*)*)")
+OBJECT = re.compile(
+    r"object (?:symbol (\S+) (\S+) (\d+)|block (\S+) (\d+) born (\d+) (?:live|died (\d+)))((?:\nsite .*)*)"
+)
 WORD = re.compile(r"word (\S+) reads (\d+) writes (\d+) (?:hart )?(\w+)")
 SITE = re.compile(r"site (\S+) (\S+)")
 SITES = re.compile(rf"\nsite {ANY} .*(?:\nsite .*)*")
 PAIR = re.compile(rf"^pair {ADDRESS} {ADDRESS} taken {NUMBER} same {NUMBER}$", re.MULTILINE)
 FROM = re.compile(rf"^from {NUMBER} to {NUMBER} taken {NUMBER}$", re.MULTILINE)
-TAKEN = re.compile(rf"^line {ADDRESS} takings {MANY} pairs {MANY} harts {MANY}\n(?:(?:pair|from) .*\n)+", re.MULTILINE)
+TAKEN = re.compile(
+    rf"^line {ADDRESS} takings {MANY} pairs {MANY} harts {MANY}\n(?:(?:pair|from) .*\n)+",
+    re.MULTILINE,
+)
 OUTCOME = re.compile(rf"exit {MANY}|budget|deadlock|part|trap hart {MANY} pc {ADDRESS} [a-z-]+")
 WHERE = re.compile(rf"^where {ADDRESS} (.*)$", re.MULTILINE)
 LineKind = Literal["observed", "shifted", "doubled"]
@@ -99,7 +104,10 @@ class Rows:
 
     def accesses(self) -> list[tuple[int, int]]:
         """The place of each word, and its number of accesses."""
-        return [(int(addr, 16), int(reads) + int(writes)) for addr, reads, writes, _ in WORD.findall(self.text, self.begin, self.end)]
+        return [
+            (int(addr, 16), int(reads) + int(writes))
+            for addr, reads, writes, _ in WORD.findall(self.text, self.begin, self.end)
+        ]
 
 
 def objects_of(rows: str) -> list[Symbol | Block]:
@@ -110,7 +118,15 @@ def objects_of(rows: str) -> list[Symbol | Block]:
         if name is not None:
             found.append(Symbol(name, int(at, 16), int(size)))
         else:
-            found.append(Block(int(block, 16), int(length), int(born), None if died is None else int(died), chain(sites)))
+            found.append(
+                Block(
+                    int(block, 16),
+                    int(length),
+                    int(born),
+                    None if died is None else int(died),
+                    chain(sites),
+                )
+            )
     return found
 
 
@@ -118,7 +134,9 @@ def chain(rows: str) -> tuple[Site, ...]:
     """The call sites that some rows tell."""
     found = Rows.chains.get(rows)
     if found is None:
-        found = Rows.chains[rows] = tuple(Site(int(addr, 16), name) for addr, name in SITE.findall(rows))
+        found = Rows.chains[rows] = tuple(
+            Site(int(addr, 16), name) for addr, name in SITE.findall(rows)
+        )
     return found
 
 
@@ -127,11 +145,18 @@ class Line(Rows):
 
     __slots__ = ("kind", "base", "size", "start", "count", "verdict")
 
-    def __init__(self, text: str, stands: str, begin: int, end: int, fields: tuple[str, ...]) -> None:
+    def __init__(
+        self, text: str, stands: str, begin: int, end: int, fields: tuple[str, ...]
+    ) -> None:
         self.text, self.stands, self.begin, self.end = text, stands, begin, end
         kind, base, size, start, count, verdict, _ = fields
         self.kind, self.verdict = KINDS[kind], VERDICTS[verdict]
-        self.base, self.size, self.start, self.count = int(base, 16), int(size), int(start), int(count)
+        self.base, self.size, self.start, self.count = (
+            int(base, 16),
+            int(size),
+            int(start),
+            int(count),
+        )
 
 
 class Missed(Rows):
@@ -139,14 +164,24 @@ class Missed(Rows):
 
     __slots__ = ("base", "cold", "useful", "useless")
 
-    def __init__(self, text: str, stands: str, begin: int, end: int, fields: tuple[str, ...]) -> None:
+    def __init__(
+        self, text: str, stands: str, begin: int, end: int, fields: tuple[str, ...]
+    ) -> None:
         self.text, self.stands, self.begin, self.end = text, stands, begin, end
         base, cold, useful, useless, _ = fields
-        self.base, self.cold, self.useful, self.useless = int(base, 16), int(cold), int(useful), int(useless)
+        self.base, self.cold, self.useful, self.useless = (
+            int(base, 16),
+            int(cold),
+            int(useful),
+            int(useless),
+        )
 
 
 def listed(
-    text: str, pattern: re.Pattern[str], kind: Callable[[str, str, int, int, tuple[str, ...]], A], of: str
+    text: str,
+    pattern: re.Pattern[str],
+    kind: Callable[[str, str, int, int, tuple[str, ...]], A],
+    of: str,
 ) -> tuple[list[A], int | None]:
     """The lines that a text lists, each with its rows, and where the text goes on behind them."""
     found: list[A] = []
@@ -200,7 +235,11 @@ class Report:
         if not text or text.isspace():
             raise Fault(f"{of}: it is empty, and no report")
         if first != "predator report 1":
-            what = "a report of another version" if re.fullmatch(r"predator report \d+", first) else "no report"
+            what = (
+                "a report of another version"
+                if re.fullmatch(r"predator report \d+", first)
+                else "no report"
+            )
             if other(text):
                 raise Fault(f"{of}: it is no report, but {other(text)}")
             raise Fault(f"{of}: it is {what}: its first line isn't `predator report 1`")
@@ -211,14 +250,22 @@ class Report:
         self.steps, self.accesses = number(fields, "steps", of), number(fields, "accesses", of)
         layout = re.fullmatch(rf"{NUMBER} {NUMBER}", fields.get("layout", ""))
         told = re.fullmatch(rf"{NUMBER} ({MANY}|none) {NUMBER}", fields.get("thresholds", ""))
-        if not layout or not told or int(layout[1]) not in SIZES or int(layout[2]) >= int(layout[1]):
+        if (
+            not layout
+            or not told
+            or int(layout[1]) not in SIZES
+            or int(layout[2]) >= int(layout[1])
+        ):
             raise Fault(f"{of}: it has no layout or no thresholds that a report has")
         self.size, self.offset = int(layout[1]), int(layout[2])
         self.thresholds = told.groups()
         self.lines, place = listed(text, LINE, Line, of)
         if len(self.lines) != number(fields, "lines", of):
             raise Fault(f"{of}: it tells of {fields['lines']} lines and has {len(self.lines)}")
-        if {(it.kind == "doubled", it.size) for it in self.lines} - {(False, self.size), (True, 2 * self.size)}:
+        if {(it.kind == "doubled", it.size) for it in self.lines} - {
+            (False, self.size),
+            (True, 2 * self.size),
+        }:
             raise Fault(f"{of}: it has lines of another size than its layout says")
         # What native/predator-native prints behind a report: where a call site stands.
         self.where = {int(it[1], 16): it[2] for it in WHERE.finditer(text, place or 0)}
@@ -245,12 +292,16 @@ class Misses:
 
     def __init__(self, text: str, of: str = "misses") -> None:
         found = re.match(r"misses (\d+) (\d+)\naccesses (\d+)\nlines (\d+)\n", text)
-        total = re.search(r"^total cold (\d+) useful (\d+) useless (\d+)\nend\n", text, re.MULTILINE)
+        total = re.search(
+            r"^total cold (\d+) useful (\d+) useless (\d+)\nend\n", text, re.MULTILINE
+        )
         if not found or not total:
             raise Fault(f"{of}: it isn't what `misses` prints")
         self.size, self.offset, self.accesses = (int(it) for it in found.groups()[:3])
         self.text, self.lines = text, {it.base: it for it in listed(text, MISSES, Missed, of)[0]}
-        self.total = {name: int(it) for name, it in zip(("cold", "useful", "useless"), total.groups())}
+        self.total = {
+            name: int(it) for name, it in zip(("cold", "useful", "useless"), total.groups())
+        }
         if len(self.lines) != int(found[4]):
             raise Fault(f"{of}: it tells of {found[4]} lines and has {len(self.lines)}")
 
@@ -285,7 +336,9 @@ class Blame:
     """What `blame` says of a trace: what takes each line, which is read when it is asked for."""
 
     def __init__(self, text: str, of: str = "blame") -> None:
-        head = re.match(r"predator blame 1\naccesses (\d+)\nlayout (\d+) (\d+)\nlines (\d+)\n", text)
+        head = re.match(
+            r"predator blame 1\naccesses (\d+)\nlayout (\d+) (\d+)\nlines (\d+)\n", text
+        )
         if not head or not re.search(r"^total takings \d+\nend\n\Z", text[-80:], re.MULTILINE):
             raise Fault(f"{of}: it isn't what `blame` prints")
         self.accesses, self.text = int(head[1]), text
@@ -305,14 +358,23 @@ class Explained:
         if not text.startswith("predator explain 1\n") or not text.endswith("\nend\n"):
             raise Fault(f"{of}: it isn't what `explain` prints")
         line = re.search(rf"^line {ADDRESS} (\d+) start (\d+) count (\d+)$", text, re.MULTILINE)
-        steps, accesses = (re.search(rf"^{it} (\d+)$", text, re.MULTILINE) for it in ("steps", "accesses"))
+        steps, accesses = (
+            re.search(rf"^{it} (\d+)$", text, re.MULTILINE) for it in ("steps", "accesses")
+        )
         if not line or not steps or not accesses:
             raise Fault(f"{of}: it isn't what `explain` prints")
-        self.base, self.size, self.start, self.count = int(line[1], 16), int(line[2]), int(line[3]), int(line[4])
+        self.base, self.size, self.start, self.count = (
+            int(line[1], 16),
+            int(line[2]),
+            int(line[3]),
+            int(line[4]),
+        )
         self.steps, self.accesses = int(steps[1]), int(accesses[1])
         self.takings = takings(self.base, text)
         self.pairs, self.harts = self.takings.pairs, self.takings.harts
-        sites = re.findall(rf"^site {ADDRESS} reads (\d+) writes (\d+) (hart \d+|many) (\S+)$", text, re.MULTILINE)
+        sites = re.findall(
+            rf"^site {ADDRESS} reads (\d+) writes (\d+) (hart \d+|many) (\S+)$", text, re.MULTILINE
+        )
         self.sites = {int(it[0], 16): (int(it[1]), int(it[2]), it[3], it[4]) for it in sites}
 
 
@@ -322,7 +384,9 @@ class Placed:
 
     def __init__(self, text: str, of: str = "place") -> None:
         head = re.match(rf"place ([!-~]+) {ADDRESS} {NUMBER} line {NUMBER}\n", text)
-        counts = re.search(rf"^before {NUMBER}\nafter {NUMBER}\nmany {NUMBER}\nend\n", text, re.MULTILINE)
+        counts = re.search(
+            rf"^before {NUMBER}\nafter {NUMBER}\nmany {NUMBER}\nend\n", text, re.MULTILINE
+        )
         if not head or not counts:
             raise Fault(f"{of}: it isn't what `place` prints")
         self.name, self.addr, self.line = head[1], int(head[2], 16), int(head[4])

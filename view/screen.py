@@ -20,14 +20,21 @@ BOLD, RED, DIM, END = "1", "1;31", "2", "0"
 # So many rows are looked at first; so many of an object's neighbours are named, and of the objects that a predicted line would have.
 MOST = 3
 # How a pair takes a line.
-BY = {ATOMIC: "; by an atomic instruction", LOAD: "; from a load", STORE: "; a store over a store", UNKNOWN: ""}
+BY = {
+    ATOMIC: "; by an atomic instruction",
+    LOAD: "; from a load",
+    STORE: "; a store over a store",
+    UNKNOWN: "",
+}
 
 
 class Paint:
     """Colours where they are wanted."""
 
     def __init__(self, out: TextIO = sys.stdout) -> None:
-        self.is_on = out.isatty() and not os.environ.get("NO_COLOR") and os.environ.get("TERM") != "dumb"
+        self.is_on = (
+            out.isatty() and not os.environ.get("NO_COLOR") and os.environ.get("TERM") != "dumb"
+        )
 
     def __call__(self, code: str, text: str) -> str:
         return f"\033[{code}m{text}\033[{END}m" if self.is_on else text
@@ -42,7 +49,9 @@ def outcome(view: View, paint: Paint, width: int) -> Iterator[str]:
     if not report.ended_well():
         yield paint(RED, plain(f"!! THE RUN DIDN'T END BY EXIT 0: {told}"))
         yield paint(RED, f"!! {next_step(view)}")
-    layout = f"lines of {report.size} bytes" + (f" at offset {report.offset}" if report.offset else "")
+    layout = f"lines of {report.size} bytes" + (
+        f" at offset {report.offset}" if report.offset else ""
+    )
     yield plain(f"outcome {told}, {report.steps} steps, {report.accesses} accesses, {layout}")
     if view.misses:
         total = view.misses.total
@@ -91,28 +100,57 @@ def counted(number: int, what: str) -> str:
 
 
 def fold(text: str, first: str, rest: str, width: int) -> list[str]:
-    return textwrap.wrap(plain(text), width, initial_indent=first, subsequent_indent=rest, break_long_words=False, break_on_hyphens=False)
+    return textwrap.wrap(
+        plain(text),
+        width,
+        initial_indent=first,
+        subsequent_indent=rest,
+        break_long_words=False,
+        break_on_hyphens=False,
+    )
 
 
 def row(view: View, place: int, thing: Thing, paint: Paint, width: int) -> Iterator[str]:
     """One object: its numbers and name, and below it the worst field, the fighting lines and what to do."""
     seen, short = view.seen(thing), view.naming.names.shortened
     numbers: list[int | str] = [thing.useless, thing.useful] if view.misses else ["-", "-"]
-    lives = f" ({len(thing.lives)} lives)" if isinstance(thing.key, OfBlocks) and len(thing.lives) > 1 else ""
+    lives = (
+        f" ({len(thing.lives)} lives)"
+        if isinstance(thing.key, OfBlocks) and len(thing.lives) > 1
+        else ""
+    )
     beside = [view.label(view.all[it]) for it in thing.beside]
-    near = f", beside {', '.join(beside[:MOST])}" + (f" and {len(beside) - MOST} more" if len(beside) > MOST else "") if beside else ""
+    near = (
+        f", beside {', '.join(beside[:MOST])}"
+        + (f" and {len(beside) - MOST} more" if len(beside) > MOST else "")
+        if beside
+        else ""
+    )
     cells = "".join(f" {it:>8}" for it in (*numbers, thing.count))
     name = paint(BOLD, plain(short(view.label(thing))))
-    yield f"{place:>3} {cells} {len(thing.spots):>6}  {name}" + plain(lives + short(near + thing.note))
+    yield f"{place:>3} {cells} {len(thing.spots):>6}  {name}" + plain(
+        lives + short(near + thing.note)
+    )
     worst = seen.worst()
     if worst:
-        much = f"{counted(worst.writes, 'write')} and {counted(worst.reads, 'read')} by {owner(worst)}"
+        much = (
+            f"{counted(worst.writes, 'write')} and {counted(worst.reads, 'read')} by {owner(worst)}"
+        )
         yield from fold(f"worst field  {short(worst.whole())}: {much}", " " * 8, " " * 21, width)
     for fight in seen.fights()[: None if "words" in view.call.options else 1]:
         one, other = (view.naming.instruction(it) for it in fight[:2])
-        took = counted(fight.taken, "time") + (f", {fight.same} of them for the same word" if fight.same else ", never for the same word")
+        took = counted(fight.taken, "time") + (
+            f", {fight.same} of them for the same word"
+            if fight.same
+            else ", never for the same word"
+        )
         kind = BY[kind_of(fight, view.does)]
-        yield from fold(short(f"fighting     {other} takes the line from {one}, {took}{kind}"), " " * 8, " " * 21, width)
+        yield from fold(
+            short(f"fighting     {other} takes the line from {one}, {took}{kind}"),
+            " " * 8,
+            " " * 21,
+            width,
+        )
     taken, worth = told(view.takings(thing) or {}, view.is_read(thing)), view.worth.told(thing)
     if taken:
         yield from fold(f"takings      {taken}", " " * 8, " " * 21, width)
@@ -123,7 +161,12 @@ def row(view: View, place: int, thing: Thing, paint: Paint, width: int) -> Itera
 
 def is_one(word: Told, other: Told) -> bool:
     """Whether two words are the halves of one number, which is accessed as a whole."""
-    halves = other.addr == word.addr + 4 and word.addr % 8 == 0 and word.name == other.name and ", " not in word.name
+    halves = (
+        other.addr == word.addr + 4
+        and word.addr % 8 == 0
+        and word.name == other.name
+        and ", " not in word.name
+    )
     # (the first access that is counted may be that of the upper half)
     is_near = abs(word.reads - other.reads) <= 1 and abs(word.writes - other.writes) <= 1
     return halves and is_near and (word.key, word.hart) == (other.key, other.hart)
@@ -132,7 +175,9 @@ def is_one(word: Told, other: Told) -> bool:
 def joined(word: Told, other: Told) -> Told:
     """Two halves as one."""
     useful = None if word.useful is None else max(word.useful, other.useful or 0)
-    return word._replace(reads=max(word.reads, other.reads), writes=max(word.writes, other.writes), useful=useful)
+    return word._replace(
+        reads=max(word.reads, other.reads), writes=max(word.writes, other.writes), useful=useful
+    )
 
 
 def wholes(words: Sequence[Told]) -> Iterator[Told]:
@@ -149,7 +194,11 @@ def words_table(view: View, thing: Thing) -> Iterator[str]:
     short = view.naming.names.shortened
     for it in wholes(view.seen(thing).words):
         needed = "" if it.useful is None else f"{it.useful:>9}"
-        other = "" if it.key == thing.key else f"  ({plain(short(view.all[it.key].name)) if it.key in view.all else 'another object'})"
+        other = (
+            ""
+            if it.key == thing.key
+            else f"  ({plain(short(view.all[it.key].name)) if it.key in view.all else 'another object'})"
+        )
         yield f"        0x{it.addr:08x}{it.reads:>9}{it.writes:>9}{needed}  {it.hart:<5} {plain(short(it.name))}{other}"
 
 
@@ -157,9 +206,15 @@ def prediction(view: View, group: Sequence[Foretold]) -> str:
     """Some predicted lines of one kind, in a sentence."""
     first, bases = group[0], [f"0x{it.line.base:08x}" for it in group]
     names = [view.name_of(key) for key in first.keys]
-    what = (", ".join(names[:MOST]) + (f" and {len(names) - MOST} more" if len(names) > MOST else "")) or "memory"
+    what = (
+        ", ".join(names[:MOST]) + (f" and {len(names) - MOST} more" if len(names) > MOST else "")
+    ) or "memory"
     size, where = first.line.size, listing(bases)
-    how = f"lines of {size} bytes (at {where})" if first.line.kind == "doubled" else f"lines that begin at {where}"
+    how = (
+        f"lines of {size} bytes (at {where})"
+        if first.line.kind == "doubled"
+        else f"lines that begin at {where}"
+    )
     if first.useless is None or view.misses is None:
         much = f"count {sum(it.line.count for it in group)}"
     else:
@@ -178,7 +233,11 @@ def predictions(view: View, paint: Paint, width: int) -> Iterator[str]:
     for it in together(shown):
         yield from fold(view.naming.names.shortened(prediction(view, it)), "    ", "      ", width)
     if folded:
-        more = "can't come to be, or weren't counted" if any(it.why == UNCOUNTED for it in found) and view.misses else "or can't come to be"
+        more = (
+            "can't come to be, or weren't counted"
+            if any(it.why == UNCOUNTED for it in found) and view.misses
+            else "or can't come to be"
+        )
         why = f"since {'it says' if folded == 1 else 'they say'} no more, {more}: --predicted shows all"
         yield paint(DIM, f"{counted(folded, 'predicted line')} folded away, {why}")
 
@@ -202,7 +261,11 @@ def screen(view: View, paint: Paint, width: int = 110) -> Iterator[str]:
             yield from words_table(view, thing)
     if view.folded():
         numbers, text = row_of(view.folded(), view.misses is not None, bool(view.runtime))
-        yield "    " + "".join(f" {it:>8}" for it in numbers[:3]) + f" {numbers[3]:>6}  {paint(DIM, text)}"
+        yield "    " + "".join(
+            f" {it:>8}" for it in numbers[:3]
+        ) + f" {numbers[3]:>6}  {paint(DIM, text)}"
     if len(chosen) > top:
-        yield paint(DIM, f"{counted(len(chosen) - top, 'more object')}: --top {len(chosen)} shows all")
+        yield paint(
+            DIM, f"{counted(len(chosen) - top, 'more object')}: --top {len(chosen)} shows all"
+        )
     yield from predictions(view, paint, width)

@@ -3,14 +3,32 @@
 # What settings have where neither a file nor the call says.
 # commands.toml: usual
 USUAL = {
-    "harts": 8, "memory": 16777216, "stack": 65536, "tracking": 16, "report": 100, "quantum": 100, "budget": 100000000, "line": 64,
+    "harts": 8,
+    "memory": 16777216,
+    "stack": 65536,
+    "tracking": 16,
+    "report": 100,
+    "quantum": 100,
+    "budget": 100000000,
+    "line": 64,
     "seed": 0,
 }
 # (so far)
 
 # All keys of the settings.
 # commands.toml: keys
-KEYS = ("harts", "memory", "stack", "tracking", "prediction", "report", "quantum", "budget", "line", "seed")
+KEYS = (
+    "harts",
+    "memory",
+    "stack",
+    "tracking",
+    "prediction",
+    "report",
+    "quantum",
+    "budget",
+    "line",
+    "seed",
+)
 # (so far)
 
 # The options that say under what a program runs, those whose files are written, those without a value, and all of a run and of a replay.

@@ -26,14 +26,23 @@ class Place(NamedTuple):
 
 def places(told: dict[str, Any]) -> list[Place]:
     """The frames of an address as llvm-symbolizer tells them, the innermost first."""
-    frames = [(it.get("FunctionName", ""), it.get("FileName", ""), it.get("Line", 0)) for it in told.get("Symbol", [])]
-    return [Place(function, file and os.path.normpath(file), line) for function, file, line in frames if function or file]
+    frames = [
+        (it.get("FunctionName", ""), it.get("FileName", ""), it.get("Line", 0))
+        for it in told.get("Symbol", [])
+    ]
+    return [
+        Place(function, file and os.path.normpath(file), line)
+        for function, file, line in frames
+        if function or file
+    ]
 
 
 class Sources:
     """The lines of a program's addresses, and the texts of its sources as far as they are there."""
 
-    def __init__(self, program: str, folders: Iterable[str] = (), code: Sequence[tuple[int, int]] = ()) -> None:
+    def __init__(
+        self, program: str, folders: Iterable[str] = (), code: Sequence[tuple[int, int]] = ()
+    ) -> None:
         self.program, self.code = program, code
         self.places: dict[int, list[Place]] = {}
         self.texts: dict[str, list[str]] = {}
@@ -48,7 +57,11 @@ class Sources:
         unknown = {it for it in addresses if it not in self.places}
         # (debug information has functions that were discarded, at address 0)
         self.places.update({it: [] for it in unknown})
-        wanted = sorted(it for it in unknown if not self.code or any(low <= it < high for low, high in self.code))
+        wanted = sorted(
+            it
+            for it in unknown
+            if not self.code or any(low <= it < high for low, high in self.code)
+        )
         if not wanted:
             return
         ran = subprocess.run(
@@ -88,7 +101,9 @@ class Sources:
         """Where a source is on this machine, or none."""
         for folder in self.folders:
             for it in (file, os.path.basename(file)):
-                path = os.path.normpath(os.path.join(folder, it)) if folder else os.path.normpath(it)
+                path = (
+                    os.path.normpath(os.path.join(folder, it)) if folder else os.path.normpath(it)
+                )
                 if os.path.isfile(path) and (folder or it == file):
                     return path
         return None

@@ -62,7 +62,9 @@ def pieces(data: mmap.mmap) -> Iterator[tuple[int, bytes]]:
         tag = data[place] if place < end else 0
         if tag not in SIZES:
             return
-        place += SIZES[tag] + (int.from_bytes(data[place + 10 : place + 12], "little") if tag == SYMBOL else 0)
+        place += SIZES[tag] + (
+            int.from_bytes(data[place + 10 : place + 12], "little") if tag == SYMBOL else 0
+        )
         many = FEW
 
 
@@ -90,8 +92,15 @@ class Running:
             if enough and at % step == 0:
                 self.counts.update(array("Q", piece[ACCESS * low : ACCESS * high]))
                 pending.update(array("Q", piece[ACCESS * high :]))
-            if enough and not self.front and accesses >= enough and len(data) > place + ACCESS * PART * LONG:
-                self.front = data[: place + len(piece)] + PART_END.pack(END, OF_PART, 0, 0, 0, 0, accesses)
+            if (
+                enough
+                and not self.front
+                and accesses >= enough
+                and len(data) > place + ACCESS * PART * LONG
+            ):
+                self.front = data[: place + len(piece)] + PART_END.pack(
+                    END, OF_PART, 0, 0, 0, 0, accesses
+                )
 
 
 class Uses:
@@ -111,7 +120,9 @@ class Uses:
         hart, is_read, size = key >> 8 & 0xFFFF, key & 0xFF == READ, key >> 56
         own = self.words.setdefault(word, {})
         reads, writes, used = own.get(hart, (0, 0, 0))
-        own[hart] = Use(reads + much * is_read, writes + much * (not is_read), used | ((1 << size) - 1) << at)
+        own[hart] = Use(
+            reads + much * is_read, writes + much * (not is_read), used | ((1 << size) - 1) << at
+        )
 
     def of(self, word: int) -> ByHart:
         """The harts that use a word, without those that only look at it."""
@@ -119,7 +130,11 @@ class Uses:
             return self.cached.get(word, {})
         own = self.words[word]
         most = max((it.accesses() for it in own.values()), default=0)
-        found = {hart: it for hart, it in own.items() if it.accesses() * SELDOM >= most and (it.accesses() > LOOKS or most <= LOOKS)}
+        found = {
+            hart: it
+            for hart, it in own.items()
+            if it.accesses() * SELDOM >= most and (it.accesses() > LOOKS or most <= LOOKS)
+        }
         self.cached[word] = found
         return found
 

@@ -16,7 +16,11 @@ from spelled import STEADY, Uses
 
 # What isn't the user's to declare otherwise: headers of the system and of the kit for guests.
 SYSTEM = re.compile(r"^/usr/(?:include|lib)/|(?:^|/)guest/(?:include/|predator\.h$)")
-KEYWORDS = {"DW_TAG_structure_type": "struct", "DW_TAG_class_type": "class", "DW_TAG_union_type": "union"}
+KEYWORDS = {
+    "DW_TAG_structure_type": "struct",
+    "DW_TAG_class_type": "class",
+    "DW_TAG_union_type": "union",
+}
 # Objects of more bytes than this aren't looked at word by word.
 LARGEST = 1 << 24
 
@@ -59,8 +63,21 @@ def whose(uses: Uses, begin: int, size: int) -> Whose:
 class Subject:
     """An object: its name, the ranges that it lies in, and its type or none."""
 
-    def __init__(self, thing: Thing, name: str, ranges: Sequence[tuple[int, int]], shape: Shape | None, die: Die = None) -> None:
-        self.thing, self.name, self.ranges, self.shape, self.die = thing, name, list(ranges), shape, die
+    def __init__(
+        self,
+        thing: Thing,
+        name: str,
+        ranges: Sequence[tuple[int, int]],
+        shape: Shape | None,
+        die: Die = None,
+    ) -> None:
+        self.thing, self.name, self.ranges, self.shape, self.die = (
+            thing,
+            name,
+            list(ranges),
+            shape,
+            die,
+        )
         self.neighbours: list[Subject] = []
 
     def size(self) -> int:
@@ -76,7 +93,15 @@ class Subject:
     def begins(self) -> list[int]:
         """Where the values of its type begin."""
         wide = self.shape.size() if self.shape else 0
-        return [at for begin, size in self.ranges for at in range(begin, begin + size - wide + 1, wide)] if wide else []
+        return (
+            [
+                at
+                for begin, size in self.ranges
+                for at in range(begin, begin + size - wide + 1, wide)
+            ]
+            if wide
+            else []
+        )
 
 
 def place_of(die: Die) -> Declared | None:
@@ -137,7 +162,9 @@ def of_symbol(view: View, thing: Thing, symbol: Symbol) -> Subject:
     if shape is not None and (not shape.size() or shape.size() > max(size, 4)):
         shape = None
     die = variable.dies[0] if variable is not None else None
-    return Subject(thing, view.label(thing) if thing.name else symbol.name, [(symbol.addr, size)], shape, die)
+    return Subject(
+        thing, view.label(thing) if thing.name else symbol.name, [(symbol.addr, size)], shape, die
+    )
 
 
 def of_blocks(view: View, thing: Thing, example: Block) -> Subject:
@@ -169,7 +196,9 @@ def subject_of(view: View, thing: Thing, uses: Uses) -> Subject | None:
         return None
     if isinstance(thing.example, Symbol):
         found = of_symbol(view, thing, thing.example)
-    elif isinstance(thing.example, Block) and not (thing.example.sites and thing.example.sites[0].name == OWN):
+    elif isinstance(thing.example, Block) and not (
+        thing.example.sites and thing.example.sites[0].name == OWN
+    ):
         found = of_blocks(view, thing, thing.example)
     else:
         return None
@@ -179,7 +208,11 @@ def subject_of(view: View, thing: Thing, uses: Uses) -> Subject | None:
         other = Thing(key, symbol)
         other.name = view.naming.key_name(key, symbol)
         own = of_symbol(view, other, symbol)
-        if not is_foreign(other, view.naming) and own.size() <= LARGEST and any(uses.of(it) for it in own.words()):
+        if (
+            not is_foreign(other, view.naming)
+            and own.size() <= LARGEST
+            and any(uses.of(it) for it in own.words())
+        ):
             found.neighbours.append(own)
     return found
 
@@ -188,6 +221,8 @@ def subject_of(view: View, thing: Thing, uses: Uses) -> Subject | None:
 Group = tuple[list[Member], str]
 
 
-def patterns(members: Sequence[Member], begins: Sequence[int], uses: Uses) -> dict[str, tuple[Whose, ...]]:
+def patterns(
+    members: Sequence[Member], begins: Sequence[int], uses: Uses
+) -> dict[str, tuple[Whose, ...]]:
     """Whose each field is, in each of the records that begin at some places."""
     return {it.name: tuple(whose(uses, at + it.begin, it.size) for at in begins) for it in members}

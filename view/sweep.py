@@ -54,7 +54,9 @@ class Sweep:
 
     def title(self) -> str:
         """What is seen, in a sentence."""
-        told = f"lines of {self.size} bytes are taken {counted(self.own.total, 'time')} as data lies"
+        told = (
+            f"lines of {self.size} bytes are taken {counted(self.own.total, 'time')} as data lies"
+        )
         if self.least.total == self.most.total:
             return f"{told}, and as often under every shift"
         told += self.extremes()
@@ -126,7 +128,13 @@ def marks(sweep: Sweep) -> list[tuple[str, int, str]]:
     """What is marked on the line: a shape, the place of the shift, and what is said of it."""
     found = [("square", sweep.own, "as data lies")]
     if sweep.most.total > sweep.least.total:
-        found += [(shape, it, what) for shape, it, what in (("triangle", sweep.most, "most"), ("circle", sweep.least, "least"))]
+        found += [
+            (shape, it, what)
+            for shape, it, what in (
+                ("triangle", sweep.most, "most"),
+                ("circle", sweep.least, "least"),
+            )
+        ]
     places = {it.shift: at for at, it in enumerate(sweep.shifts)}
     told: list[tuple[str, int, str]] = []
     for shape, it, what in found:
@@ -141,16 +149,22 @@ def page(sweep: Sweep, name: str, most: int = OBJECTS) -> str:
     that make them; and all as a table."""
     found = marks(sweep)
     shifts = [it.shift for it in sweep.shifts]
-    given: Given = curve([it.total for it in sweep.shifts], [(at, text) for _, at, text in found], shifts)
+    given: Given = curve(
+        [it.total for it in sweep.shifts], [(at, text) for _, at, text in found], shifts
+    )
     for it, (shape, _, _) in zip(given["marks"], found):
         it["shape"] = shape
-    return templates().get_template("sweep.html").render(
-        title=f"{os.path.basename(name)}: {sweep.title()}",
-        sweep=sweep,
-        picture=given,
-        objects=sweep.objects[:most],
-        more=max(len(sweep.objects) - most, 0),
-        heads=[sweep.heading(it) for it in sweep.ends()],
+    return (
+        templates()
+        .get_template("sweep.html")
+        .render(
+            title=f"{os.path.basename(name)}: {sweep.title()}",
+            sweep=sweep,
+            picture=given,
+            objects=sweep.objects[:most],
+            more=max(len(sweep.objects) - most, 0),
+            heads=[sweep.heading(it) for it in sweep.ends()],
+        )
     )
 
 

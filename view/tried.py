@@ -29,7 +29,11 @@ class Counted(NamedTuple):
             f"{name} {self.total[name]}{' before' if name == 'useless' else ''}, {after.total[name]}{' after' if name == 'useless' else ''}"
             for name in ("useless", "useful")
         )
-        return told if self.rule is None or after.rule is None else f"{told}; by the report's rule {self.rule}, {after.rule}"
+        return (
+            told
+            if self.rule is None or after.rule is None
+            else f"{told}; by the report's rule {self.rule}, {after.rule}"
+        )
 
 
 class Tried:
@@ -46,7 +50,13 @@ class Tried:
         uses: Uses | None = None,
         own_there: int | None = None,
     ) -> None:
-        self.thing, self.before, self.accesses, self.subject, self.uses = thing, before, accesses, subject, uses
+        self.thing, self.before, self.accesses, self.subject, self.uses = (
+            thing,
+            before,
+            accesses,
+            subject,
+            uses,
+        )
         self.own_there = own_there
         self.known_mixed: list[int] | None = None
         self.repair: Repair | None = None
@@ -80,7 +90,11 @@ class Tried:
     def otherwise(self) -> str:
         """The other way that the repair names, where that saves enough too, and what it came to."""
         other = self.repair.instead if self.repair else None
-        if other is None or self.other is None or not self.is_much(self.before.missed() - self.other.missed()):
+        if (
+            other is None
+            or self.other is None
+            or not self.is_much(self.before.missed() - self.other.missed())
+        ):
             return ""
         return f"; or {other.said()}, which leaves {self.other.total['useless']} useless and {self.other.total['useful']} useful"
 
@@ -100,7 +114,11 @@ class Tried:
 
     def much(self, words: list[int]) -> int:
         """How many accesses some words have while threads run."""
-        return sum(use.accesses() for it in words for use in self.uses.of(it).values()) if self.uses else 0
+        return (
+            sum(use.accesses() for it in words for use in self.uses.of(it).values())
+            if self.uses
+            else 0
+        )
 
     def knows(self) -> bool:
         """Whether what was tried says what to do."""
@@ -119,7 +137,11 @@ class Tried:
 
     def nothing(self, name: str) -> str:
         """That no repair is worth it."""
-        what = f"the best of {self.many} repairs that were counted saves" if self.many > 1 else "the one repair that was counted saves"
+        what = (
+            f"the best of {self.many} repairs that were counted saves"
+            if self.many > 1
+            else "the one repair that was counted saves"
+        )
         said = f"nothing by putting words elsewhere: {what} {max(self.saved(), 0)} of {self.own()} misses{self.there()}"
         if self.thing.useful < self.thing.useless:
             return said

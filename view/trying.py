@@ -81,10 +81,14 @@ class Trial:
     def misses_of(self, trace: str) -> Misses:
         return cast(Misses, self.predator.counted_of_file(trace, misses_under(self.layout)))
 
-    def moved(self, trace: str, repair: Repair, readers: Sequence[Reader]) -> list[CountedOf] | None:
+    def moved(
+        self, trace: str, repair: Repair, readers: Sequence[Reader]
+    ) -> list[CountedOf] | None:
         """What readers tell of a trace with the words of a repair where they would lie, or none where there is no room."""
         of_table = os.path.join(self.folder, f"table-{next(self.moves)}")
-        for base in [0] if repair.is_in_place else itertools.islice(free(self.words, repair.room), PLACES):
+        for base in (
+            [0] if repair.is_in_place else itertools.islice(free(self.words, repair.room), PLACES)
+        ):
             with open(of_table, "w", encoding="ascii") as file:
                 file.write(table(repair.parts, base))
             # (where an access uses what isn't known to be used, another place is tried)
@@ -102,7 +106,9 @@ class Trial:
         found = self.moved(self.trace, repair, [misses_under(self.layout), each_line(self.layout)])
         if found is None:
             return None
-        return Counted(cast(Misses, found[0]).total, sum(it.count for it in cast(Report, found[1]).observed()))
+        return Counted(
+            cast(Misses, found[0]).total, sum(it.count for it in cast(Report, found[1]).observed())
+        )
 
     def best(self, repairs: Sequence[Repair]) -> tuple[Repair, int] | None:
         """The repair that leaves the fewest misses, and of several that are about as good the smallest; with it what it leaves."""
@@ -115,14 +121,21 @@ class Trial:
         most = least + max(self.before - least, 0) // ABOUT
         return min((it for it in found if it[1] <= most), key=lambda it: it[0].room)
 
-    def best_of(self, subject: Subject, repairs: Sequence[Repair], useless: float) -> tuple[tuple[Repair, int] | None, int]:
+    def best_of(
+        self, subject: Subject, repairs: Sequence[Repair], useless: float
+    ) -> tuple[tuple[Repair, int] | None, int]:
         """The best repair, or several together where one leaves much of the useless misses, of which the object has a part, and what that
         leaves. With it how many were tried."""
         found, many = self.best(repairs), len(repairs)
         for _ in range(TOGETHER if found else 0):
             if found is None or self.before - found[1] > ENOUGH * useless * self.before:
                 break
-            more = [it for one in repairs if (it := together(subject, found[0], one, self.layout[0])) and it.parts != found[0].parts]
+            more = [
+                it
+                for one in repairs
+                if (it := together(subject, found[0], one, self.layout[0]))
+                and it.parts != found[0].parts
+            ]
             better, many = self.best(more), many + len(more)
             if better is None or found[1] - better[1] <= (self.before - found[1]) / ABOUT:
                 break
@@ -174,7 +187,9 @@ class Ground(NamedTuple):
     def of(self, thing: Thing, subject: Subject) -> Tried:
         own = None
         if self.in_part is not None:
-            there = [self.in_part.lines[it.base] for it in thing.spots if it.base in self.in_part.lines]
+            there = [
+                self.in_part.lines[it.base] for it in thing.spots if it.base in self.in_part.lines
+            ]
             own = sum(it.useless + it.useful for it in there)
         return Tried(thing, self.before, self.accesses, subject, self.uses, own)
 
@@ -191,7 +206,9 @@ def whole(view: View, predator: Predator, reading: Reading, folder: str) -> Grou
     return Ground(trial, uses, counted_before(view), view.report.accesses)
 
 
-def first_part(view: View, predator: Predator, things: Sequence[Thing], folder: str) -> Ground | None:
+def first_part(
+    view: View, predator: Predator, things: Sequence[Thing], folder: str
+) -> Ground | None:
     """The first part of a long trace, in which the objects are fought over already."""
     trace = view.call.trace()
     if trace is None or not can_move(view, predator):
@@ -204,9 +221,13 @@ def first_part(view: View, predator: Predator, things: Sequence[Thing], folder: 
     if uses is None:
         return None
     trial.choose_by(front)
-    misses, each = predator.all_counted_of_file(part, [misses_under(trial.layout), each_line(trial.layout)])
+    misses, each = predator.all_counted_of_file(
+        part, [misses_under(trial.layout), each_line(trial.layout)]
+    )
     found = cast(Misses, misses)
-    return Ground(trial, uses, Counted(found.total, counted_by_rule(cast(Report, each))), accesses, found)
+    return Ground(
+        trial, uses, Counted(found.total, counted_by_rule(cast(Report, each))), accesses, found
+    )
 
 
 def counted_by_rule(each: Report | None) -> int | None:
@@ -217,15 +238,23 @@ def counted_before(view: View) -> Counted:
     return Counted(view.misses.total if view.misses else {}, counted_by_rule(view.each))
 
 
-def try_all(view: View, predator: Predator | None, things: Sequence[Thing], reading: Reading) -> None:
+def try_all(
+    view: View, predator: Predator | None, things: Sequence[Thing], reading: Reading
+) -> None:
     """Tries the repairs of the first objects, where the program can move words and the trace can be read again."""
     if predator is None or view.misses is None:
         return
     before = counted_before(view)
     tried = {it.key: Tried(it, before, view.report.accesses) for it in things}
     worth = [it for it in things if not tried[it.key].is_rare() and is_worth(it, before)][:OBJECTS]
-    with tempfile.TemporaryDirectory(prefix="predator-view-") as folder, contextlib.suppress(Refused):
-        ground = first_part(view, predator, worth, folder) if is_brief(view.call) else whole(view, predator, reading, folder)
+    with tempfile.TemporaryDirectory(prefix="predator-view-") as folder, contextlib.suppress(
+        Refused
+    ):
+        ground = (
+            first_part(view, predator, worth, folder)
+            if is_brief(view.call)
+            else whole(view, predator, reading, folder)
+        )
         if ground is None:
             return
         view.tried = tried
@@ -249,9 +278,15 @@ def chosen(trial: Trial, found: Tried, subject: Subject, uses: Uses, line: int) 
     none: list[Repair] = []
     repairs = sound(functools.partial(repairs_of, subject, uses, line), none)
     if found.mixed():
-        found.instead = sound(functools.partial(bytewise, subject, uses, line), "give each a line of its own")
+        found.instead = sound(
+            functools.partial(bytewise, subject, uses, line), "give each a line of its own"
+        )
     thing = found.thing
-    useless = found.own() * thing.useless / (max(thing.useless + thing.useful, 1) * max(found.before.missed(), 1))
+    useless = (
+        found.own()
+        * thing.useless
+        / (max(thing.useless + thing.useful, 1) * max(found.before.missed(), 1))
+    )
     best, found.many = trial.best_of(subject, repairs, useless)
     if best:
         found.repair, left = best
@@ -264,7 +299,11 @@ def count(trial: Trial, found: Sequence[Tried]) -> Counted | None:
     less than two."""
     own = [it for it in found if it.repair]
     likely = [it for it in own if it.is_much(it.hoped)]
-    both = together_of([it.repair for it in likely if it.repair], trial.layout[0]) if len(likely) > 1 else None
+    both = (
+        together_of([it.repair for it in likely if it.repair], trial.layout[0])
+        if len(likely) > 1
+        else None
+    )
     jobs = [*(it.repair for it in own), *(it.repair and it.repair.instead for it in own), both]
     with concurrent.futures.ThreadPoolExecutor(max_workers=min(4, os.cpu_count() or 1)) as pool:
         counts = list(pool.map(lambda it: trial.counted(it) if it else None, jobs))
@@ -281,7 +320,16 @@ def together_of(repairs: Sequence[Repair], line: int) -> Repair:
     parts: list[Part] = []
     room = 0
     for own in repairs:
-        parts = sorted([*parts, *(Part(it.begin, it.size, it.to + room) for one in own.parts for it in outside(one, parts))])
+        parts = sorted(
+            [
+                *parts,
+                *(
+                    Part(it.begin, it.size, it.to + room)
+                    for one in own.parts
+                    for it in outside(one, parts)
+                ),
+            ]
+        )
         room = rounded(room + own.room, line)
     return Repair([], parts, room, None)
 
@@ -302,4 +350,6 @@ def outside(part: Part, others: Sequence[Part]) -> Iterator[Part]:
 def note_together(view: View, found: Sequence[Tried], counted: Counted | None) -> None:
     """Notes what all repairs come to that are named, where they are several."""
     if counted is not None:
-        view.notes.append(f"all that is to do, done together{found[0].there()}: {found[0].before.beside(counted)}")
+        view.notes.append(
+            f"all that is to do, done together{found[0].there()}: {found[0].before.beside(counted)}"
+        )

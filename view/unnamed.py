@@ -34,7 +34,12 @@ def is_unnamed(thing: Thing, naming: Naming) -> bool:
     """Whether instructions may say more of an object than its name does."""
     it = thing.example
     if isinstance(it, Block):
-        is_large = it.size >= ARENA and bool(it.sites) and it.sites[0].name != OWN and naming.type_of_block(it) is None
+        is_large = (
+            it.size >= ARENA
+            and bool(it.sites)
+            and it.sites[0].name != OWN
+            and naming.type_of_block(it) is None
+        )
         return is_large or not naming.is_told(it.sites)
     return isinstance(thing.key, (OfFile, OfMemory, OfStack))
 
@@ -70,7 +75,11 @@ def together(things: Sequence[Thing]) -> dict[Key, Thing]:
     first: dict[str, Thing] = {}
     found: dict[Key, Thing] = {}
     for it in things:
-        own = first.setdefault(it.name, it) if isinstance(it.key, OfMemory) and it.name.startswith((USED, HEAP)) else it
+        own = (
+            first.setdefault(it.name, it)
+            if isinstance(it.key, OfMemory) and it.name.startswith((USED, HEAP))
+            else it
+        )
         found[it.key] = own
         if own is it:
             continue
@@ -87,8 +96,15 @@ def of_runtime(things: Iterable[Thing], blame: Blame, naming: Naming) -> set[Key
     from_file = getattr(naming.program, "has_go_table", None)
     if from_file is None or not from_file():
         return set()
-    lines = {it.key: [blame.takings(spot.base) for spot in it.spots] for it in things if isinstance(it.key, (OfMemory, OfStack))}
-    found = {key: [at for taken in own if taken for at in users(taken, NAMED)] for key, own in lines.items()}
+    lines = {
+        it.key: [blame.takings(spot.base) for spot in it.spots]
+        for it in things
+        if isinstance(it.key, (OfMemory, OfStack))
+    }
+    found = {
+        key: [at for taken in own if taken for at in users(taken, NAMED)]
+        for key, own in lines.items()
+    }
     naming.prepare({at for own in found.values() for at in own})
     return {key for key, own in found.items() if own and all(map(naming.is_of_language, own))}
 
@@ -97,7 +113,9 @@ def name_by_instructions(things: Iterable[Thing], blame: Blame, naming: Naming) 
     """Gives names to those of some objects that have none. What takes their worst lines is looked up in one call."""
     found: list[tuple[Thing, Takings]] = []
     for it in things:
-        taken = blame.takings(it.worst().base) if len(found) < MOST and is_unnamed(it, naming) else None
+        taken = (
+            blame.takings(it.worst().base) if len(found) < MOST and is_unnamed(it, naming) else None
+        )
         if taken:
             found.append((it, taken))
     naming.prepare({at for _, taken in found for at in users(taken, NAMED)})

@@ -39,7 +39,9 @@ def instructions(data: bytes) -> Iterator[tuple[int, int]]:
     while place < len(data) and data[place] != END:
         tag = data[place]
         if tag in SIZES:
-            place += SIZES[tag] + (int.from_bytes(data[place + 10 : place + 12], "little") if tag == SYMBOL else 0)
+            place += SIZES[tag] + (
+                int.from_bytes(data[place + 10 : place + 12], "little") if tag == SYMBOL else 0
+            )
             continue
         hart = data[place + 1]
         _, place = number(data, place + 2)
@@ -109,7 +111,12 @@ def traced(view: View, predator: Predator, folder: str) -> str | None:
 def note_waiting(view: View, predator: Predator | None) -> None:
     """Notes where each hart was when the run ended by a deadlock or by its budget, where the lines of the program are known."""
     naming = view.naming
-    if predator is None or not naming.sources or view.call.reads_once() or not predator.has("blame"):
+    if (
+        predator is None
+        or not naming.sources
+        or view.call.reads_once()
+        or not predator.has("blame")
+    ):
         return
     try:
         with tempfile.TemporaryDirectory(prefix="predator-view-") as folder:
@@ -125,7 +132,9 @@ def note_waiting(view: View, predator: Predator | None) -> None:
     naming.prepare({pc for own in ends.found.values() for pc in own})
     rows = list(told(ends.found, naming))
     if rows:
-        view.notes.append(f"where each hart {'waits' if view.report.outcome == 'deadlock' else 'was'}: {'; '.join(rows)}")
+        view.notes.append(
+            f"where each hart {'waits' if view.report.outcome == 'deadlock' else 'was'}: {'; '.join(rows)}"
+        )
 
 
 def told(found: dict[int, list[int]], naming: Naming) -> Iterator[str]:
@@ -141,7 +150,9 @@ def told(found: dict[int, list[int]], naming: Naming) -> Iterator[str]:
 
 def named(harts: Iterable[int]) -> str:
     names = [str(it) for it in harts]
-    return f"hart {names[0]}" if len(names) == 1 else f"harts {', '.join(names[:-1])} and {names[-1]}"
+    return (
+        f"hart {names[0]}" if len(names) == 1 else f"harts {', '.join(names[:-1])} and {names[-1]}"
+    )
 
 
 def place_of(pcs: list[int], naming: Naming) -> str:

@@ -32,7 +32,9 @@ class Alternating(NamedTuple):
         naming.prepare(self.misses.sites())
         for it in self.misses.lines.values():
             things = objects_of(it.stands)
-            for key in {key_of(one, naming, 0) for one in things} or {naming.memory.key(max(it.base, 0))}:
+            for key in {key_of(one, naming, 0) for one in things} or {
+                naming.memory.key(max(it.base, 0))
+            }:
                 found[key] = found.get(key, 0) + it.useless
         return found
 
@@ -53,7 +55,11 @@ def settings_of(call: Call) -> tuple[str, int, bool]:
 def in_turns_of_one(call: Call) -> list[str]:
     """The words of the same run in turns of one step."""
     given, _, _ = settings_of(call)
-    kept = [it for it in given.split(",") if it and it.partition("=")[0].strip() not in ("quantum", "seed")]
+    kept = [
+        it
+        for it in given.split(",")
+        if it and it.partition("=")[0].strip() not in ("quantum", "seed")
+    ]
     words, at = ["run", "--set", ",".join([*kept, "quantum=1", "seed=0"])], 1
     before = call.words_to_run()
     while at < len(before):
@@ -119,7 +125,12 @@ class Worth:
     def band(self, useless: int) -> str | None:
         """What the study says of so many useless misses, or none where these are of no turns that it has."""
         rate, (_, quantum, is_plain) = self.rate(useless), settings_of(self.view.call)
-        if rate is None or self.unit() != "steps" or self.view.call.how == "run" and not (is_plain and quantum == USUAL):
+        if (
+            rate is None
+            or self.unit() != "steps"
+            or self.view.call.how == "run"
+            and not (is_plain and quantum == USUAL)
+        ):
             return None
         return BANDS[band_of(rate)].told
 
@@ -131,7 +142,9 @@ class Worth:
             return None
         seen = self.view.misses.total["useless"] if thing is None else thing.useless
         useless = found.misses.total["useless"] if thing is None else self.of.get(thing.key, 0)
-        return at_most(max(self.rate(seen) or 0.0, found.rate(useless)), latency_of(self.view.call), STEP)
+        return at_most(
+            max(self.rate(seen) or 0.0, found.rate(useless)), latency_of(self.view.call), STEP
+        )
 
     def told_rate(self, useless: int) -> str:
         """The rate, and what the study says of it."""
@@ -140,7 +153,13 @@ class Worth:
             return ""
         said = f"{rate:.2f} useless misses by 1000 {self.unit()}"
         # (a trace doesn't say in what turns it was made)
-        return said + ("" if band is None else f": {band}" if self.view.call.how == "run" else f": {band}, if turns had {USUAL} steps")
+        return said + (
+            ""
+            if band is None
+            else f": {band}"
+            if self.view.call.how == "run"
+            else f": {band}, if turns had {USUAL} steps"
+        )
 
     def total(self) -> str:
         """What is said of the whole run, or nothing."""
@@ -157,15 +176,27 @@ class Worth:
         said, most = self.told_rate(thing.useless), self.at_most(thing)
         if not said or not thing.useless + thing.useful:
             return ""
-        return said + ("" if most is None else f"; at most {percent(most)} of the time") + self.warning(thing)
+        return (
+            said
+            + ("" if most is None else f"; at most {percent(most)} of the time")
+            + self.warning(thing)
+        )
 
     def warning(self, thing: Thing) -> str:
         """That a pad may cost time, where one is to do and the worst line is mostly missed for what is needed; and what useful misses there
         are after it."""
         missed, tried = thing.worst().missed, self.view.known(thing)
-        if missed is None or not thing.useless or missed.useful <= missed.useless or tried and not tried.is_saving():
+        if (
+            missed is None
+            or not thing.useless
+            or missed.useful <= missed.useless
+            or tried
+            and not tried.is_saving()
+        ):
             return ""
-        return f"; most misses of its worst line are useful, so a pad may cost time{self.after(thing)}"
+        return (
+            f"; most misses of its worst line are useful, so a pad may cost time{self.after(thing)}"
+        )
 
     def after(self, thing: Thing) -> str:
         """The useful misses after the repair that was counted, or with each word on a line of its own."""
@@ -177,8 +208,12 @@ class Worth:
         fields: dict[tuple[int, str], int] = {}
         for it in self.view.seen(thing).words:
             if it.key == thing.key:
-                fields[it.base, it.whole()] = max(fields.get((it.base, it.whole()), 0), it.useful or 0)
-        return f": useful misses {thing.useful} now, {sum(fields.values())} with a line for each word"
+                fields[it.base, it.whole()] = max(
+                    fields.get((it.base, it.whole()), 0), it.useful or 0
+                )
+        return (
+            f": useful misses {thing.useful} now, {sum(fields.values())} with a line for each word"
+        )
 
 
 def percent(part: float) -> str:

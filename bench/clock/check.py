@@ -26,7 +26,11 @@ QUANTUM = 10
 def made_row(name: str, kind: str, useless: Sequence[int], ns: Sequence[float]) -> Row:
     """A row whose guest makes 1000 steps, with so many useless misses in both forms, and which takes so long."""
     timed = [Timed(100, it, it * 0.9, it * 1.1, 5, 5, 1, 0, 0) for it in ns]
-    counts = {(form, quantum): Count(1000, 500, 3, it, 2 * it, 1) for form, it in zip(FORMS, useless) for quantum in (1, 10, 100, 1000)}
+    counts = {
+        (form, quantum): Count(1000, 500, 3, it, 2 * it, 1)
+        for form, it in zip(FORMS, useless)
+        for quantum in (1, 10, 100, 1000)
+    }
     return Row(Program(name, kind, "made up", ""), 2, 100, timed, counts, {})
 
 
@@ -38,7 +42,9 @@ def made_study() -> Study:
         made_row("many", "false", [10, 0], [400, 100]),
         made_row("most", "false", [20, 0], [900, 100]),
     ]
-    return Study({"machine": "made up <&>"}, {"0 and 1": 50.0, "0 and 2": 60.0, "1 and 2": 55.0}, 0.5, rows)
+    return Study(
+        {"machine": "made up <&>"}, {"0 and 1": 50.0, "0 and 2": 60.0, "1 and 2": 55.0}, 0.5, rows
+    )
 
 
 def wrong(name: str, found: object, wanted: object) -> Iterator[str]:
@@ -55,7 +61,9 @@ def arithmetic() -> Iterator[str]:
     yield from wrong("spearman down", spearman([(1, 3), (2, 2), (3, 1)]), -1.0)
     yield from wrong("spearman of equal ones", spearman([(1, 3), (1, 2), (1, 1)]), None)
     # (the third has the least slowdown: the ranks are 2, 3, 1, 4, 5)
-    yield from wrong("correlated", correlated(rows, lambda row: row.rate()), 1 - 6 * (1 + 1 + 4) / (5 * 24))
+    yield from wrong(
+        "correlated", correlated(rows, lambda row: row.rate()), 1 - 6 * (1 + 1 + 4) / (5 * 24)
+    )
     wanted = [
         ["below 0.05", 1, 1.0, 1.0, 1.0],
         ["0.05 to 3", 1, 1.5, 1.5, 1.5],
@@ -71,9 +79,13 @@ def arithmetic() -> Iterator[str]:
     yield from wrong("the record", kept(saved(study)), study)
     counted = {"some": rows[1].counts, "many": rows[3].counts}
     yield from wrong("the record of counts", counts_of(told_counts(counted)), counted)
-    yield from wrong("lines of the table", len([it for it in values(study).splitlines() if it[:1] != "#"]), 6)
+    yield from wrong(
+        "lines of the table", len([it for it in values(study).splitlines() if it[:1] != "#"]), 6
+    )
     yield from wrong("the table again", values(of_values(values(study))), values(study))
-    yield from wrong("lines of the text", sum("made up" in it for it in markdown(study).splitlines()), 1)
+    yield from wrong(
+        "lines of the text", sum("made up" in it for it in markdown(study).splitlines()), 1
+    )
     yield from of_the_page(study)
     yield from of_what_is_kept()
 
@@ -82,7 +94,9 @@ def of_the_page(study: Study) -> Iterator[str]:
     """What is wrong with names on the picture, and with the page where it can be made."""
     spread = named([(100.0, 100.0, "one"), (101.0, 100.0, "other"), (102.0, 101.0, "third")])
     boxes = [Box(it["x"], it["y"] - 9, it["x"] + width(it["text"]), it["y"]) for it in spread]
-    yield from wrong("names", [a.meets(b) for at, a in enumerate(boxes) for b in boxes[:at]], [False] * 3)
+    yield from wrong(
+        "names", [a.meets(b) for at, a in enumerate(boxes) for b in boxes[:at]], [False] * 3
+    )
     title = "With the most useless misses, padding made the middle program 6.50 times as fast, and 1.00 times with the fewest (one)"
     yield from wrong("the title", title_of({"one": study}), title)
     text = page({"one": study, "<other>": study})
@@ -90,9 +104,15 @@ def of_the_page(study: Study) -> Iterator[str]:
         yield from wrong("points of the page", text.count("<g transform"), 10)
         escaped = [it in text for it in ("made up &lt;&amp;&gt;", "&lt;other&gt;", "<other>")]
         yield from wrong("escaped names", escaped, [True, True, False])
-        told = [f"{it.program.name}, 2 threads: slowdown {shown(it.slowdown())} (" in text for it in study.rows]
+        told = [
+            f"{it.program.name}, 2 threads: slowdown {shown(it.slowdown())} (" in text
+            for it in study.rows
+        ]
         yield from wrong("what the points tell", told, [True] * 5)
-        cells = re.findall(r'<code>(\w+)</code></td><td[^>]*>\w+</td><td[^>]*>2</td><td[^>]*>(.*?)</td><td[^>]*>(\S+) \(', text)
+        cells = re.findall(
+            r"<code>(\w+)</code></td><td[^>]*>\w+</td><td[^>]*>2</td><td[^>]*>(.*?)</td><td[^>]*>(\S+) \(",
+            text,
+        )
         wanted = [(it.program.name, shown(it.rate()), shown(it.slowdown())) for it in study.rows]
         yield from wrong("the rows of the page", sorted(cells), sorted(wanted))
 
@@ -102,16 +122,28 @@ def of_what_is_kept() -> Iterator[str]:
     studies = all_kept()
     for it in pictures_of(studies):
         names = [one["name"] for one in it["points"]]
-        boxes = [Box(one["x"], one["y"] - 9, one["x"] + width(one["text"]), one["y"] + 2) for one in names]
-        over = [one["text"] for at, one in enumerate(names) if any(boxes[at].meets(other) for other in boxes[:at])]
+        boxes = [
+            Box(one["x"], one["y"] - 9, one["x"] + width(one["text"]), one["y"] + 2)
+            for one in names
+        ]
+        over = [
+            one["text"]
+            for at, one in enumerate(names)
+            if any(boxes[at].meets(other) for other in boxes[:at])
+        ]
         yield from wrong(f"{it['threads']} threads, {it['study']}: names over others", over, [])
     for name, study in studies.items():
         again = of_values(values(study))
-        kept_rows = [[(it.program, it.threads, it.counts, f"{it.slowdown():.3g}") for it in own.rows] for own in (again, study)]
+        kept_rows = [
+            [(it.program, it.threads, it.counts, f"{it.slowdown():.3g}") for it in own.rows]
+            for own in (again, study)
+        ]
         yield from wrong(f"{name}: the same rows again", kept_rows[0] == kept_rows[1], True)
         yield from wrong(f"{name}: enough pairs", len(study.judged()) >= 24, True)
     for path, text, renewed in documents(studies):
-        yield from wrong(f"{path}: the tables of bench/clock/studies.py --renew", text == renewed, True)
+        yield from wrong(
+            f"{path}: the tables of bench/clock/studies.py --renew", text == renewed, True
+        )
 
 
 def of_a_pair(pair: Sequence[Built]) -> Iterator[str]:
@@ -124,7 +156,11 @@ def of_a_pair(pair: Sequence[Built]) -> Iterator[str]:
         missed = [it.useful + it.useless for it in counts]
         if program.kind == "false" and not missed[1] < missed[0] / 2:
             yield f"{program.name}: {missed[0]} misses as it is, and {missed[1]} padded"
-        if program.kind in ("false", "mixed") and program.name != "bytes" and not counts[1].useless < counts[0].useless:
+        if (
+            program.kind in ("false", "mixed")
+            and program.name != "bytes"
+            and not counts[1].useless < counts[0].useless
+        ):
             yield f"{program.name}: {counts[0].useless} useless misses as it is, and {counts[1].useless} padded"
         if program.kind in ("true", "none") and counts[0].useless > counts[0].steps / 1000:
             yield f"{program.name}: {counts[0].useless} useless misses, and it is to have none"
@@ -145,7 +181,9 @@ def check(only: Sequence[str]) -> int:
     if not shutil.which("gcc"):
         print("gcc isn't installed")
         return 1 if found else SKIPPED
-    guests = can_run() and all(map(shutil.which, ("clang", "ld.lld", "llvm-readelf", "llvm-objcopy")))
+    guests = can_run() and all(
+        map(shutil.which, ("clang", "ld.lld", "llvm-readelf", "llvm-objcopy"))
+    )
     with tempfile.TemporaryDirectory() as folder:
         built = build_all(programs(only), [THREADS], 64, folder, guests)
         with ThreadPoolExecutor(os.cpu_count()) as pool:
@@ -153,6 +191,10 @@ def check(only: Sequence[str]) -> int:
                 found += own
     for it in found:
         print(it)
-    told = "on this machine and as guests" if guests else "on this machine alone: clang, lld, llvm or the program isn't there"
+    told = (
+        "on this machine and as guests"
+        if guests
+        else "on this machine alone: clang, lld, llvm or the program isn't there"
+    )
     print(f"{len(built) // 2} pairs, {told}; {len(found)} wrong")
     return 1 if found else 0

@@ -10,7 +10,9 @@ from pairs import TOP, Built, Trouble, called
 PREDATOR = os.path.join(TOP, "bin", "predator")
 # (a study waits for no proof)
 os.environ.setdefault("PREDATOR_BUILD", "no")
-TOTAL = re.compile(r"^accesses (\d+)\n(?:.*\n)*total cold (\d+) useful (\d+) useless (\d+)$", re.MULTILINE)
+TOTAL = re.compile(
+    r"^accesses (\d+)\n(?:.*\n)*total cold (\d+) useful (\d+) useless (\d+)$", re.MULTILINE
+)
 HEAD = re.compile(r"^predator report 1\noutcome exit 0\nsteps (\d+)$", re.MULTILINE)
 LISTED = re.compile(r"^line observed \S+ \d+ start \d+ count (\d+) ", re.MULTILINE)
 
@@ -53,7 +55,9 @@ def guest_count(built: Built, quantum: int) -> Count:
     with tempfile.TemporaryDirectory() as folder:
         trace, output = os.path.join(folder, "trace"), os.path.join(folder, "output")
         settings = f"quantum={quantum},harts={built.threads + 1},budget=1000000000"
-        text = called([PREDATOR, "run", built.guest, "--set", settings, "--trace", trace, "--output", output])
+        text = called(
+            [PREDATOR, "run", built.guest, "--set", settings, "--trace", trace, "--output", output]
+        )
         head = HEAD.search(text)
         if not head:
             raise Trouble(f"{built.guest} doesn't end by exit 0: {text[:100]}")
@@ -67,7 +71,10 @@ def recorded_count(built: Built, quantum: int = 100) -> Count:
     """A recording of the program of this machine, with its usual amount of work."""
     with tempfile.TemporaryDirectory() as folder:
         trace = os.path.join(folder, "trace")
-        text = called([PREDATOR, "native", "--quantum", str(quantum), "--trace", trace, "--", built.native], 900)
+        text = called(
+            [PREDATOR, "native", "--quantum", str(quantum), "--trace", trace, "--", built.native],
+            900,
+        )
         return Count(0, *totals(trace), 0, result_of(text, built.native))
 
 

@@ -44,7 +44,12 @@ class Row(NamedTuple):
 
     def saved(self) -> float:
         """The nanoseconds of all threads that padding saved, for as much work as the guest does."""
-        return (self.timed[0].ns - self.timed[1].ns) * self.threads * self.guest_rounds / self.timed[0].rounds
+        return (
+            (self.timed[0].ns - self.timed[1].ns)
+            * self.threads
+            * self.guest_rounds
+            / self.timed[0].rounds
+        )
 
     def share(self) -> float:
         """The part of the time that padding saved; below 0 where it cost some."""
@@ -55,7 +60,9 @@ class Row(NamedTuple):
         found = self.counts.get((FORMS[1], USUAL))
         if not found or self.program.kind == "handover":
             return None
-        return self.timed[1].ns * self.threads * self.guest_rounds / self.timed[1].rounds / found.steps
+        return (
+            self.timed[1].ns * self.threads * self.guest_rounds / self.timed[1].rounds / found.steps
+        )
 
     def bound(self, latency: float) -> float | None:
         """Useless misses under quantum 1 times the nanoseconds of one."""
@@ -65,7 +72,11 @@ class Row(NamedTuple):
     def at_most(self, latency: float, step: float) -> float | None:
         """The part of the time that view calls the most, where a step takes so many nanoseconds."""
         rates = self.rate(1), self.rate()
-        return None if rates[0] is None or rates[1] is None else at_most(max(rates[0], rates[1]), latency, step)
+        return (
+            None
+            if rates[0] is None or rates[1] is None
+            else at_most(max(rates[0], rates[1]), latency, step)
+        )
 
 
 def ranks(values: Sequence[float]) -> list[float]:
@@ -90,7 +101,9 @@ def spearman(pairs: Sequence[tuple[float, float]]) -> float | None:
 def band_name(at: int) -> str:
     if at == 0:
         return f"below {EDGES[1]:g}"
-    return f"{EDGES[at]:g} and more" if at + 1 == len(EDGES) else f"{EDGES[at]:g} to {EDGES[at + 1]:g}"
+    return (
+        f"{EDGES[at]:g} and more" if at + 1 == len(EDGES) else f"{EDGES[at]:g} to {EDGES[at + 1]:g}"
+    )
 
 
 def bands(rows: Sequence[Row]) -> list[list[Cell]]:
@@ -132,7 +145,11 @@ def both(row: Row) -> float | None:
 
 def gained(row: Row) -> float | None:
     own, padded = (row.counts.get((form, USUAL)) for form in FORMS)
-    return 1000 * (own.useless + own.useful - padded.useless - padded.useful) / own.steps if own and padded else None
+    return (
+        1000 * (own.useless + own.useful - padded.useless - padded.useful) / own.steps
+        if own and padded
+        else None
+    )
 
 
 def reported(row: Row) -> float | None:
@@ -146,14 +163,19 @@ def recorded(row: Row) -> float | None:
 
 
 def correlated(rows: Sequence[Row], number: Callable[[Row], float | None]) -> float | None:
-    return spearman([(value, row.slowdown()) for row in rows for value in [number(row)] if value is not None])
+    return spearman(
+        [(value, row.slowdown()) for row in rows for value in [number(row)] if value is not None]
+    )
 
 
 def correlations(rows: Sequence[Row], threads: Sequence[int]) -> list[list[Cell]]:
     """For each number its rank correlation with the slowdown: with each count of threads, over all, and over all that hand nothing over."""
     free = [it for it in rows if it.program.kind != "handover"]
     return [
-        [name, *[correlated([it for it in rows if it.threads == count], number) for count in threads]]
+        [
+            name,
+            *[correlated([it for it in rows if it.threads == count], number) for count in threads],
+        ]
         + [correlated(rows, number), correlated(free, number)]
         for name, number in numbers().items()
     ]
@@ -184,7 +206,9 @@ def bound_told(rows: Sequence[Row], latency: float, step: float) -> list[str]:
             f"in the middle {median(much):.1f} times."
         )
     shares = [(row, row.at_most(latency, step)) for row in rows]
-    over = [row.program.name for row, most in shares if most is not None and row.share() > most + 0.02]
+    over = [
+        row.program.name for row, most in shares if most is not None and row.share() > most + 0.02
+    ]
     told.append(
         f"As a part of the time, with {step:g} ns for a step, it was passed by more than 2 percent in {len(over)} cases"
         + (f": {', '.join(over)}." if over else ".")

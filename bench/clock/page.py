@@ -18,7 +18,13 @@ POINT, LINE, LETTER = 5, 11, 6.9
 LETTERS = {**dict.fromkeys("ijl", 3.2), "f": 4.0, "t": 4.4, "r": 4.6, "_": 5.6, "w": 9.1, "m": 10.8}
 # What is below this, by 1000 steps, is drawn at it.
 LEAST = 0.01
-COLOURS = {"false": "#d55e00", "mixed": "#0072b2", "handover": "#009e73", "true": "#1b1b1b", "none": "#5c5c5c"}
+COLOURS = {
+    "false": "#d55e00",
+    "mixed": "#0072b2",
+    "handover": "#009e73",
+    "true": "#1b1b1b",
+    "none": "#5c5c5c",
+}
 SHAPES = {
     "false": "M-5 0a5 5 0 1 0 10 0a5 5 0 1 0 -10 0z",
     "mixed": "M-4.5 -4.5h9v9h-9z",
@@ -35,7 +41,12 @@ class Box(NamedTuple):
     bottom: float
 
     def meets(self, other: "Box") -> bool:
-        return self.left < other.right and other.left < self.right and self.top < other.bottom and other.top < self.bottom
+        return (
+            self.left < other.right
+            and other.left < self.right
+            and self.top < other.bottom
+            and other.top < self.bottom
+        )
 
 
 class Scale(NamedTuple):
@@ -78,7 +89,12 @@ def named(points: Sequence[tuple[float, float, str]]) -> list[Given]:
         best = None
         for left, base in around(x, y, wide):
             box = Box(left - 1, base - LINE + 2, left + wide + 1, base + 3)
-            inside = box.left > LEFT and box.right < WIDTH - 2 and box.top > 2 and box.bottom < HEIGHT - LOWER
+            inside = (
+                box.left > LEFT
+                and box.right < WIDTH - 2
+                and box.top > 2
+                and box.bottom < HEIGHT - LOWER
+            )
             if inside and not any(box.meets(it) for it in taken):
                 best = box
                 break
@@ -105,15 +121,30 @@ def picture(rows: Sequence[Row], along: Scale, up: Scale) -> Given:
     places = [(along.place(max(it.rate() or 0.0, LEAST)), up.place(it.slowdown())) for it in rows]
     names = named([(x, y, it.program.name) for (x, y), it in zip(places, rows)])
     points = [
-        {"x": x, "y": y, "shape": SHAPES[it.program.kind], "colour": COLOURS[it.program.kind], "name": name, "told": told_of(it)}
+        {
+            "x": x,
+            "y": y,
+            "shape": SHAPES[it.program.kind],
+            "colour": COLOURS[it.program.kind],
+            "name": name,
+            "told": told_of(it),
+        }
         for (x, y), it, name in zip(places, rows, names)
     ]
     ticks = [0.01, 0.03, 0.1, 0.3, 1, 3, 10, 30, 100, 300]
     steps = [0.1, 0.2, 0.3, 0.5, 0.7, 1, 1.5, 2, 3, 5, 7, 10, 15, 20, 30, 50]
     return {
         "points": points,
-        "across": [{"x": along.place(it), "text": f"{it:g}" if it > LEAST else f"{it:g} or less"} for it in ticks if it <= along.last],
-        "up": [{"y": up.place(it), "text": f"{it:g}", "is_one": it == 1} for it in steps if up.first <= it <= up.last],
+        "across": [
+            {"x": along.place(it), "text": f"{it:g}" if it > LEAST else f"{it:g} or less"}
+            for it in ticks
+            if it <= along.last
+        ],
+        "up": [
+            {"y": up.place(it), "text": f"{it:g}", "is_one": it == 1}
+            for it in steps
+            if up.first <= it <= up.last
+        ],
         "edges": [along.place(it) for it in EDGES[1:] if it <= along.last],
     }
 
@@ -140,12 +171,18 @@ def title_of(studies: Mapping[str, Study]) -> str:
 def pictures_of(studies: Mapping[str, Study]) -> list[Given]:
     """A picture for each count of threads and study, all with the same axes."""
     drawn = {
-        (count, name): [it for it in study.judged() if it.threads == count and it.rate() is not None]
+        (count, name): [
+            it for it in study.judged() if it.threads == count and it.rate() is not None
+        ]
         for count in sorted({it for study in studies.values() for it in study.threads()})
         for name, study in studies.items()
     }
     along, up = scales([it for own in drawn.values() for it in own])
-    return [{"threads": count, "study": name, **picture(own, along, up)} for (count, name), own in drawn.items() if own]
+    return [
+        {"threads": count, "study": name, **picture(own, along, up)}
+        for (count, name), own in drawn.items()
+        if own
+    ]
 
 
 def rows_of(studies: Mapping[str, Study]) -> list[Given]:
@@ -155,13 +192,19 @@ def rows_of(studies: Mapping[str, Study]) -> list[Given]:
         for it in study.rows:
             found.setdefault((it.threads, it.program.name), {})[name] = it
     made: list[Given] = []
-    for (threads, _), own in sorted(found.items(), key=lambda it: (-max(row.slowdown() for row in it[1].values()), it[0])):
+    for (threads, _), own in sorted(
+        found.items(), key=lambda it: (-max(row.slowdown() for row in it[1].values()), it[0])
+    ):
         program = next(iter(own.values())).program
         cells = []
         for name in studies:
             row = own.get(name)
             low, high = row.range() if row else (0.0, 0.0)
-            told = f"{shown(row.slowdown())} ({low:.2f} to {high:.2f}{'' if row.is_quiet() else '; disturbed'})" if row else "-"
+            told = (
+                f"{shown(row.slowdown())} ({low:.2f} to {high:.2f}{'' if row.is_quiet() else '; disturbed'})"
+                if row
+                else "-"
+            )
             cells.append({"rate": shown(row.rate()) if row else "-", "told": told})
         made.append({"program": program, "threads": threads, "cells": cells})
     return made
@@ -186,9 +229,15 @@ def page(studies: Mapping[str, Study]) -> str | None:
         "lower": LOWER,
         "edge": EDGE,
         "kinds": [{"name": it, "shape": SHAPES[it], "colour": COLOURS[it]} for it in KINDS],
-        "bands": {name: [[shown(cell) for cell in row] for row in bands(study.judged())] for name, study in studies.items()},
+        "bands": {
+            name: [[shown(cell) for cell in row] for row in bands(study.judged())]
+            for name, study in studies.items()
+        },
         "told": [it.told for it in BANDS],
-        "bound": {name: bound_told(study.judged(), study.latency(), study.step) for name, study in studies.items()},
+        "bound": {
+            name: bound_told(study.judged(), study.latency(), study.step)
+            for name, study in studies.items()
+        },
         "rows": rows_of(studies),
     }
     return found.get_template("study.html").render(given)

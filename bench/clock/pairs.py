@@ -70,27 +70,55 @@ def called(words: Sequence[str], seconds: float = 300, given: str = "") -> str:
     except OSError as error:
         raise Trouble(f"{words[0]}: {error.strerror}") from None
     if done.returncode != 0:
-        raise Trouble(f"status {done.returncode}: {' '.join(words)}\n{done.stdout[-2000:]}{done.stderr[-2000:]}")
+        raise Trouble(
+            f"status {done.returncode}: {' '.join(words)}\n{done.stdout[-2000:]}{done.stderr[-2000:]}"
+        )
     return done.stdout
 
 
 def build(it: Built) -> None:
     """Both machines' files of a form, as far as they have a name; the guests' kit is there."""
-    own = [f"-I{HERE}", f"-DTHREADS={it.threads}", f"-DLINE={it.line}", *(["-DPADDED"] if it.form == FORMS[1] else [])]
+    own = [
+        f"-I{HERE}",
+        f"-DTHREADS={it.threads}",
+        f"-DLINE={it.line}",
+        *(["-DPADDED"] if it.form == FORMS[1] else []),
+    ]
     if it.native:
-        called(["gcc", "-O2", "-g", "-pthread", "-D_GNU_SOURCE", "-Wall", "-Wextra", *own, it.program.source, "-o", it.native])
+        called(
+            [
+                "gcc",
+                "-O2",
+                "-g",
+                "-pthread",
+                "-D_GNU_SOURCE",
+                "-Wall",
+                "-Wextra",
+                *own,
+                it.program.source,
+                "-o",
+                it.native,
+            ]
+        )
     if it.guest:
-        called([GUESTS, os.path.dirname(it.guest)], given=" ".join([it.guest, it.program.source, *own]) + "\n")
+        called(
+            [GUESTS, os.path.dirname(it.guest)],
+            given=" ".join([it.guest, it.program.source, *own]) + "\n",
+        )
 
 
-def build_all(chosen: Iterable[Program], threads: Sequence[int], line: int, folder: str, guests: bool) -> list[Built]:
+def build_all(
+    chosen: Iterable[Program], threads: Sequence[int], line: int, folder: str, guests: bool
+) -> list[Built]:
     """Each form of each pair for each number of threads, in the folder, as many at a time as there are processors."""
     made = []
     for program in chosen:
         for count in threads:
             for form in FORMS:
                 path = os.path.join(folder, f"{program.name}-{count}-{form.replace(' ', '-')}")
-                made.append(Built(program, form, count, line, path, f"{path}.elf" if guests else ""))
+                made.append(
+                    Built(program, form, count, line, path, f"{path}.elf" if guests else "")
+                )
     if guests:
         called([GUESTS, folder, "--kit"])
     with ThreadPoolExecutor(os.cpu_count()) as pool:

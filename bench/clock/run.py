@@ -34,10 +34,30 @@ from counts import Count, can_run, guest_count, recorded_count
 from judge import QUANTA, Row
 from page import page
 from pairs import FORMS, HERE, Built, Trouble, build_all, called, programs
-from tables import RECORDED, Counted, Study, counts_of, kept, key_of, markdown, saved, told_counts, values
+from tables import (
+    RECORDED,
+    Counted,
+    Study,
+    counts_of,
+    kept,
+    key_of,
+    markdown,
+    saved,
+    told_counts,
+    values,
+)
 from timing import ping_pong, stolen, time_pair, usual_rounds
 
-OPTIONS = {"--cpus": "", "--threads": "2,4", "--runs": "15", "--only": "", "--line": "64", "--step": "0.4", "--again": "", "--counted": ""}
+OPTIONS = {
+    "--cpus": "",
+    "--threads": "2,4",
+    "--runs": "15",
+    "--only": "",
+    "--line": "64",
+    "--step": "0.4",
+    "--again": "",
+    "--counted": "",
+}
 OPTIONS["--out"] = os.path.join(HERE, "out")
 SWITCHES = ("--no-recording", "--disturbed", "--count-only", "--check", "--help", "-h")
 # The records in a folder.
@@ -59,15 +79,25 @@ class Call:
             else:
                 raise Trouble(f"{name}: no such option, or it lacks a value; --help has them")
         try:
-            self.cpus = [int(it) for it in given["--cpus"].split(",") if it] or sorted(os.sched_getaffinity(0))
-            self.threads = [int(it) for it in given["--threads"].split(",") if int(it) <= len(self.cpus)]
-            self.runs, self.line, self.step = int(given["--runs"]), int(given["--line"]), float(given["--step"])
+            self.cpus = [int(it) for it in given["--cpus"].split(",") if it] or sorted(
+                os.sched_getaffinity(0)
+            )
+            self.threads = [
+                int(it) for it in given["--threads"].split(",") if int(it) <= len(self.cpus)
+            ]
+            self.runs, self.line, self.step = (
+                int(given["--runs"]),
+                int(given["--line"]),
+                float(given["--step"]),
+            )
         except ValueError as error:
             raise Trouble(str(error)) from None
         self.only = [it for it in given["--only"].split(",") if it]
         self.out, self.again, self.counted = given["--out"], given["--again"], given["--counted"]
         if not self.threads or any(it % 2 for it in self.threads) or self.runs < 1:
-            raise Trouble("--threads are even numbers, none above that of the processors, and --runs is 1 or more")
+            raise Trouble(
+                "--threads are even numbers, none above that of the processors, and --runs is 1 or more"
+            )
 
 
 def say(text: str) -> None:
@@ -96,7 +126,9 @@ def measured(call: Call, built: Sequence[Built]) -> list[Row]:
     """The times, one pair after the other. A pair that fails is told, and left out."""
     rows: list[Row] = []
     for at, pair in enumerate(in_pairs(built), 1):
-        name = f"{at:>3} of {len(built) // 2}  {pair[0].program.name} with {pair[0].threads} threads"
+        name = (
+            f"{at:>3} of {len(built) // 2}  {pair[0].program.name} with {pair[0].threads} threads"
+        )
         try:
             timed = time_pair(pair, call.cpus, call.runs, "--disturbed" in call.switches)
         except Trouble as error:
@@ -106,7 +138,9 @@ def measured(call: Call, built: Sequence[Built]) -> list[Row]:
             say("stopped: the study is of the pairs so far")
             break
         rows.append(Row(pair[0].program, pair[0].threads, usual_rounds(pair[0]), timed, {}, {}))
-        kept_runs = f", disturbed: {', '.join(f'{it.kept} of {it.runs} runs are left' for it in timed)}"
+        kept_runs = (
+            f", disturbed: {', '.join(f'{it.kept} of {it.runs} runs are left' for it in timed)}"
+        )
         say(f"{name}: {rows[-1].slowdown():.2f}{'' if rows[-1].is_quiet() else kept_runs}")
     return rows
 
@@ -124,9 +158,16 @@ def count_all(call: Call, built: Sequence[Built]) -> Counted:
     """What predator counts of each, as many at a time as there are processors. Trouble where both forms compute otherwise."""
     made: Counted = {}
     with ThreadPoolExecutor(os.cpu_count()) as pool:
-        jobs = [(it, quantum, pool.submit(guest_count, it, quantum)) for it in built if it.guest for quantum in QUANTA]
+        jobs = [
+            (it, quantum, pool.submit(guest_count, it, quantum))
+            for it in built
+            if it.guest
+            for quantum in QUANTA
+        ]
         records = "--no-recording" not in call.switches
-        jobs += [(it, RECORDED, pool.submit(recorded_count, it)) for it in built if it.guest and records]
+        jobs += [
+            (it, RECORDED, pool.submit(recorded_count, it)) for it in built if it.guest and records
+        ]
         for it, quantum, job in jobs:
             found = outcome(job)
             if found:
@@ -145,9 +186,13 @@ def put_counts(counted: Counted, pairs: Sequence[Built], rows: Sequence[Row]) ->
     for row in rows:
         found = counted.get(keys[row.program.name, row.threads], {})
         if not found:
-            say(f"nothing was counted of {row.program.name} with {row.threads} threads as it is now")
+            say(
+                f"nothing was counted of {row.program.name} with {row.threads} threads as it is now"
+            )
         row.counts.update({key: it for key, it in found.items() if key[1] != RECORDED})
-        row.recorded.update({form: it for (form, quantum), it in found.items() if quantum == RECORDED})
+        row.recorded.update(
+            {form: it for (form, quantum), it in found.items() if quantum == RECORDED}
+        )
 
 
 def read(folder: str, name: str) -> str:
@@ -172,7 +217,9 @@ def write(study: Study, out: str) -> None:
     made = {STUDY: saved(study), "study.tsv": values(study), "study.md": text, "study.html": seen}
     for name, own in made.items():
         if own is None:
-            say(f"{name} wants python3-jinja2: apt-get install python3-jinja2, and then --again {out}")
+            say(
+                f"{name} wants python3-jinja2: apt-get install python3-jinja2, and then --again {out}"
+            )
         else:
             keep(own, out, name)
     print(text)
@@ -184,7 +231,9 @@ def study_of(call: Call) -> Study:
     chosen = programs(call.only)
     guests = not call.counted and can_run()
     if not guests and not call.counted:
-        say("bin/predator has no program for these sources (PREDATOR_PROGRAM names one), so nothing is counted")
+        say(
+            "bin/predator has no program for these sources (PREDATOR_PROGRAM names one), so nothing is counted"
+        )
     with tempfile.TemporaryDirectory() as folder:
         say(f"building {len(chosen)} pairs for {' and '.join(map(str, call.threads))} threads")
         built = build_all(chosen, call.threads, call.line, folder, guests)
@@ -193,11 +242,19 @@ def study_of(call: Call) -> Study:
         if "--count-only" in call.switches:
             return Study({}, {}, call.step, [])
         before, began = stolen(), time.monotonic()
-        lines = {f"{a} and {b}": ns for (a, b), ns in ping_pong(call.cpus[: max(call.threads)], folder).items()}
-        say("from one processor to another, in nanoseconds: " + ", ".join(f"{it} {ns:.0f}" for it, ns in lines.items()))
+        lines = {
+            f"{a} and {b}": ns
+            for (a, b), ns in ping_pong(call.cpus[: max(call.threads)], folder).items()
+        }
+        say(
+            "from one processor to another, in nanoseconds: "
+            + ", ".join(f"{it} {ns:.0f}" for it, ns in lines.items())
+        )
         rows = measured(call, built)
         told = machine(call)
-        told["timing"] = f"{time.monotonic() - began:.0f} s, in which the host kept the processors for others for {stolen() - before:.1f} s"
+        told[
+            "timing"
+        ] = f"{time.monotonic() - began:.0f} s, in which the host kept the processors for others for {stolen() - before:.1f} s"
         put_counts(counted, built, rows)
     return Study(told, lines, call.step, rows)
 

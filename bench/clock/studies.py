@@ -43,17 +43,29 @@ def row_of(it: Mapping[str, str], texts: Mapping[str, str]) -> Row:
     timed = []
     for form, (least, most) in zip(FORMS, ((low * whole, high * whole), (whole, whole))):
         kept, runs, rounds, voluntary, involuntary = (
-            number(it[f"{form}: {what}"]) for what in ("kept", "runs", "rounds", "voluntary", "involuntary")
+            number(it[f"{form}: {what}"])
+            for what in ("kept", "runs", "rounds", "voluntary", "involuntary")
         )
-        timed.append(Timed(rounds, float(it[f"{form}: ns"]), least, most, kept, runs, 0, voluntary, involuntary))
+        timed.append(
+            Timed(
+                rounds, float(it[f"{form}: ns"]), least, most, kept, runs, 0, voluntary, involuntary
+            )
+        )
     counts = {
-        (form, quantum): count_of({what: it[f"{form}, quantum {quantum}: {what}"] for what in ("steps", "useful", "useless", "listed")})
+        (form, quantum): count_of(
+            {
+                what: it[f"{form}, quantum {quantum}: {what}"]
+                for what in ("steps", "useful", "useless", "listed")
+            }
+        )
         for form in FORMS
         for quantum in QUANTA
         if it[f"{form}, quantum {quantum}: steps"]
     }
     recorded = {
-        form: count_of({what: it[f"{form}, recorded: {what}"] for what in ("accesses", "useful", "useless")})
+        form: count_of(
+            {what: it[f"{form}, recorded: {what}"] for what in ("accesses", "useful", "useless")}
+        )
         for form in FORMS
         if it[f"{form}, recorded: accesses"]
     }
@@ -64,8 +76,16 @@ def row_of(it: Mapping[str, str], texts: Mapping[str, str]) -> Row:
 def of_values(text: str) -> Study:
     """The study of a table that `values` made."""
     notes = dict(re.findall(r"^# ([^:\n]*): (.*)$", text, re.MULTILINE))
-    lines = {name.removeprefix("line "): float(ns) for name, ns in notes.items() if name.startswith("line ")}
-    machine = {name: told for name, told in notes.items() if not name.startswith("line ") and name != "step"}
+    lines = {
+        name.removeprefix("line "): float(ns)
+        for name, ns in notes.items()
+        if name.startswith("line ")
+    }
+    machine = {
+        name: told
+        for name, told in notes.items()
+        if not name.startswith("line ") and name != "step"
+    }
     texts = {it.name: it.text for it in programs()}
     rows = csv.DictReader((it for it in text.splitlines() if it[:1] != "#"), delimiter="\t")
     return Study(machine, lines, float(notes["step"]), [row_of(it, texts) for it in rows])
@@ -96,9 +116,16 @@ def bands_beside(studies: Mapping[str, Study]) -> str:
 
 def ranks(study: Study) -> list[tuple[str, Cell]]:
     """The rank correlations of the slowdown with some numbers."""
-    chosen = {"useless misses": rate(USUAL), "the same in turns of 10": rate(10), "the same in turns of 1": rate(1)}
+    chosen = {
+        "useless misses": rate(USUAL),
+        "the same in turns of 10": rate(10),
+        "the same in turns of 1": rate(1),
+    }
     chosen |= {"both kinds of misses": both, "the report's count": reported}
-    return [(f"rank correlation with {name}", correlated(study.judged(), it)) for name, it in chosen.items()]
+    return [
+        (f"rank correlation with {name}", correlated(study.judged(), it))
+        for name, it in chosen.items()
+    ]
 
 
 def rate(quantum: int) -> Callable[[Row], float | None]:
@@ -113,13 +140,23 @@ def is_handed(row: Row) -> bool:
 
 def of_bound(study: Study) -> list[tuple[str, Cell]]:
     """How the bound that view prints did, with the latency of the machine."""
-    most = [(row, it) for row in study.judged() if (it := row.at_most(study.latency(), study.step)) is not None]
+    most = [
+        (row, it)
+        for row in study.judged()
+        if (it := row.at_most(study.latency(), study.step)) is not None
+    ]
     passed = sorted({row.program.name for row, it in most if row.share() > it + 0.02})
     saved = [row.share() / it for row, it in most if it > 0.05]
     over = sum(row.share() > it + 0.02 for row, it in most)
     return [
-        ("*at most* was passed by 2 points", f"{over} of {len(most)}: {', '.join(passed)}" if over else f"0 of {len(most)}"),
-        ("the part of *at most* that padding saved, in the middle", median(saved) if saved else None),
+        (
+            "*at most* was passed by 2 points",
+            f"{over} of {len(most)}: {', '.join(passed)}" if over else f"0 of {len(most)}",
+        ),
+        (
+            "the part of *at most* that padding saved, in the middle",
+            median(saved) if saved else None,
+        ),
     ]
 
 
@@ -127,13 +164,18 @@ def facts(study: Study) -> list[tuple[str, Cell]]:
     """What else the document tells of a study."""
     rows, ways = study.judged(), sorted(study.lines.values())
     handed = [it for it in rows if is_handed(it)]
-    slower, gained = sum(it.slowdown() < 0.95 for it in handed), sum(it.slowdown() > 1.05 for it in handed)
+    slower, gained = sum(it.slowdown() < 0.95 for it in handed), sum(
+        it.slowdown() > 1.05 for it in handed
+    )
     return [
         ("pairs that nothing disturbed", f"{len(rows)} of {len(study.rows)}"),
         ("ns from one processor to another", f"{ways[0]:.0f} to {ways[-1]:.0f}"),
         *ranks(study),
         *of_bound(study),
-        ("of those with most misses useful, a pad cost 5% or more; saved it", f"{slower}; {gained} of {len(handed)}"),
+        (
+            "of those with most misses useful, a pad cost 5% or more; saved it",
+            f"{slower}; {gained} of {len(handed)}",
+        ),
     ]
 
 
@@ -148,25 +190,37 @@ def facts_beside(studies: Mapping[str, Study]) -> str:
 def slowdowns(study: Study, name: str) -> str:
     """The slowdowns of a program with each number of threads, those of disturbed runs in brackets."""
     own = sorted((it for it in study.rows if it.program.name == name), key=lambda it: it.threads)
-    return ", ".join(shown(it.slowdown()) if it.is_quiet() else f"({shown(it.slowdown())})" for it in own)
+    return ", ".join(
+        shown(it.slowdown()) if it.is_quiet() else f"({shown(it.slowdown())})" for it in own
+    )
 
 
 def programs_beside(studies: Mapping[str, Study], names: Sequence[str], is_told: bool) -> str:
     """Some programs: what they do, if that is told, their useless misses, and their slowdowns."""
     first, rows = next(iter(studies.values())), []
     for name in names:
-        own = sorted((it for it in first.rows if it.program.name == name), key=lambda it: it.threads)
+        own = sorted(
+            (it for it in first.rows if it.program.name == name), key=lambda it: it.threads
+        )
         rates = ", ".join(shown(it.rate()) for it in own)
         what = [own[0].program.text] if is_told else []
         rows.append([f"`{name}`", *what, rates, *[slowdowns(it, name) for it in studies.values()]])
-    heads = ["Program", *(["What it does"] if is_told else []), "Useless by 1000 steps", *[f"{it}: slowdown" for it in studies]]
+    heads = [
+        "Program",
+        *(["What it does"] if is_told else []),
+        "Useless by 1000 steps",
+        *[f"{it}: slowdown" for it in studies],
+    ]
     return table(heads, rows, 2 if is_told else 1)
 
 
 def parts(studies: Mapping[str, Study]) -> dict[str, dict[str, str]]:
     """The texts between the marks of each document."""
     told = [bands_beside(studies), facts_beside(studies), programs_beside(studies, NAMED, False)]
-    return {"STUDIES.md": {"clock": "\n\n".join(told)}, "GUIDE.md": {"clock": programs_beside(studies, SHOWN, True)}}
+    return {
+        "STUDIES.md": {"clock": "\n\n".join(told)},
+        "GUIDE.md": {"clock": programs_beside(studies, SHOWN, True)},
+    }
 
 
 def renewed(text: str, found: Mapping[str, str], of: str) -> str:

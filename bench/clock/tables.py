@@ -40,12 +40,20 @@ def saved(study: Study) -> str:
             "threads": it.threads,
             "guest_rounds": it.guest_rounds,
             "timed": [own._asdict() for own in it.timed],
-            "counts": [[form, quantum, own._asdict()] for (form, quantum), own in it.counts.items()],
+            "counts": [
+                [form, quantum, own._asdict()] for (form, quantum), own in it.counts.items()
+            ],
             "recorded": {form: own._asdict() for form, own in it.recorded.items()},
         }
         for it in study.rows
     ]
-    return json.dumps({"machine": study.machine, "lines": study.lines, "step": study.step, "rows": rows}, indent=1) + "\n"
+    return (
+        json.dumps(
+            {"machine": study.machine, "lines": study.lines, "step": study.step, "rows": rows},
+            indent=1,
+        )
+        + "\n"
+    )
 
 
 def row_of(it: dict[str, Any]) -> Row:
@@ -53,13 +61,17 @@ def row_of(it: dict[str, Any]) -> Row:
     recorded = {form: Count(**own) for form, own in it["recorded"].items()}
     timed = [Timed(**own) for own in it["timed"]]
     name, kind, text = it["program"]
-    return Row(Program(name, kind, text, ""), it["threads"], it["guest_rounds"], timed, counts, recorded)
+    return Row(
+        Program(name, kind, text, ""), it["threads"], it["guest_rounds"], timed, counts, recorded
+    )
 
 
 def kept(text: str) -> Study:
     """The study of a record."""
     found = json.loads(text)
-    return Study(found["machine"], found["lines"], found["step"], [row_of(it) for it in found["rows"]])
+    return Study(
+        found["machine"], found["lines"], found["step"], [row_of(it) for it in found["rows"]]
+    )
 
 
 # What was counted of each pair with so many threads, by its key; by form and quantum, where RECORDED is the recording on this machine.
@@ -77,7 +89,11 @@ def key_of(it: Built) -> str:
 
 
 def told_counts(counted: Counted) -> str:
-    rows = [[key, form, quantum, it._asdict()] for key, own in counted.items() for (form, quantum), it in own.items()]
+    rows = [
+        [key, form, quantum, it._asdict()]
+        for key, own in counted.items()
+        for (form, quantum), it in own.items()
+    ]
     return json.dumps(rows, indent=1) + "\n"
 
 
@@ -100,7 +116,10 @@ def shown(value: Cell) -> str:
 def table(heads: Sequence[str], rows: Sequence[Sequence[Cell]], texts: int = 1) -> str:
     """A table of Markdown, whose first columns are texts."""
     marks = ["-" if at < texts else "-:" for at in range(len(heads))]
-    return "\n".join("| " + " | ".join(it) + " |" for it in [list(heads), marks, *[[shown(it) for it in row] for row in rows]])
+    return "\n".join(
+        "| " + " | ".join(it) + " |"
+        for it in [list(heads), marks, *[[shown(it) for it in row] for row in rows]]
+    )
 
 
 def percent(part: float | None) -> str:
@@ -109,24 +128,52 @@ def percent(part: float | None) -> str:
 
 def main_table(study: Study) -> str:
     """A line for each pair and count of threads, the greatest slowdown first."""
-    heads = ["Program", "Kind", "Threads", "Slowdown", "quarters", *[f"useless, {it}" for it in QUANTA]]
+    heads = [
+        "Program",
+        "Kind",
+        "Threads",
+        "Slowdown",
+        "quarters",
+        *[f"useless, {it}" for it in QUANTA],
+    ]
     heads += ["padded, 100", "useful, 100", "recorded, 100", "at most", "saved"]
     rows: list[list[Cell]] = []
     for it in sorted(study.rows, key=lambda it: -it.slowdown()):
         usual, here = it.counts.get((FORMS[0], USUAL)), it.recorded.get(FORMS[0])
-        row: list[Cell] = [it.program.name + ("" if it.is_quiet() else " (disturbed)"), it.program.kind, it.threads]
-        row += [it.slowdown(), "{:.2f} to {:.2f}".format(*it.range()), *[it.rate(quantum) for quantum in QUANTA]]
-        row += [it.rate(form=FORMS[1]), 1000 * usual.useful / usual.steps if usual else None, here.rate() if here else None]
+        row: list[Cell] = [
+            it.program.name + ("" if it.is_quiet() else " (disturbed)"),
+            it.program.kind,
+            it.threads,
+        ]
+        row += [
+            it.slowdown(),
+            "{:.2f} to {:.2f}".format(*it.range()),
+            *[it.rate(quantum) for quantum in QUANTA],
+        ]
+        row += [
+            it.rate(form=FORMS[1]),
+            1000 * usual.useful / usual.steps if usual else None,
+            here.rate() if here else None,
+        ]
         rows.append([*row, percent(it.at_most(study.latency(), study.step)), percent(it.share())])
     return table(heads, rows, 2)
 
 
 def bands_table(study: Study) -> str:
     """The bands, over all and with each count of threads."""
-    heads = ["Useless misses by 1000 steps, quantum 100", "Cases", "Least slowdown", "Middle", "Greatest"]
+    heads = [
+        "Useless misses by 1000 steps, quantum 100",
+        "Cases",
+        "Least slowdown",
+        "Middle",
+        "Greatest",
+    ]
     parts = [table(heads, bands(study.judged()))]
     for count in study.threads():
-        parts += [f"With {count} threads:", table(heads, bands([it for it in study.judged() if it.threads == count]))]
+        parts += [
+            f"With {count} threads:",
+            table(heads, bands([it for it in study.judged() if it.threads == count])),
+        ]
     return "\n\n".join(parts)
 
 
@@ -141,9 +188,13 @@ def exceptions(study: Study) -> list[str]:
     for it in study.judged():
         rate, name = it.rate(), f"{it.program.name} with {it.threads} threads"
         if rate is not None and rate < EDGES[1] and it.range()[0] > 1.2:
-            told.append(f"{name}: {rate:.2f} useless misses by 1000 steps, and a slowdown of {it.slowdown():.2f}")
+            told.append(
+                f"{name}: {rate:.2f} useless misses by 1000 steps, and a slowdown of {it.slowdown():.2f}"
+            )
         if rate is not None and rate >= EDGES[3] and it.range()[0] < 1.1:
-            told.append(f"{name}: {rate:.2f} useless misses by 1000 steps, and a slowdown of {it.slowdown():.2f} alone")
+            told.append(
+                f"{name}: {rate:.2f} useless misses by 1000 steps, and a slowdown of {it.slowdown():.2f} alone"
+            )
         if it.range()[1] < 0.97:
             told.append(f"{name}: padding made it slower, {1 / it.slowdown():.2f} times")
     return told
@@ -153,12 +204,35 @@ def markdown(study: Study) -> str:
     """The whole text."""
     quiet = f"{len(study.judged())} of {len(study.rows)} rows are of runs that nothing disturbed; the bands and ranks are of these."
     steps = sorted(it for row in study.judged() for it in [row.step()] if it is not None)
-    middle = f"A step of the padded forms without handovers took {steps[0]:.2f} to {steps[-1]:.2f} ns, in the middle " if steps else ""
+    middle = (
+        f"A step of the padded forms without handovers took {steps[0]:.2f} to {steps[-1]:.2f} ns, in the middle "
+        if steps
+        else ""
+    )
     told = f"{middle}{steps[len(steps) // 2]:.2f} ns." if steps else ""
-    parts = ["# What a miss is worth in time", "", *[f"- {name}: {text}" for name, text in study.machine.items()], ""]
+    parts = [
+        "# What a miss is worth in time",
+        "",
+        *[f"- {name}: {text}" for name, text in study.machine.items()],
+        "",
+    ]
     lines = ", ".join(f"{between}: {ns:.0f}" for between, ns in study.lines.items())
-    parts += [f"A line's way from one processor to another, in nanoseconds: {lines}. {told}", "", quiet, ""]
-    parts += ["## Bands", "", bands_table(study), "", "## Rank correlations with the slowdown", "", ranks_table(study), ""]
+    parts += [
+        f"A line's way from one processor to another, in nanoseconds: {lines}. {told}",
+        "",
+        quiet,
+        "",
+    ]
+    parts += [
+        "## Bands",
+        "",
+        bands_table(study),
+        "",
+        "## Rank correlations with the slowdown",
+        "",
+        ranks_table(study),
+        "",
+    ]
     parts += ["## Upper bound", "", *bound_told(study.judged(), study.latency(), study.step), ""]
     parts += ["## Exceptions", "", *[f"- {it}" for it in exceptions(study)], ""]
     parts += ["## All pairs", "", main_table(study), ""]
@@ -167,23 +241,57 @@ def markdown(study: Study) -> str:
 
 def values(study: Study) -> str:
     """All numbers as tab-separated values with a head, behind lines that say where they were measured."""
-    notes = [*study.machine.items(), *((f"line {it}", f"{ns:g}") for it, ns in study.lines.items()), ("step", f"{study.step:g}")]
+    notes = [
+        *study.machine.items(),
+        *((f"line {it}", f"{ns:g}") for it, ns in study.lines.items()),
+        ("step", f"{study.step:g}"),
+    ]
     heads = ["program", "kind", "threads", "quiet", "slowdown", "low", "high", "guest rounds"]
     for form in FORMS:
-        heads += [f"{form}: {it}" for it in ("ns", "kept", "runs", "rounds", "voluntary", "involuntary")]
-        heads += [f"{form}, quantum {it}: {what}" for it in QUANTA for what in ("steps", "useful", "useless", "listed")]
+        heads += [
+            f"{form}: {it}" for it in ("ns", "kept", "runs", "rounds", "voluntary", "involuntary")
+        ]
+        heads += [
+            f"{form}, quantum {it}: {what}"
+            for it in QUANTA
+            for what in ("steps", "useful", "useless", "listed")
+        ]
         heads += [f"{form}, recorded: {it}" for it in ("accesses", "useful", "useless")]
     heads += ["saved ns", "bound ns", "at most", "saved"]
     rows = [heads]
     for it in study.rows:
-        cells: list[Cell] = [it.program.name, it.program.kind, it.threads, int(it.is_quiet()), it.slowdown(), *it.range(), it.guest_rounds]
+        cells: list[Cell] = [
+            it.program.name,
+            it.program.kind,
+            it.threads,
+            int(it.is_quiet()),
+            it.slowdown(),
+            *it.range(),
+            it.guest_rounds,
+        ]
         for form, own in zip(FORMS, it.timed):
             cells += [own.ns, own.kept, own.runs, own.rounds, own.voluntary, own.involuntary]
             for quantum in QUANTA:
                 found = it.counts.get((form, quantum))
-                cells += [found.steps, found.useful, found.useless, found.listed] if found else [None] * 4
+                cells += (
+                    [found.steps, found.useful, found.useless, found.listed]
+                    if found
+                    else [None] * 4
+                )
             here = it.recorded.get(form)
             cells += [here.accesses, here.useful, here.useless] if here else [None] * 3
-        cells += [it.saved(), it.bound(study.latency()), it.at_most(study.latency(), study.step), it.share()]
-        rows.append(["" if cell is None else f"{cell:.6g}" if isinstance(cell, float) else str(cell) for cell in cells])
-    return "".join(f"# {name}: {text}\n" for name, text in notes) + "".join("\t".join(it) + "\n" for it in rows)
+        cells += [
+            it.saved(),
+            it.bound(study.latency()),
+            it.at_most(study.latency(), study.step),
+            it.share(),
+        ]
+        rows.append(
+            [
+                "" if cell is None else f"{cell:.6g}" if isinstance(cell, float) else str(cell)
+                for cell in cells
+            ]
+        )
+    return "".join(f"# {name}: {text}\n" for name, text in notes) + "".join(
+        "\t".join(it) + "\n" for it in rows
+    )

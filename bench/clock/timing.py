@@ -60,7 +60,9 @@ def once(built: Built, rounds: int, cpus: Sequence[int], seconds: float = 60) ->
 def usual_rounds(built: Built) -> int:
     """How much a thread does where nothing else is said: the last number of the source's RUN."""
     with open(built.program.source, encoding="utf-8") as text:
-        found = re.search(r"^RUN\(\w+, \w+, \w+, (\d+)(?: / THREADS)?\)$", text.read(), re.MULTILINE)
+        found = re.search(
+            r"^RUN\(\w+, \w+, \w+, (\d+)(?: / THREADS)?\)$", text.read(), re.MULTILINE
+        )
     if not found:
         raise Trouble(f"{built.program.source} has no RUN at its end")
     return int(found[1]) // (built.threads if "THREADS" in found[0] else 1)
@@ -90,7 +92,9 @@ def middle_of(found: Sequence[Once], rounds: int, takes_all: bool) -> Timed:
     return Timed(rounds, median(took), low, high, kept, len(found), found[0].result, *switches)
 
 
-def time_pair(pair: Sequence[Built], cpus: Sequence[int], runs: int, takes_all: bool) -> list[Timed]:
+def time_pair(
+    pair: Sequence[Built], cpus: Sequence[int], runs: int, takes_all: bool
+) -> list[Timed]:
     """Both forms of a pair, one after the other, so often that each has as many quiet runs as are wanted, but at most twice as often.
     Trouble where both don't compute the same."""
     rounds = fitting_rounds(pair, cpus)
@@ -98,11 +102,15 @@ def time_pair(pair: Sequence[Built], cpus: Sequence[int], runs: int, takes_all: 
     for at in range(2 * runs):
         for own, built in zip(found, pair):
             own.append(once(built, rounds, cpus))
-        if at + 1 >= runs and (takes_all or all(sum(it.is_quiet() for it in own) >= runs for own in found)):
+        if at + 1 >= runs and (
+            takes_all or all(sum(it.is_quiet() for it in own) >= runs for own in found)
+        ):
             break
     results = {it.result for own in found for it in own}
     if len(results) > 1:
-        raise Trouble(f"{pair[0].program.name} with {pair[0].threads} threads computes {sorted(results)}")
+        raise Trouble(
+            f"{pair[0].program.name} with {pair[0].threads} threads computes {sorted(results)}"
+        )
     return [middle_of(own, rounds, takes_all) for own in found]
 
 

@@ -45,7 +45,14 @@ class Folder(unittest.TestCase):
         """The status of a call over the plan, what it printed and what it said."""
         command = [*COMMAND, "plan.yaml", *words]
         env = environment(STAND_IN_LOG=self.log, **more)
-        ran = subprocess.run(command, capture_output=True, encoding="utf-8", env=env, cwd=self.work, stdin=subprocess.DEVNULL)
+        ran = subprocess.run(
+            command,
+            capture_output=True,
+            encoding="utf-8",
+            env=env,
+            cwd=self.work,
+            stdin=subprocess.DEVNULL,
+        )
         return ran.returncode, ran.stdout, ran.stderr
 
     def calls(self):

@@ -20,7 +20,11 @@ def trace_of(seed, has_pcs):
     head = (b"PRDTRC03" if has_pcs else b"PRDTRC01") + struct.pack("<IQ", 8, 0)
     block = b"\3" + struct.pack("<6I", 0x20000, 64, 0x10010, 0x10020, 0, 0)
     # (with pcs, those of the first access and then 0 and the pc of the one before)
-    access = b"\x24\1\x80\x80\x10\x88\x80\x08" if has_pcs else b"\2" + struct.pack("<HI", 1, 0x20000) + b"\4"
+    access = (
+        b"\x24\1\x80\x80\x10\x88\x80\x08"
+        if has_pcs
+        else b"\2" + struct.pack("<HI", 1, 0x20000) + b"\4"
+    )
     other = b"\3" + struct.pack("<6I", 0x20100 + 64 * (seed % 3), 64, 0x10010, 0x10020, 0, 0)
     return head + block + access * 2 + other + access * 2 + b"\6" + struct.pack("<Q", seed)
 
@@ -76,7 +80,15 @@ def seed_of(words):
 
 
 def main(words):
-    if not words or words[0] not in ("run", "replay", "misses", "blame", "sweep", "caches", "check"):
+    if not words or words[0] not in (
+        "run",
+        "replay",
+        "misses",
+        "blame",
+        "sweep",
+        "caches",
+        "check",
+    ):
         print("usage: predator run PROGRAM")
         return 1
     if words[0] == "check":
@@ -114,7 +126,9 @@ def main(words):
             f"least {0 if seed <= 5 else 4} total {min(seed, 5)}\nend"
         )
     else:
-        print(f"caches {size} 1 1\naccesses 4\nlines 0\ntotal bounded {seed} unbounded {seed + 1} evicted 2\nend")
+        print(
+            f"caches {size} 1 1\naccesses 4\nlines 0\ntotal bounded {seed} unbounded {seed + 1} evicted 2\nend"
+        )
     return 0
 
 

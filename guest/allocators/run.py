@@ -29,7 +29,13 @@ ALLOCATORS = {
     ),
     "mimalloc 2.0.9": (
         [*SHIM, os.path.join(FETCHED, "mimalloc", "src", "static.c")],
-        ["-DMALLOC=mi_malloc", "-DFREE=mi_free", "-DNDEBUG", "-I", os.path.join(FETCHED, "mimalloc", "include")]
+        [
+            "-DMALLOC=mi_malloc",
+            "-DFREE=mi_free",
+            "-DNDEBUG",
+            "-I",
+            os.path.join(FETCHED, "mimalloc", "include"),
+        ]
         # (picolibc declares its clocks where these are defined)
         + ["-D_POSIX_TIMERS", "-D_POSIX_MONOTONIC_CLOCK", "-w"],
     ),
@@ -38,7 +44,13 @@ WORKLOADS = {"own": [], "handed over": ["-DPASSED"]}
 
 
 def build(out, sources, flags):
-    words = [os.path.join(TOP, "guest", "build.sh"), out, os.path.join(HERE, "workload.c"), *sources, "--"]
+    words = [
+        os.path.join(TOP, "guest", "build.sh"),
+        out,
+        os.path.join(HERE, "workload.c"),
+        *sources,
+        "--",
+    ]
     words += ["-g0", "-I", os.path.join(HERE, "shim"), "-I", os.path.join(TOP, "guest"), *flags]
     subprocess.run(words, check=True, env={**os.environ, "KIT": "c", "PLAIN": "yes"})
 
@@ -101,8 +113,18 @@ def main(words):
                 rows.append(row(name, workload, run, heap_of(path)))
                 if not more:
                     shown.append(f"{name}:\n\n" + block(first_lines(run.report) or ["lines 0"]))
-    heads = ["Allocator", "First blocks", "Lines with blocks", "of two threads", "Observed on the heap", "Counts"]
-    parts = {"allocators": table([*heads, "Observed elsewhere", "Counts", "Recount"], rows), "allocators' lines": "\n\n".join(shown)}
+    heads = [
+        "Allocator",
+        "First blocks",
+        "Lines with blocks",
+        "of two threads",
+        "Observed on the heap",
+        "Counts",
+    ]
+    parts = {
+        "allocators": table([*heads, "Observed elsewhere", "Counts", "Recount"], rows),
+        "allocators' lines": "\n\n".join(shown),
+    }
     for name, text in parts.items():
         print(f"\n== {name}\n\n{text}")
     if "--renew" in words:

@@ -16,7 +16,9 @@ DATA = os.path.join(TOP, "crates", "worked_runs", "data")
 # The texts that were renewed: what a case said, and what the program printed.
 RENEWED = {}
 WANTS = ("status", "front", "fails", "writes", "keeps", "absent")
-PROGRAM = os.path.abspath(os.environ.get("PREDATOR_PROGRAM") or os.path.join(TOP, "crates", "predator", "out", "predator"))
+PROGRAM = os.path.abspath(
+    os.environ.get("PREDATOR_PROGRAM") or os.path.join(TOP, "crates", "predator", "out", "predator")
+)
 
 
 def content(form, lines, words):
@@ -36,7 +38,9 @@ def record(line):
     words = line.split()
     if words[0] == "alloc":
         sites = [int(it, 16) for it in words[3:]]
-        return struct.pack("<BII4I", 3, int(words[1], 16), int(words[2]), *sites, *[0] * (4 - len(sites)))
+        return struct.pack(
+            "<BII4I", 3, int(words[1], 16), int(words[2]), *sites, *[0] * (4 - len(sites))
+        )
     if words[0] == "free":
         return struct.pack("<BI", 4, int(words[1], 16))
     if words[0] == "symbol":
@@ -106,7 +110,11 @@ def unmet(words, lines, work, before):
         return "is written" if is_written else None if words[0] == "absent" else "isn't written"
     if words[0] == "keeps":
         return None
-    made = read(os.path.join(DATA, words[3])) if words[1] == "file" else content(words[1], lines, words[2:])
+    made = (
+        read(os.path.join(DATA, words[3]))
+        if words[1] == "file"
+        else content(words[1], lines, words[2:])
+    )
     return None if read(path) == made else "has other bytes"
 
 
@@ -128,7 +136,9 @@ def wants(found, at):
 def call_of(words, work):
     """What a call does. A trace of the name `-` is standard input there, so it gets the file of that name."""
     given = read(os.path.join(work, "-")) if "-" in words else b""
-    return subprocess.run([PROGRAM, *words], cwd=work, input=given, stdout=subprocess.PIPE, stderr=subprocess.DEVNULL)
+    return subprocess.run(
+        [PROGRAM, *words], cwd=work, input=given, stdout=subprocess.PIPE, stderr=subprocess.DEVNULL
+    )
 
 
 def play(case, renew):
@@ -152,7 +162,9 @@ def play(case, renew):
                     if ran.returncode != wanted:
                         wrong.append(f"{call}: status {ran.returncode}, and {wanted} is wanted")
                     RENEWED[tuple(lines)] = text
-                    out += [(line, text)] + [(f"status {ran.returncode}", [])] * (ran.returncode != 0)
+                    out += [(line, text)] + [(f"status {ran.returncode}", [])] * (
+                        ran.returncode != 0
+                    )
                     continue
             elif head in WANTS and fails_by_list:
                 pass

@@ -26,7 +26,8 @@ SETTINGS = "quantum=10"
 
 class Followed(NamedTuple):
     """A program: what its call sites make, and the build that does what is advised, or none where the patch does; `by` is what build.sh
-    builds it by, if not by its name, and `sources` the folder in out/ that the patch is for, if there is one."""
+    builds it by, if not by its name, and `sources` the folder in out/ that the patch is for, if there is one.
+    """
 
     types: tuple = ()
     repaired: str | None = None
@@ -38,16 +39,23 @@ class Followed(NamedTuple):
 OTHERS = {
     "ck_anderson": Followed(("main=ck_spinlock_anderson_thread",), "ck_anderson-apart"),
     "ck_ring": Followed(("main=ck_ring", "test=entry"), "ck_ring-own_lines"),
-    "ck_dissemination": Followed(("main=ck_barrier_dissemination_flag",), "ck_dissemination-own_lines", "ck_barriers"),
+    "ck_dissemination": Followed(
+        ("main=ck_barrier_dissemination_flag",), "ck_dissemination-own_lines", "ck_barriers"
+    ),
     "ck_mcs": Followed(("main=ck_barrier_mcs",), "ck_mcs-own_lines", "ck_barriers"),
     "kt_for": Followed(("kt_for=ktf_worker_t",), "kt_for-blocks"),
     "urcu_wfcq": Followed((), "urcu_wfcq-patched", sources="urcu_wfcq"),
 }
 # (in the builds at 0 what a thread has begins at multiples of a line, and fills lines)
-SUITES = {it: Followed((), f"{it}-at-0") for it in ("linear_regression", "string_match", "word_count")}
+SUITES = {
+    it: Followed((), f"{it}-at-0") for it in ("linear_regression", "string_match", "word_count")
+}
 # What isn't shown of what is advised: why, where it is declared, how blocks are made, sizes and counts.
 WHY = r"^harts have words of their own in .*?: (?=give )"
-REST = re.compile(WHY + r"| \([\w.-]+:\d+\)|, and make the blocks by `[^`]*`|[:;] \d+ bytes become.*|; counted so.*")
+REST = re.compile(
+    WHY
+    + r"| \([\w.-]+:\d+\)|, and make the blocks by `[^`]*`|[:;] \d+ bytes become.*|; counted so.*"
+)
 # The code of a repair that is one of a type alone.
 CODE = re.compile(r"give each element [^`]*(`struct [^`]*`)")
 COUNTED = re.compile(r"useless (\d+) before, (\d+) after; useful (\d+), (\d+)")
@@ -60,7 +68,11 @@ def told(todo):
 
 
 def build_others(*studies, **more):
-    subprocess.run([os.path.join(HERE, "build.sh"), *studies], check=True, env={**os.environ, "DEBUG": "-g", **more})
+    subprocess.run(
+        [os.path.join(HERE, "build.sh"), *studies],
+        check=True,
+        env={**os.environ, "DEBUG": "-g", **more},
+    )
 
 
 class Study:
@@ -82,23 +94,51 @@ class Study:
             if it.endswith((".c", ".h")) and not os.path.exists(os.path.join(self.folder, it)):
                 shutil.copy(os.path.join(STUDIES, it), self.folder)
         out = os.path.join(self.folder, f"{name}.elf")
-        subprocess.run([BUILD, out, os.path.join(self.folder, source), "--", *flags], check=True, stdout=subprocess.DEVNULL)
+        subprocess.run(
+            [BUILD, out, os.path.join(self.folder, source), "--", *flags],
+            check=True,
+            stdout=subprocess.DEVNULL,
+        )
         return out
 
     def missed(self, program):
         """The useless and the useful misses of a run."""
         trace = os.path.join(self.folder, "trace")
-        subprocess.run([PROGRAM, "run", program, "--set", SETTINGS, "--trace", trace], check=True, capture_output=True)
-        told = subprocess.run([PROGRAM, "misses", trace], check=True, capture_output=True, text=True).stdout
+        subprocess.run(
+            [PROGRAM, "run", program, "--set", SETTINGS, "--trace", trace],
+            check=True,
+            capture_output=True,
+        )
+        told = subprocess.run(
+            [PROGRAM, "misses", trace], check=True, capture_output=True, text=True
+        ).stdout
         found = re.search(r"^total cold \d+ useful (\d+) useless (\d+)$", told, re.MULTILINE)
         return int(found[2]), int(found[1])
 
     def look(self, program):
         """What view finds of a run; the patch is beside it."""
-        words = ["run", program, "--explain", "0", "--no-predicted", "--set", SETTINGS, "--json", "-", "--patch", self.patch]
+        words = [
+            "run",
+            program,
+            "--explain",
+            "0",
+            "--no-predicted",
+            "--set",
+            SETTINGS,
+            "--json",
+            "-",
+            "--patch",
+            self.patch,
+        ]
         words += [word for it in self.of.types for word in ("--type", it)]
         sources = os.path.join(HERE, "out", self.of.sources) if self.of.sources else self.folder
-        ran = subprocess.run([PROGRAM, "view", *words], stdout=subprocess.PIPE, stderr=subprocess.DEVNULL, cwd=sources, check=True)
+        ran = subprocess.run(
+            [PROGRAM, "view", *words],
+            stdout=subprocess.PIPE,
+            stderr=subprocess.DEVNULL,
+            cwd=sources,
+            check=True,
+        )
         return json.loads(ran.stdout)
 
     def changed(self):
@@ -119,9 +159,19 @@ class Study:
         foretold = (int(counts[2]), int(counts[4])) if counts else before
         counted = self.missed(self.changed())
         how = "; ".join(told(it["todo"]) for it in advised) or "nothing"
-        is_good = abs(sum(counted) - sum(foretold)) * 10 < sum(before) and (sum(counted) < sum(before) or not counts)
-        wrong = [] if is_good else [f"{self.name}: {before} before, {foretold} foretold, {counted} counted"]
-        return [self.name, how, *(" + ".join(map(str, it)) for it in (before, foretold, counted))], wrong
+        is_good = abs(sum(counted) - sum(foretold)) * 10 < sum(before) and (
+            sum(counted) < sum(before) or not counts
+        )
+        wrong = (
+            []
+            if is_good
+            else [f"{self.name}: {before} before, {foretold} foretold, {counted} counted"]
+        )
+        return [
+            self.name,
+            how,
+            *(" + ".join(map(str, it)) for it in (before, foretold, counted)),
+        ], wrong
 
 
 def main(words):

@@ -49,8 +49,14 @@ def excerpt(name, run, build):
     observed = run.report.of_kind("observed")
     missed = [it for it in build.missed if it.useless > 0]
     return block(
-        [f"{name}: lines {len(run.report.lines)}, {len(observed)} of them observed", *first([(it.text, it.objects) for it in observed])]
-        + [f"{name}: lines with useless misses {len(missed)}", *first([(it.texts[0], it.texts[1:]) for it in missed])]
+        [
+            f"{name}: lines {len(run.report.lines)}, {len(observed)} of them observed",
+            *first([(it.text, it.objects) for it in observed]),
+        ]
+        + [
+            f"{name}: lines with useless misses {len(missed)}",
+            *first([(it.texts[0], it.texts[1:]) for it in missed]),
+        ]
     )
 
 
@@ -68,14 +74,29 @@ def foretold(name, runs):
         settings, trace = os.path.join(work, "settings"), os.path.join(work, "trace")
         with open(settings, "w") as file:
             file.write(SETTINGS)
-        text("run", os.path.join(OUT, f"{name}.elf"), "--settings", settings, "--trace", trace, "--output", os.devnull)
-        there = useless(text("misses", trace, "--size", str(line.size), "--shift", str(line.base % line.size)), line.base, line.size)
+        text(
+            "run",
+            os.path.join(OUT, f"{name}.elf"),
+            "--settings",
+            settings,
+            "--trace",
+            trace,
+            "--output",
+            os.devnull,
+        )
+        there = useless(
+            text("misses", trace, "--size", str(line.size), "--shift", str(line.base % line.size)),
+            line.base,
+            line.size,
+        )
         inside = useless(text("misses", trace), line.base & -64, line.size + line.base % 64)
     row = [name, line.kind, f"`{shown(line.base)}`", line.size, line.count, there, inside, "-", "-"]
     if name in MOVED:
         other, far = MOVED[name]
         seen = [it for it in runs[other].report.of_kind("observed") if it.base == line.base + far]
-        row[-2:] = [f"`{shown(it.base)}` of {other}" for it in seen] + [it.count for it in seen] or ["-", "-"]
+        row[-2:] = [f"`{shown(it.base)}` of {other}" for it in seen] + [
+            it.count for it in seen
+        ] or ["-", "-"]
     return row
 
 
@@ -92,17 +113,44 @@ def main(words):
             settings = LARGE.get(study, SETTINGS)
             run, build = Run(path, settings), Build(path, settings, is_worst=True)
             runs[name] = run
-            counts = [len(run.report.of_kind("observed")), run.report.sum("observed"), run.by_word.sum("observed")]
+            counts = [
+                len(run.report.of_kind("observed")),
+                run.report.sum("observed"),
+                run.by_word.sum("observed"),
+            ]
             costs.append([name, run.report.steps, *counts, *build.total, run.told()])
             if build.pair and name == STUDIES[study][0]:
                 fights.append([name, f"`{shown(build.base)}`", build.count, *build.pair])
             shown_here.append(excerpt(name, run, build))
             wrong += [f"{name}: {it}" for it in run.wrong + build.wrong]
         parts[study] = "\n\n".join(shown_here)
-    heads = ["Build", "Steps", "Observed lines", "Counts", "By word", "Cold", "Useful", "Useless", "Recount"]
+    heads = [
+        "Build",
+        "Steps",
+        "Observed lines",
+        "Counts",
+        "By word",
+        "Cold",
+        "Useful",
+        "Useless",
+        "Recount",
+    ]
     parts["others"] = table(heads, costs)
-    parts["others' fights"] = table(["Build", "Line", "Count", "Who takes it most", "From whom", "Taken", "For the same word"], fights)
-    heads = ["Build", "Kind", "Predicted line", "Size", "Count", "Useless there", "Useless in its lines of 64", "Observed", "Count"]
+    parts["others' fights"] = table(
+        ["Build", "Line", "Count", "Who takes it most", "From whom", "Taken", "For the same word"],
+        fights,
+    )
+    heads = [
+        "Build",
+        "Kind",
+        "Predicted line",
+        "Size",
+        "Count",
+        "Useless there",
+        "Useless in its lines of 64",
+        "Observed",
+        "Count",
+    ]
     parts["others foretold"] = table(heads, [foretold(it, runs) for it in PREDICTED if it in runs])
     for name, told in parts.items():
         print(f"\n== {name}\n\n{told}")

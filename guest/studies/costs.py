@@ -33,7 +33,11 @@ def place(path, pc, name):
     ran = subprocess.run(words, stdout=subprocess.PIPE, text=True, check=True)
     frames = json.loads(ran.stdout)[0]["Symbol"]
     # (the compiler gives some inlined code no line, and then the call's is told)
-    lines = [f"`{os.path.basename(it['FileName'])}:{it['Line']}`" for it in frames if it["FileName"] and it["Line"]]
+    lines = [
+        f"`{os.path.basename(it['FileName'])}:{it['Line']}`"
+        for it in frames
+        if it["FileName"] and it["Line"]
+    ]
     if not lines:
         return f"`{name}`, at `{shown(pc)}`"
     return f"{lines[0]} ({' < '.join(it['FunctionName'] for it in frames[:2])})"
@@ -49,13 +53,19 @@ class Build:
             settings, trace = os.path.join(work, "settings"), os.path.join(work, "trace")
             with open(settings, "w") as file:
                 file.write(settings_text)
-            observed = Report(text("run", path, "--settings", settings, "--trace", trace, "--output", os.devnull)).of_kind("observed")
+            observed = Report(
+                text("run", path, "--settings", settings, "--trace", trace, "--output", os.devnull)
+            ).of_kind("observed")
             counted = text("misses", trace)
             with open(trace, "rb") as file:
                 if list(recount_misses.told(file.read(), 64, 0)) != counted.splitlines():
                     self.wrong.append(f"{path}: recounted, the misses are other ones")
-            self.total = re.search(r"^total cold (\d+) useful (\d+) useless (\d+)$", counted, re.MULTILINE).groups()
-            self.missed = [Missed(it) for it in re.split(r"^(?=line )", counted, flags=re.MULTILINE)[1:]]
+            self.total = re.search(
+                r"^total cold (\d+) useful (\d+) useless (\d+)$", counted, re.MULTILINE
+            ).groups()
+            self.missed = [
+                Missed(it) for it in re.split(r"^(?=line )", counted, flags=re.MULTILINE)[1:]
+            ]
             lines = {it.base: it for it in observed}
             bases = [it.base for it in (self.missed if is_worst else observed)]
             self.base = next(iter(bases), None)
@@ -64,10 +74,14 @@ class Build:
 
     def explained(self, settings):
         start = self.line.start if self.line else 0
-        told = text("explain", self.path, shown(self.base), "64", str(start), "--settings", settings)
+        told = text(
+            "explain", self.path, shown(self.base), "64", str(start), "--settings", settings
+        )
         self.count = int(re.search(r"^line .* count (\d+)$", told, re.MULTILINE)[1])
         if self.line and self.count != self.line.count:
-            self.wrong.append(f"{self.path}: the report counts {self.line.count} of {shown(self.base)}, and explain {self.count}")
+            self.wrong.append(
+                f"{self.path}: the report counts {self.line.count} of {shown(self.base)}, and explain {self.count}"
+            )
         found = re.search(r"^pair (\S+) (\S+) taken (\d+) same (\d+)$", told, re.MULTILINE)
         if found is None:
             return None
@@ -100,8 +114,19 @@ def main(words):
             if build.pair:
                 fights.append([name, f"`{shown(build.base)}`", build.count, *build.pair])
             wrong += build.wrong
-    heads = ["Build", "Line", "Count", "Who takes it most", "From whom", "Taken", "For the same word"]
-    parts = {"costs": table(["Build", "Cold", "Useful", "Useless"], costs), "fights": table(heads, fights)}
+    heads = [
+        "Build",
+        "Line",
+        "Count",
+        "Who takes it most",
+        "From whom",
+        "Taken",
+        "For the same word",
+    ]
+    parts = {
+        "costs": table(["Build", "Cold", "Useful", "Useless"], costs),
+        "fights": table(heads, fights),
+    }
     for name, told in parts.items():
         print(f"\n== {name}\n\n{told}")
     for it in wrong:

@@ -82,7 +82,9 @@ def called(words, trace):
     """The report of a call that has a trace, written or read."""
     ran = subprocess.run([PROGRAM, *words], stdout=subprocess.PIPE, text=True, check=False)
     if "\nend\n" not in ran.stdout or not os.path.exists(trace):
-        sys.exit(f"{' '.join(words)}: no report with a trace, and status {ran.returncode} (the built program is wanted)\n{ran.stdout}")
+        sys.exit(
+            f"{' '.join(words)}: no report with a trace, and status {ran.returncode} (the built program is wanted)\n{ran.stdout}"
+        )
     return Report(ran.stdout)
 
 
@@ -98,7 +100,10 @@ class Run:
             with open(names["settings"], "w") as file:
                 file.write(settings)
             began = time.monotonic()
-            self.report = called(["run", path, *(it for name in names for it in (f"--{name}", names[name]))], names["trace"])
+            self.report = called(
+                ["run", path, *(it for name in names for it in (f"--{name}", names[name]))],
+                names["trace"],
+            )
             self.seconds = time.monotonic() - began
             self.by_word = called(["replay", names["trace"], "--size", "4"], names["trace"])
             with open(names["trace"], "rb") as file:

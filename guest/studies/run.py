@@ -18,17 +18,38 @@ PREDICTED = {"linear_regression": 0, "word_count": 0, "string_match": 0}
 def summary(runs):
     rows = []
     for name, run in runs.items():
-        counts = [len(run.report.of_kind("observed")), run.report.sum("observed"), run.by_word.sum("observed")]
-        predicted = [len(run.report.of_kind("shifted", "doubled")), run.report.sum("shifted", "doubled")]
+        counts = [
+            len(run.report.of_kind("observed")),
+            run.report.sum("observed"),
+            run.by_word.sum("observed"),
+        ]
+        predicted = [
+            len(run.report.of_kind("shifted", "doubled")),
+            run.report.sum("shifted", "doubled"),
+        ]
         rows.append([name, run.report.steps, *counts, *predicted, run.told()])
-    return table(["Build", "Steps", "Observed lines", "Counts", "By word", "Predicted lines", "Counts", "Recount"], rows)
+    return table(
+        [
+            "Build",
+            "Steps",
+            "Observed lines",
+            "Counts",
+            "By word",
+            "Predicted lines",
+            "Counts",
+            "Recount",
+        ],
+        rows,
+    )
 
 
 def excerpt(name, run):
     """The first observed lines of a report with what stands on them, or else the first predicted ones, as the program printed them."""
     lines, observed = run.report.lines, run.report.of_kind("observed")
     first = (observed or lines)[:MOST]
-    made = [f"{name}: lines {len(lines)}" + (f", {len(observed)} of them observed" if lines else "")]
+    made = [
+        f"{name}: lines {len(lines)}" + (f", {len(observed)} of them observed" if lines else "")
+    ]
     for rows in with_objects([(it.text, it.objects) for it in first]):
         made += rows
     return block(made + [".."] * (len(observed or lines) > MOST))
@@ -54,7 +75,11 @@ def foretold(study, place, runs):
     for line in runs[f"{study}-at-{place}"].report.of_kind("shifted"):
         moved = (place - line.base) % 64
         other = runs.get(f"{study}-at-{moved}")
-        seen = [it for it in other.report.of_kind("observed") if it.base == line.base + moved - place] if other else []
+        seen = (
+            [it for it in other.report.of_kind("observed") if it.base == line.base + moved - place]
+            if other
+            else []
+        )
         rows.append(
             [study, place, f"`{shown(line.base)}`", line.count, moved]
             + ([f"`{shown(seen[0].base)}`", seen[0].count] if seen else ["-", "-"])
@@ -75,17 +100,34 @@ def main(words):
             print(f"{name}: {it}")
     parts = {"suite": summary(runs)}
     for study in names:
-        parts[study] = "\n\n".join(excerpt(it, runs[it]) for it in studies[study] if "-at-" not in it)
+        parts[study] = "\n\n".join(
+            excerpt(it, runs[it]) for it in studies[study] if "-at-" not in it
+        )
         if any("-at-" in it for it in studies[study]):
             parts[f"{study} by place"] = placements({it: runs[it] for it in studies[study]})
-    heads = ["Study", "Place", "Predicted line", "Count", "Place of the other run", "Observed line", "Count"]
-    rows = [row for study, place in PREDICTED.items() if study in names for row in foretold(study, place, runs)]
+    heads = [
+        "Study",
+        "Place",
+        "Predicted line",
+        "Count",
+        "Place of the other run",
+        "Observed line",
+        "Count",
+    ]
+    rows = [
+        row
+        for study, place in PREDICTED.items()
+        if study in names
+        for row in foretold(study, place, runs)
+    ]
     parts["foretold"] = table(heads, rows)
     slowest = max(runs, key=lambda it: runs[it].seconds)
     parts["commit"] = f"Made at commit {commit()}."
     for name, text in parts.items():
         print(f"\n== {name}\n\n{text}")
-    print(f"\n{len(runs)} programs, {wrong} wrong; the slowest, {slowest}, ran for {runs[slowest].seconds:.1f} s")
+    print(
+        f"\n{len(runs)} programs, {wrong} wrong; the slowest, {slowest}, ran for {runs[slowest].seconds:.1f} s"
+    )
     if "--renew" in words:
         renew(parts)
     return 1 if wrong else 0

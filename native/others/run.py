@@ -91,7 +91,12 @@ STUDIES = {
         config=HAPROXY,
     ),
     "unbound": Study(
-        ["unbound"], ["-d", "-c", CONFIG], ["event_assign"], ["dns", "18462", "8", "40", "--again"], is_debian=True, config=UNBOUND
+        ["unbound"],
+        ["-d", "-c", CONFIG],
+        ["event_assign"],
+        ["dns", "18462", "8", "40", "--again"],
+        is_debian=True,
+        config=UNBOUND,
     ),
     "rocksdb": Study(
         ["db_bench"],
@@ -100,10 +105,25 @@ STUDIES = {
     ),
     "blas": Study(["blas"]),
     "xz": Study(["xz"], ["-0", "-T4", "--block-size=100000", "-c", TEXT], is_debian=True),
-    "zstd": Study(["zstd"], ["-1", "-T4", "-B131072", "-q", "-c", TEXT], is_debian=True, text=600_000),
-    "pbzip2": Study(["pbzip2"], ["-1", "-p4", "-b1", "-k", "-c", TEXT], is_debian=True, text=250_000, most=20_000_000),
-    "x264": Study(["x264"], ["--quiet", "--threads", "4", "-o", "/dev/null", FILM], is_debian=True, most=40_000_000),
-    "fzf": Study(["fzf"], ["-f", "7 1"], is_debian=True, text=100_000, reads_text=True, most=40_000_000),
+    "zstd": Study(
+        ["zstd"], ["-1", "-T4", "-B131072", "-q", "-c", TEXT], is_debian=True, text=600_000
+    ),
+    "pbzip2": Study(
+        ["pbzip2"],
+        ["-1", "-p4", "-b1", "-k", "-c", TEXT],
+        is_debian=True,
+        text=250_000,
+        most=20_000_000,
+    ),
+    "x264": Study(
+        ["x264"],
+        ["--quiet", "--threads", "4", "-o", "/dev/null", FILM],
+        is_debian=True,
+        most=40_000_000,
+    ),
+    "fzf": Study(
+        ["fzf"], ["-f", "7 1"], is_debian=True, text=100_000, reads_text=True, most=40_000_000
+    ),
     "caddy": Study(
         ["caddy"],
         ["respond", "--listen", "127.0.0.1:18463", "--body", "ok"],
@@ -114,7 +134,19 @@ STUDIES = {
     "ripgrep": Study(["rg"], ["-j4", "-c", "7 1", TREE], is_debian=True),
     "fd": Study(["fdfind"], ["-j4", "7", TREE], is_debian=True),
     "mold": Study(
-        ["mold"], ["-m", "elf_x86_64", "--no-fork", "--thread-count=4", "-o", f"{FOLDER}/linked", OBJECTS, "-lc", LIBC], is_debian=True
+        ["mold"],
+        [
+            "-m",
+            "elf_x86_64",
+            "--no-fork",
+            "--thread-count=4",
+            "-o",
+            f"{FOLDER}/linked",
+            OBJECTS,
+            "-lc",
+            LIBC,
+        ],
+        is_debian=True,
     ),
 }
 
@@ -134,15 +166,25 @@ def text_of(size: int) -> bytes:
 def film_of(count: int) -> bytes:
     """So many pictures of 176 times 144 points, in which a text wanders."""
     size, line = 176 * 144, text_of(1 << 16)
-    pictures = (b"FRAME\n" + line[2 * it : 2 * it + size] + bytes([128]) * (size // 2) for it in range(count))
+    pictures = (
+        b"FRAME\n" + line[2 * it : 2 * it + size] + bytes([128]) * (size // 2)
+        for it in range(count)
+    )
     return b"YUV4MPEG2 W176 H144 F25:1 Ip A1:1 C420jpeg\n" + b"".join(pictures)
 
 
 def made(study: Study, folder: str) -> dict[str, str]:
     """The files that a study's words stand for."""
     found = {it: os.path.join(folder, it.lower()) for it in (TEXT, TREE, CONFIG)}
-    found |= {OBJECTS: "@" + os.path.join(folder, "objects"), FILM: os.path.join(folder, "film.y4m")}
-    for name, data in ((TEXT, text_of(study.text)), (CONFIG, study.config.encode()), (FILM, film_of(8) if FILM in study.words else b"")):
+    found |= {
+        OBJECTS: "@" + os.path.join(folder, "objects"),
+        FILM: os.path.join(folder, "film.y4m"),
+    }
+    for name, data in (
+        (TEXT, text_of(study.text)),
+        (CONFIG, study.config.encode()),
+        (FILM, film_of(8) if FILM in study.words else b""),
+    ):
         with open(found[name], "wb") as file:
             file.write(data)
     for own in range(40) if TREE in study.words else ():
@@ -162,11 +204,21 @@ def compile_all(folder: str, listed: str) -> None:
         with open(os.path.join(folder, name), "w") as file:
             for own in range(30):
                 other = f"f{(it * 7 + 1) % 60}_{own * 3 % 30}"
-                file.write(f"int {other}(int);\nint f{it}_{own}(int x) {{ return x > 1 ? {other}(x - {own + 1}) + {it * own} : x; }}\n")
+                file.write(
+                    f"int {other}(int);\nint f{it}_{own}(int x) {{ return x > 1 ? {other}(x - {own + 1}) + {it * own} : x; }}\n"
+                )
             file.write("int main(void) { return f0_0(3); }\n" if it == 0 else "")
     subprocess.run(["gcc", "-c", "-g", "-O1", *names], cwd=folder, check=True)
     with open(listed, "w") as file:
-        file.write("\n".join(["/usr/lib/x86_64-linux-gnu/crt1.o", *(os.path.join(folder, it[:-2] + ".o") for it in names)]) + "\n")
+        file.write(
+            "\n".join(
+                [
+                    "/usr/lib/x86_64-linux-gnu/crt1.o",
+                    *(os.path.join(folder, it[:-2] + ".o") for it in names),
+                ]
+            )
+            + "\n"
+        )
 
 
 def recorded(study: Study, program: str, folder: str) -> str:
@@ -197,10 +249,20 @@ def is_named(name: str) -> bool:
     has the memory doesn't, where its own code alone uses that."""
     if re.match("memory at|block without", name):
         return False
-    if re.search(r'near (?:a panic|panics) at (?!library/)|near an assertion at |in a method of (?!std::|tbb::)|\(near the text "', name):
+    if re.search(
+        r'near (?:a panic|panics) at (?!library/)|near an assertion at |in a method of (?!std::|tbb::)|\(near the text "',
+        name,
+    ):
         return True
-    name = re.sub(r"^memory of (.+), used at (?=\1\+0x)", "memory used at ", name).replace(", used at ", " and ")
-    parts = re.split(r" < | and ", re.sub(r"^(?:block (?:of \S+ )?made|block used|memory used) (?:in|at) | \([^)]*\)", "", name))
+    name = re.sub(r"^memory of (.+), used at (?=\1\+0x)", "memory used at ", name).replace(
+        ", used at ", " and "
+    )
+    parts = re.split(
+        r" < | and ",
+        re.sub(
+            r"^(?:block (?:of \S+ )?made|block used|memory used) (?:in|at) | \([^)]*\)", "", name
+        ),
+    )
     return not all(re.fullmatch(r"\S+\+0x[0-9a-f]+|0x[0-9a-f]+", it) for it in parts)
 
 
@@ -220,7 +282,11 @@ def row(study: Study, program: str) -> tuple[list[object], str]:
             found = json.load(file)
         size = os.path.getsize(trace)
     total, objects = found["total"], found["objects"]
-    own = [it for it in objects if any(what in it["name"] + json.dumps(it["sites"]) for what in study.looked_at)]
+    own = [
+        it
+        for it in objects
+        if any(what in it["name"] + json.dumps(it["sites"]) for what in study.looked_at)
+    ]
     known = sum(it["useless"] for it in objects if is_named(it["name"]))
     is_clean = "nothing here is worth doing" in screen
     rows = "".join(f"  {place}  {named(name)}\n" for place, name in ROW.findall(screen))
@@ -251,7 +317,9 @@ def main(words: Sequence[str]) -> int:
     if "--renew" in words:
         renew({"others of this machine": text})
         with open(ROWS, "w", encoding="utf-8") as file:
-            file.write(f"The first three rows of each program's screen, as native/others/run.py has recorded and shown it.\n\n{rows}")
+            file.write(
+                f"The first three rows of each program's screen, as native/others/run.py has recorded and shown it.\n\n{rows}"
+            )
     return 0
 
 

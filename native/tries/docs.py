@@ -58,7 +58,13 @@ def main(words):
         if not command.startswith("bin/") and not shutil.which(command.split()[0]):
             print(f"{command}: as it stands there, though left out")
             continue
-        ran = subprocess.run(["bash", "-c", command], cwd=words[0], stdout=subprocess.PIPE, stderr=subprocess.STDOUT, text=True)
+        ran = subprocess.run(
+            ["bash", "-c", command],
+            cwd=words[0],
+            stdout=subprocess.PIPE,
+            stderr=subprocess.STDOUT,
+            text=True,
+        )
         made = ran.stdout.rstrip("\n").split("\n") if ran.stdout else []
         same = is_printed(wanted, made)
         wrong += not same

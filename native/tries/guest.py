@@ -21,7 +21,16 @@ from reports import Report, Symbol  # noqa: E402
 # Each example, and what of its C library for RV32 isn't here.
 NAMES = {
     "apart": (),
-    "atomics": ("atomic_locks", "environ", "err", "initial_env", "out", "predator_start.words", "pthread_harts", "stdout"),
+    "atomics": (
+        "atomic_locks",
+        "environ",
+        "err",
+        "initial_env",
+        "out",
+        "predator_start.words",
+        "pthread_harts",
+        "stdout",
+    ),
     "checksum": (),
     "counters": (),
     "queue": (),
@@ -38,11 +47,24 @@ def text_of(words, **more):
 
 def layout(name, path):
     """Writes a script for the linker by which the program's variables begin where those of the build for RV32 do, within a page."""
-    rows = (it.split() for it in text_of(["readelf", "-sW", os.path.join(GUEST, "built", f"{name}.elf")]).splitlines())
+    rows = (
+        it.split()
+        for it in text_of(
+            ["readelf", "-sW", os.path.join(GUEST, "built", f"{name}.elf")]
+        ).splitlines()
+    )
     with open(os.path.join(GUEST, "examples", f"{name}.c")) as file:
         source = file.read()
-    found = sorted((int(it[1], 16), it[7]) for it in rows if len(it) == 8 and it[3] == "OBJECT" and f" {it[7]}" in source)
-    found = [it for it in found if it[1].isidentifier() and any(f"{it[1]}{end}" in source for end in "[;= ")]
+    found = sorted(
+        (int(it[1], 16), it[7])
+        for it in rows
+        if len(it) == 8 and it[3] == "OBJECT" and f" {it[7]}" in source
+    )
+    found = [
+        it
+        for it in found
+        if it[1].isidentifier() and any(f"{it[1]}{end}" in source for end in "[;= ")
+    ]
     page = found[0][0] // 4096 * 4096
     with open(path, "w") as file:
         file.write("SECTIONS\n{\n  .guest : ALIGN(4096) SUBALIGN(1)\n  {\n")
@@ -54,7 +76,16 @@ def layout(name, path):
 def build(name, folder):
     """The example for this machine."""
     out = os.path.join(folder, f"{name}.native")
-    common = ["gcc", "-g", "-O2", "-pthread", "-w", "-fdata-sections", "-I", os.path.join(HERE, "guest")]
+    common = [
+        "gcc",
+        "-g",
+        "-O2",
+        "-pthread",
+        "-w",
+        "-fdata-sections",
+        "-I",
+        os.path.join(HERE, "guest"),
+    ]
     script = []
     if name in PLACED:
         path = os.path.join(folder, f"{name}.ld")
@@ -62,11 +93,24 @@ def build(name, folder):
         script = [f"-Wl,-T,{path}"]
     made = [os.path.join(folder, f"{it}.o") for it in (name, "calls")]
     subprocess.run(
-        [*common, "-DNATIVE", "-fsanitize=thread", "-c", os.path.join(GUEST, "examples", f"{name}.c"), "-o", made[0]], check=True
+        [
+            *common,
+            "-DNATIVE",
+            "-fsanitize=thread",
+            "-c",
+            os.path.join(GUEST, "examples", f"{name}.c"),
+            "-o",
+            made[0],
+        ],
+        check=True,
     )
-    subprocess.run([*common, "-c", os.path.join(HERE, "guest", "calls.c"), "-o", made[1]], check=True)
+    subprocess.run(
+        [*common, "-c", os.path.join(HERE, "guest", "calls.c"), "-o", made[1]], check=True
+    )
     library = os.path.join(TOP, "native", "out", "lib")
-    subprocess.run(["gcc", "-pthread", *made, *script, "-o", out, "-L", library, "-ltsan"], check=True)
+    subprocess.run(
+        ["gcc", "-pthread", *made, *script, "-o", out, "-L", library, "-ltsan"], check=True
+    )
     return out
 
 
@@ -74,22 +118,40 @@ def listed(report, without=()):
     """The observed lines: what stands on each, how far the line begins behind the first of it, and the verdict."""
     found = []
     for line in report.observed():
-        things = sorted((it.addr, it.name if isinstance(it, Symbol) else f"a block of {it.size} bytes") for it in line.objects())
+        things = sorted(
+            (it.addr, it.name if isinstance(it, Symbol) else f"a block of {it.size} bytes")
+            for it in line.objects()
+        )
         things = [it for it in things if it[1] not in without]
         if things:
-            found.append((" ".join(name for _, name in things), line.base - things[0][0], line.verdict))
+            found.append(
+                (" ".join(name for _, name in things), line.base - things[0][0], line.verdict)
+            )
     return sorted(found)
 
 
 def reports(name, folder):
     predator = os.environ.get("PREDATOR") or os.path.join(TOP, "bin", "predator")
     ran = subprocess.run(
-        [predator, "run", os.path.join(GUEST, "built", f"{name}.elf")], stdout=subprocess.PIPE, stderr=subprocess.DEVNULL, text=True
+        [predator, "run", os.path.join(GUEST, "built", f"{name}.elf")],
+        stdout=subprocess.PIPE,
+        stderr=subprocess.DEVNULL,
+        text=True,
     )
     path = os.path.join(folder, f"{name}.report")
     recorder = os.path.join(TOP, "native", "predator-native")
     subprocess.run(
-        [recorder, "--built", "--all", "--quantum", "40", "--report", path, "--", build(name, folder)],
+        [
+            recorder,
+            "--built",
+            "--all",
+            "--quantum",
+            "40",
+            "--report",
+            path,
+            "--",
+            build(name, folder),
+        ],
         stdout=subprocess.DEVNULL,
         check=True,
     )

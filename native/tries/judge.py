@@ -78,7 +78,9 @@ def records(trace, all_of_it):
             yield "symbol", kind, addr, size, name.decode(errors="replace")
             place += 12 + length
         elif tag == 6:
-            outcome, cause, hart, value, steps, told = struct.unpack_from("<BBHIQQ", data, place + 1)
+            outcome, cause, hart, value, steps, told = struct.unpack_from(
+                "<BBHIQQ", data, place + 1
+            )
             if told != accesses or place + 25 != len(data) or (cause, hart, steps) != (0, 0, 0):
                 sys.exit(f"a wrong end at {place}")
             yield "end", outcome, value, accesses
@@ -149,7 +151,9 @@ def rows_of(table):
     found = {}
     with open(table, errors="surrogateescape") as file:
         for row in file:
-            own = re.match(r"site (0x\S+) 0x\S+ (\S+) (-|.*?:\d+) (.*)$", row) or re.match(r"(frame) (0x\S+) (-|.*?:\d+) (.*)$", row)
+            own = re.match(r"site (0x\S+) 0x\S+ (\S+) (-|.*?:\d+) (.*)$", row) or re.match(
+                r"(frame) (0x\S+) (-|.*?:\d+) (.*)$", row
+            )
             if own and own[1] == "frame":
                 found.setdefault(int(own[2], 16), []).append(("frame", own[4], own[3]))
             elif own:
@@ -163,7 +167,12 @@ def sites(trace, name, behind):
     told = rows_of(f"{trace}.table")
     texts = []
     for pc in sorted({it[5] for it in all_records if it[0] == "access" and at <= it[3] < at + 4}):
-        texts.append(" < ".join(f"{own[1]} {own[2].rpartition('/')[2]}" for own in told.get(pc, [("", "unknown", "unknown")])))
+        texts.append(
+            " < ".join(
+                f"{own[1]} {own[2].rpartition('/')[2]}"
+                for own in told.get(pc, [("", "unknown", "unknown")])
+            )
+        )
     return "; ".join(sorted(set(texts)))
 
 
@@ -190,7 +199,11 @@ def main(words):
         if what == "place":
             print(f"{place_of(all_records, *names):#010x}")
             return
-        print({"taken": taken, "word": word, "blocks": blocks, "turns": turns}[what](all_records, *names))
+        print(
+            {"taken": taken, "word": word, "blocks": blocks, "turns": turns}[what](
+                all_records, *names
+            )
+        )
 
 
 main(sys.argv[1:])

@@ -97,7 +97,12 @@ class Bench:
         own = {it: word for it, word in os.environ.items() if not it.startswith("EDGES_")}
         # (large pages, as the launcher asks for them)
         own = {"GLIBC_TUNABLES": "glibc.malloc.hugetlb=1"} | own
-        return own | {"LC_ALL": "C", "LD_PRELOAD": self.shim, "EDGES_LOG": self.log} | self.planted | how
+        return (
+            own
+            | {"LC_ALL": "C", "LD_PRELOAD": self.shim, "EDGES_LOG": self.log}
+            | self.planted
+            | how
+        )
 
     def call(self, case: Case, how: dict[str, str] | None = None, is_new: bool = False) -> Ending:
         """Makes a call, with older files under the names of its outputs, or with none."""
@@ -118,13 +123,29 @@ class Bench:
             if os.path.exists(name):
                 os.remove(name)
         faults += self.changed()
-        return Ending(status, printed, said, before, written, calls_of((content(self.log) or b"").decode(errors="replace")), faults)
+        return Ending(
+            status,
+            printed,
+            said,
+            before,
+            written,
+            calls_of((content(self.log) or b"").decode(errors="replace")),
+            faults,
+        )
 
-    def run(self, words: Sequence[str], how: dict[str, str], piped: str = "") -> tuple[int, bytes, bytes, list[Fault]]:
+    def run(
+        self, words: Sequence[str], how: dict[str, str], piped: str = ""
+    ) -> tuple[int, bytes, bytes, list[Fault]]:
         faults = []
         with open(piped or os.devnull, "rb") as given:
-            with subprocess.Popen([self.program, *words], stdin=given, stdout=subprocess.PIPE, stderr=subprocess.PIPE,
-                                  env=self.environment(how), start_new_session=True) as ran:
+            with subprocess.Popen(
+                [self.program, *words],
+                stdin=given,
+                stdout=subprocess.PIPE,
+                stderr=subprocess.PIPE,
+                env=self.environment(how),
+                start_new_session=True,
+            ) as ran:
                 try:
                     printed, said = ran.communicate(timeout=SECONDS)
                 except subprocess.TimeoutExpired:
@@ -150,7 +171,10 @@ class Bench:
     def count(self, call: str, how: str, words: Sequence[str], faults: Sequence[Fault]) -> None:
         self.tried[call, how] += 1
         if faults:
-            self.failed.append(f"FAILED: {' '.join(words)} [{call} {how}]:\n" + "".join(f"    {it}\n" for it in faults))
+            self.failed.append(
+                f"FAILED: {' '.join(words)} [{call} {how}]:\n"
+                + "".join(f"    {it}\n" for it in faults)
+            )
 
     def closing(self) -> str:
         """How many tries passed and failed, and how many there were of each call and errno."""

@@ -16,13 +16,23 @@ class Ended:
     """How a call ended that was made over other streams."""
 
     def __init__(self, bench: Bench, words: Sequence[str], **streams: object) -> None:
-        usual: dict[str, object] = {"stdin": subprocess.DEVNULL, "stdout": subprocess.PIPE, "stderr": subprocess.PIPE}
-        settings = usual | {"env": bench.environment({}), "timeout": SECONDS, "check": False} | streams
+        usual: dict[str, object] = {
+            "stdin": subprocess.DEVNULL,
+            "stdout": subprocess.PIPE,
+            "stderr": subprocess.PIPE,
+        }
+        settings = (
+            usual | {"env": bench.environment({}), "timeout": SECONDS, "check": False} | streams
+        )
         try:
             ran = subprocess.run([bench.program, *words], **settings)  # type: ignore[call-overload]
             self.status, self.printed, self.said = ran.returncode, ran.stdout, ran.stderr or b""
         except subprocess.TimeoutExpired:
-            self.status, self.printed, self.said = None, b"", f"(it hadn't ended after {SECONDS} s)".encode()
+            self.status, self.printed, self.said = (
+                None,
+                b"",
+                f"(it hadn't ended after {SECONDS} s)".encode(),
+            )
 
     def faults(self, status: int, printed: bytes | None, said: bytes | None) -> list[Fault]:
         """What is wrong. None stands for what isn't looked at, or went elsewhere."""
@@ -34,7 +44,11 @@ class Ended:
 
     def unsaid(self, line: bytes) -> list[Fault]:
         """What is wrong where this line is to be the last that is said."""
-        return [] if self.said.endswith(line) else [f"it said {self.said[-200:]!r}, and wanted is {line!r}"]
+        return (
+            []
+            if self.said.endswith(line)
+            else [f"it said {self.said[-200:]!r}, and wanted is {line!r}"]
+        )
 
 
 def fault_line(name: str, reason: str) -> bytes:
@@ -44,12 +58,22 @@ def fault_line(name: str, reason: str) -> bytes:
 def other_bytes(name: str, wanted: bytes | None) -> list[Fault]:
     """What is wrong with a file that is to have these bytes, or not to be there."""
     now = content(name)
-    return [] if now == wanted else [f"{name} has {None if now is None else len(now)} bytes, and not those that are wanted"]
+    return (
+        []
+        if now == wanted
+        else [
+            f"{name} has {None if now is None else len(now)} bytes, and not those that are wanted"
+        ]
+    )
 
 
 def unwritten(case: Case) -> list[Fault]:
     """What is wrong with the outputs of a call that is to write them whole. They are removed."""
-    found = [it for name, whole in case.writes for it in other_bytes(name, None if case.stays() else whole)]
+    found = [
+        it
+        for name, whole in case.writes
+        for it in other_bytes(name, None if case.stays() else whole)
+    ]
     remove(*dict(case.writes))
     return found
 

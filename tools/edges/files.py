@@ -11,7 +11,9 @@ sys.path.insert(0, os.path.join(os.path.dirname(os.path.abspath(__file__)), ".."
 from message_files import FORM, NO_PCS  # noqa: E402
 from traces import groups  # noqa: E402
 
-DATA = os.path.join(os.path.dirname(os.path.abspath(__file__)), "..", "..", "crates", "worked_runs", "data")
+DATA = os.path.join(
+    os.path.dirname(os.path.abspath(__file__)), "..", "..", "crates", "worked_runs", "data"
+)
 Touch = tuple[int, str, int]
 Sited = tuple[int, str, int, int]
 # Pieces in which a run's program puts out its bytes, and the bytes of the last one.
@@ -53,10 +55,17 @@ class Case(NamedTuple):
 
     def renamed(self, name: str, other: str) -> "Case":
         """The same call over a file of another name."""
+
         def by(it: str) -> str:
             return other if it == name else it
-        return self._replace(words=tuple(map(by, self.words)), reads=tuple(map(by, self.reads)), again=by(self.again),
-                             along=by(self.along), writes=tuple((by(it), whole) for it, whole in self.writes))
+
+        return self._replace(
+            words=tuple(map(by, self.words)),
+            reads=tuple(map(by, self.reads)),
+            again=by(self.again),
+            along=by(self.along),
+            writes=tuple((by(it), whole) for it, whole in self.writes),
+        )
 
 
 def lines(*texts: str) -> bytes:
@@ -77,11 +86,15 @@ def header(harts: int = 8, first: int = 0, version: int = 1) -> bytes:
 
 
 def ending(accesses: int, steps: int | None = None, outcome: int = 0) -> bytes:
-    return struct.pack("<BBBHIQQ", 6, outcome, 0, 0, 0, accesses if steps is None else steps, accesses)
+    return struct.pack(
+        "<BBBHIQQ", 6, outcome, 0, 0, 0, accesses if steps is None else steps, accesses
+    )
 
 
 def records(touches: Iterable[Touch]) -> bytes:
-    return b"".join(struct.pack("<BHIB", 1 if kind == "R" else 2, hart, addr, 4) for hart, kind, addr in touches)
+    return b"".join(
+        struct.pack("<BHIB", 1 if kind == "R" else 2, hart, addr, 4) for hart, kind, addr in touches
+    )
 
 
 def trace(touches: list[Touch], before: bytes = b"") -> bytes:
@@ -105,7 +118,11 @@ def sited(touches: Iterable[Sited], end: bytes = b"") -> bytes:
     """The trace of these accesses in version 3, each with its pc."""
     made, last, pcs, count = bytearray(header(version=3)), 0, dict[int, int](), 0
     for hart, kind, addr, pc in touches:
-        made += bytes((0x14 if kind == "R" else 0x24, hart)) + groups(addr - last) + groups(pc - pcs.get(hart, 0))
+        made += (
+            bytes((0x14 if kind == "R" else 0x24, hart))
+            + groups(addr - last)
+            + groups(pc - pcs.get(hart, 0))
+        )
         last, pcs[hart], count = addr, pc, count + 1
     return bytes(made) + (end or ending(count))
 
@@ -161,12 +178,33 @@ def made(count: int) -> list[Touch]:
 
 def fought(count: int) -> list[Touch]:
     """Two harts write neighbouring words of a line in turn, twice; so they do with each of some lines that lie apart."""
-    return [(hart, "W", 0x100000 + 128 * line + 4 * hart) for line in range(count) for hart in (0, 1, 0, 1)]
+    return [
+        (hart, "W", 0x100000 + 128 * line + 4 * hart)
+        for line in range(count)
+        for hart in (0, 1, 0, 1)
+    ]
 
 
-def report(outcome: str, steps: int, accesses: int, layout: str, thresholds: str, rows: Iterable[str] = (), count: int = 0) -> bytes:
-    return lines("predator report 1", f"outcome {outcome}", f"steps {steps}", f"accesses {accesses}", f"layout {layout}",
-                 f"thresholds {thresholds}", f"lines {count}", *rows, "end")
+def report(
+    outcome: str,
+    steps: int,
+    accesses: int,
+    layout: str,
+    thresholds: str,
+    rows: Iterable[str] = (),
+    count: int = 0,
+) -> bytes:
+    return lines(
+        "predator report 1",
+        f"outcome {outcome}",
+        f"steps {steps}",
+        f"accesses {accesses}",
+        f"layout {layout}",
+        f"thresholds {thresholds}",
+        f"lines {count}",
+        *rows,
+        "end",
+    )
 
 
 def fought_report(count: int) -> bytes:
@@ -179,7 +217,9 @@ def fought_report(count: int) -> bytes:
 
 
 def fought_misses(count: int) -> bytes:
-    rows = [f"line {0x100000 + 128 * line:#010x} cold 2 useful 0 useless 2" for line in range(count)]
+    rows = [
+        f"line {0x100000 + 128 * line:#010x} cold 2 useful 0 useless 2" for line in range(count)
+    ]
     total = f"total cold {2 * count} useful 0 useless {2 * count}"
     return lines("misses 64 0", f"accesses {4 * count}", f"lines {count}", *rows, total, "end")
 
@@ -188,14 +228,27 @@ def fought_blame(count: int) -> bytes:
     rows = []
     for base in range(0x100000, 0x100000 + 128 * count, 128):
         one, other = f"{base:#010x}", f"{base + 4:#010x}"
-        rows += [f"line {one} takings 3 pairs 2 harts 2", f"pair {one} {other} taken 2 same 0", f"pair {other} {one} taken 1 same 0"]
+        rows += [
+            f"line {one} takings 3 pairs 2 harts 2",
+            f"pair {one} {other} taken 2 same 0",
+            f"pair {other} {one} taken 1 same 0",
+        ]
         rows += ["from 0 to 1 taken 2", "from 1 to 0 taken 1"]
-    told = (f"accesses {4 * count}", "layout 64 0", f"lines {count}", *rows, f"total takings {3 * count}")
+    told = (
+        f"accesses {4 * count}",
+        "layout 64 0",
+        f"lines {count}",
+        *rows,
+        f"total takings {3 * count}",
+    )
     return lines("predator blame 1", *told, "end")
 
 
 def fought_caches(count: int) -> bytes:
-    rows = [f"line {0x100000 + 128 * line:#010x} bounded 3 unbounded 3 evicted 0" for line in range(count)]
+    rows = [
+        f"line {0x100000 + 128 * line:#010x} bounded 3 unbounded 3 evicted 0"
+        for line in range(count)
+    ]
     total = f"total bounded {3 * count} unbounded {3 * count} evicted 0"
     return lines("caches 64 64 64", f"accesses {4 * count}", f"lines {count}", *rows, total, "end")
 
@@ -204,11 +257,15 @@ def written_state(count: int) -> bytes:
     """The state of a trace in which hart 0 writes so many words, each of which is a line, and whose tracking begins at the first write."""
     told = struct.pack("<8sIIQQH6xQQQ", b"PRDSTA01", 4, 0, 1, 0, 8, count, count, count)
     told += b"".join(struct.pack("<QQ", 0x100000 + 4 * it, 1) for it in range(count))
-    tracks = (struct.pack("<BBHHHqQQQQHH", 0, 1, 0, 0xFFFF, 0, 0x100000 + 4 * it, it, 0, 0, 1, 0, 0) for it in range(count))
+    tracks = (
+        struct.pack("<BBHHHqQQQQHH", 0, 1, 0, 0xFFFF, 0, 0x100000 + 4 * it, it, 0, 0, 1, 0, 0)
+        for it in range(count)
+    )
     return told + b"".join(tracks) + bytes(16)
 
 
 # ---- A program for a run: it writes a word over and over, puts out bytes, and exits.
+
 
 def _add(rd: int, rs: int, number: int) -> int:
     return (number & 0xFFF) << 20 | rs << 15 | rd << 7 | 0x13
@@ -220,7 +277,15 @@ def _upper(rd: int, number: int) -> int:
 
 def _back_unless_zero(rs: int, words: int) -> int:
     by = -4 * words
-    return (by >> 12 & 1) << 31 | (by >> 5 & 0x3F) << 25 | rs << 15 | 1 << 12 | (by >> 1 & 15) << 8 | (by >> 11 & 1) << 7 | 0x63
+    return (
+        (by >> 12 & 1) << 31
+        | (by >> 5 & 0x3F) << 25
+        | rs << 15
+        | 1 << 12
+        | (by >> 1 & 15) << 8
+        | (by >> 11 & 1) << 7
+        | 0x63
+    )
 
 
 def _number(rd: int, number: int) -> list[int]:
@@ -256,7 +321,26 @@ def guest(writes: int, pieces: int, rest: int, code: int = 0) -> Guest:
     words += [_add(17, 0, 93), _add(10, 0, code), 0x73]
     steps += 3
     text = struct.pack(f"<{len(words)}I", *words)
-    head = struct.pack("<4sBBB9xHHIIIIIHHHHHH", b"\x7fELF", 1, 1, 1, 2, 243, 1, 0x10000, 52, 0, 0, 52, 32, 1, 40, 0, 0)
+    head = struct.pack(
+        "<4sBBB9xHHIIIIIHHHHHH",
+        b"\x7fELF",
+        1,
+        1,
+        1,
+        2,
+        243,
+        1,
+        0x10000,
+        52,
+        0,
+        0,
+        52,
+        32,
+        1,
+        40,
+        0,
+        0,
+    )
     head += struct.pack("<8I", 1, 84, 0x10000, 0, len(text), 0x2000, 7, 4)
     piece = text.ljust(4096, b"\0")
     end = struct.pack("<BBBHIQQ", 6, 0, 0, 0, code, steps, writes)
@@ -287,15 +371,31 @@ def files() -> dict[str, bytes]:
     """The files that calls read."""
     pair, fights = [(0, "W", 0x1000), (1, "W", 0x1004), (0, "W", 0x1000)], fought(LINES)
     return {
-        "long.elf": LONG.file, "small.elf": SMALL.file, "plain.elf": _data("plain.elf"), "adds.elf": _data("adds_bytes.elf"),
-        "waits.elf": _data("waits_for_ever.elf"), "traps.elf": _data("traps.elf"),
-        "settings": b"tracking = 1\nreport = 1\n", "schedule": b"0 5\n", "table": TABLE,
-        "made": trace(made(MADE)), "fought": trace(fights), "short": trace(made(200)), "two": trace(pair, symbol(0x1000, 8, b"pair")),
+        "long.elf": LONG.file,
+        "small.elf": SMALL.file,
+        "plain.elf": _data("plain.elf"),
+        "adds.elf": _data("adds_bytes.elf"),
+        "waits.elf": _data("waits_for_ever.elf"),
+        "traps.elf": _data("traps.elf"),
+        "settings": b"tracking = 1\nreport = 1\n",
+        "schedule": b"0 5\n",
+        "table": TABLE,
+        "made": trace(made(MADE)),
+        "fought": trace(fights),
+        "short": trace(made(200)),
+        "two": trace(pair, symbol(0x1000, 8, b"pair")),
         "taken": trace([(0, "W", 0x1000), (1, "W", 0x1000), (1, "W", 0x2000), (0, "W", 0x1000)]),
-        "turns": trace(pair + [(1, "W", 0x1004)]), "written": trace([(0, "W", 0x100000 + 4 * it) for it in range(LINES)]),
-        "sited": sited(by_line(fights)), "few": sited(in_turn(3)),
-        "state": STATE, "rest": header(first=2) + ending(0), "bad": b"harts = 0\n", "script": b"#!/bin/sh\n",
-        "over": OVER, "late": trace(with_late(MADE)), "cut": trace(made(MADE))[:CUT_AT],
+        "turns": trace(pair + [(1, "W", 0x1004)]),
+        "written": trace([(0, "W", 0x100000 + 4 * it) for it in range(LINES)]),
+        "sited": sited(by_line(fights)),
+        "few": sited(in_turn(3)),
+        "state": STATE,
+        "rest": header(first=2) + ending(0),
+        "bad": b"harts = 0\n",
+        "script": b"#!/bin/sh\n",
+        "over": OVER,
+        "late": trace(with_late(MADE)),
+        "cut": trace(made(MADE))[:CUT_AT],
     }
 
 
@@ -304,28 +404,114 @@ def writing_cases() -> list[Case]:
     first, second = halves(made(MADE), CUT)
     plain = report("exit 0", LONG.steps, WRITES, "64 0", "16 64 100")
     small = report("exit 0", SMALL.steps, 3, "64 0", "1 64 1")
-    short, all_words = made(200), "run small.elf --settings settings --schedule schedule --set quantum=3 --trace t --output o".split()
+    short, all_words = (
+        made(200),
+        "run small.elf --settings settings --schedule schedule --set quantum=3 --trace t --output o".split(),
+    )
     kept = report("exit 0", LINES, LINES, "4 0", "1 none 1")
     return [
-        Case(("run", "long.elf", "--trace", "t", "--output", "o"), 0, plain, ("long.elf",), (("t", LONG.trace), ("o", LONG.output))),
-        Case(tuple(all_words), 0, small, ("settings", "small.elf", "schedule"), (("t", SMALL.trace), ("o", SMALL.output))),
-        Case(("run", "long.elf", "--trace", "t"), 0, plain, ("long.elf",), (("t", LONG.trace),), LONG.output + b"\n"),
-        Case(("run", "small.elf", "--output", "o", "--set", "budget=5"), 10, report("budget", 5, 1, "64 0", "16 64 100"), ("small.elf",),
-             (("o", b""),), b"predator: `budget` in the settings allows more steps, up to 68719476736\n"),
-        Case(("run", "long.elf", "--trace", "t", "--pcs", "--output", "o"), 0, plain, ("long.elf",),
-             (("t", LONG.sited), ("o", LONG.output))),
-        Case(("gen", str(MADE), "f"), 0, printed_by_case("gen.case", f"gen {MADE} f"), (), (("f", trace(made(MADE))),)),
+        Case(
+            ("run", "long.elf", "--trace", "t", "--output", "o"),
+            0,
+            plain,
+            ("long.elf",),
+            (("t", LONG.trace), ("o", LONG.output)),
+        ),
+        Case(
+            tuple(all_words),
+            0,
+            small,
+            ("settings", "small.elf", "schedule"),
+            (("t", SMALL.trace), ("o", SMALL.output)),
+        ),
+        Case(
+            ("run", "long.elf", "--trace", "t"),
+            0,
+            plain,
+            ("long.elf",),
+            (("t", LONG.trace),),
+            LONG.output + b"\n",
+        ),
+        Case(
+            ("run", "small.elf", "--output", "o", "--set", "budget=5"),
+            10,
+            report("budget", 5, 1, "64 0", "16 64 100"),
+            ("small.elf",),
+            (("o", b""),),
+            b"predator: `budget` in the settings allows more steps, up to 68719476736\n",
+        ),
+        Case(
+            ("run", "long.elf", "--trace", "t", "--pcs", "--output", "o"),
+            0,
+            plain,
+            ("long.elf",),
+            (("t", LONG.sited), ("o", LONG.output)),
+        ),
+        Case(
+            ("gen", str(MADE), "f"),
+            0,
+            printed_by_case("gen.case", f"gen {MADE} f"),
+            (),
+            (("f", trace(made(MADE))),),
+        ),
         Case(("gen", "0", "f"), 0, printed_by_case("gen.case", "gen 0 f"), (), (("f", trace([])),)),
-        Case(("split", "made", str(CUT), "a", "b"), 0, lines(f"split {CUT} {MADE - CUT}"), ("made",), (("a", first), ("b", second)),
-             again="made"),
-        Case(("split", "short", "0", "a", "b"), 0, b"split 0 200\n", ("short",), tuple(zip("ab", halves(short, 0))), again="short"),
-        Case(("convert", "made", "c"), 0, lines(f"convert 2 {MADE}"), ("made",), (("c", converted(made(MADE))),), again="made"),
-        Case(("move", "made", "table", "m"), 0, lines(f"move {MADE} {sum(it[2] == 0x10000 for it in made(MADE))}"), ("table", "made"),
-             (("m", trace(moved(made(MADE)))),), along="made"),
-        Case(("replay", "written", "--size", "4", "--settings", "settings", "--save", "s"), 0, kept, ("settings", "written"),
-             (("s", written_state(LINES)),)),
-        Case(("replay", "rest", "--size", "4", "--settings", "settings", "--resume", "state", "--save", "s"), 0,
-             report("exit 0", 0, 2, "4 0", "1 none 1"), ("settings", "state", "rest"), (("s", STATE),)),
+        Case(
+            ("split", "made", str(CUT), "a", "b"),
+            0,
+            lines(f"split {CUT} {MADE - CUT}"),
+            ("made",),
+            (("a", first), ("b", second)),
+            again="made",
+        ),
+        Case(
+            ("split", "short", "0", "a", "b"),
+            0,
+            b"split 0 200\n",
+            ("short",),
+            tuple(zip("ab", halves(short, 0))),
+            again="short",
+        ),
+        Case(
+            ("convert", "made", "c"),
+            0,
+            lines(f"convert 2 {MADE}"),
+            ("made",),
+            (("c", converted(made(MADE))),),
+            again="made",
+        ),
+        Case(
+            ("move", "made", "table", "m"),
+            0,
+            lines(f"move {MADE} {sum(it[2] == 0x10000 for it in made(MADE))}"),
+            ("table", "made"),
+            (("m", trace(moved(made(MADE)))),),
+            along="made",
+        ),
+        Case(
+            ("replay", "written", "--size", "4", "--settings", "settings", "--save", "s"),
+            0,
+            kept,
+            ("settings", "written"),
+            (("s", written_state(LINES)),),
+        ),
+        Case(
+            (
+                "replay",
+                "rest",
+                "--size",
+                "4",
+                "--settings",
+                "settings",
+                "--resume",
+                "state",
+                "--save",
+                "s",
+            ),
+            0,
+            report("exit 0", 0, 2, "4 0", "1 none 1"),
+            ("settings", "state", "rest"),
+            (("s", STATE),),
+        ),
         # (what is refused within the trace leaves the records before that)
         *left_cases(),
     ]
@@ -335,35 +521,85 @@ def left_cases() -> list[Case]:
     before = header() + records(moved(made(MADE)[:15000]))
     cut = f"cut: it ends after {CUT_AT} bytes, before the trace does: write or copy it again"
     first = header() + records(moved(with_late(MADE)[:-10]))
-    taken = "late: an access at this address isn't moved, and others would be moved to where it is: give them another place, or give " \
+    taken = (
+        "late: an access at this address isn't moved, and others would be moved to where it is: give them another place, or give "
         "this address a line of its own"
+    )
     return [
-        Case(("move", "cut", "table", "m"), 5, lines(f"predator: trace Truncated {CUT_AT}"), ("table", "cut"), (("m", before),),
-             lines(f"predator: {cut}"), along="cut", leaves=True),
-        Case(("move", "late", "over", "m"), 14, lines(f"predator: table Occupied {WAY:#010x}"), ("over", "late"), (("m", first),),
-             lines(f"predator: {taken}"), along="late", leaves=True),
+        Case(
+            ("move", "cut", "table", "m"),
+            5,
+            lines(f"predator: trace Truncated {CUT_AT}"),
+            ("table", "cut"),
+            (("m", before),),
+            lines(f"predator: {cut}"),
+            along="cut",
+            leaves=True,
+        ),
+        Case(
+            ("move", "late", "over", "m"),
+            14,
+            lines(f"predator: table Occupied {WAY:#010x}"),
+            ("over", "late"),
+            (("m", first),),
+            lines(f"predator: {taken}"),
+            along="late",
+            leaves=True,
+        ),
     ]
 
 
 def printing_cases() -> list[Case]:
     """Calls that write nothing. Some of them print more than 64 KiB."""
-    none_taken = lines("predator blame 1", "accesses 3", "layout 4 0", "lines 0", "total takings 0", "end")
+    none_taken = lines(
+        "predator blame 1", "accesses 3", "layout 4 0", "lines 0", "total takings 0", "end"
+    )
     replay = ("--size", "64", "--settings", "settings")
     caches = ("--size", "64", "--sets", "64", "--ways", "64")
     explain = ("explain", "adds.elf", "0x00011000", "64", "0", "--set", "quantum=1")
     shown = report("exit 0", SMALL.steps, 3, "64 0", "16 64 100")
     return [
         Case(("replay", "fought", *replay), 0, fought_report(LINES), ("settings", "fought")),
-        Case(("replay", "-", *replay), 0, fought_report(LINES), ("settings", "/dev/stdin"), piped="fought"),
+        Case(
+            ("replay", "-", *replay),
+            0,
+            fought_report(LINES),
+            ("settings", "/dev/stdin"),
+            piped="fought",
+        ),
         Case(("misses", "fought"), 0, fought_misses(LINES), ("fought",)),
-        Case(("misses", "-"), 0, printed_by_case("misses.case", "misses t"), ("/dev/stdin",), piped="turns"),
+        Case(
+            ("misses", "-"),
+            0,
+            printed_by_case("misses.case", "misses t"),
+            ("/dev/stdin",),
+            piped="turns",
+        ),
         Case(("blame", "sited"), 0, fought_blame(LINES), ("sited",)),
         Case(("blame", "-", "--size", "4"), 0, none_taken, ("/dev/stdin",), piped="few"),
         Case(("caches", "fought", *caches), 0, fought_caches(LINES), ("fought",)),
-        Case(("sweep", "two", "--size", "8"), 0, printed_by_case("sweep.case", "sweep t --size 8"), ("two",)),
-        Case(("place", "two", "pair"), 0, printed_by_case("place.case", "place t pair"), ("two",), again="two"),
-        Case(("check", "plain.elf"), 0, printed_by_case("programs.case", "check p"), ("plain.elf",)),
-        Case(explain, 0, printed_by_case("explain.case", "explain p 0x00011000 64 0 --settings one"), ("adds.elf",)),
+        Case(
+            ("sweep", "two", "--size", "8"),
+            0,
+            printed_by_case("sweep.case", "sweep t --size 8"),
+            ("two",),
+        ),
+        Case(
+            ("place", "two", "pair"),
+            0,
+            printed_by_case("place.case", "place t pair"),
+            ("two",),
+            again="two",
+        ),
+        Case(
+            ("check", "plain.elf"), 0, printed_by_case("programs.case", "check p"), ("plain.elf",)
+        ),
+        Case(
+            explain,
+            0,
+            printed_by_case("explain.case", "explain p 0x00011000 64 0 --settings one"),
+            ("adds.elf",),
+        ),
         Case(("run", "small.elf"), 0, shown, ("small.elf",), said=SMALL.output + b"\n"),
     ]
 
@@ -375,25 +611,94 @@ def refused_cases() -> list[Case]:
     cut = "it ends after 10 bytes, before the trace does: write or copy it again"
     none = "no object symbol of the trace has this name, nor was exactly one block made at that address"
     rows = [
-        (("gen", "03", "f"), 1, usage(), (), (("f", b""),), "'03' has a leading zero: N is a whole number up to 1000000000"),
-        (("run", "script", *outputs), 2, b"predator: elf TooShort\n", ("script",), both,
-         "script: a script: guest/build.sh builds for RV32IMA"),
-        (("run", "small.elf", "--schedule", "bad", *outputs), 3, b"predator: schedule BadLine 1\n", ("small.elf", "bad"), both,
-         "bad: line 1 isn't a hart, one space and a count, as `0 500`"),
-        (("run", "small.elf", "--settings", "bad", *outputs), 4, b"predator: settings OutOfRange harts\n", ("bad",), both,
-         "bad: `harts` is a whole number from 1 to 256"),
-        (("replay", "bad", "--save", "s"), 5, b"predator: trace Truncated 10\n", ("bad",), state, f"bad: {cut}"),
+        (
+            ("gen", "03", "f"),
+            1,
+            usage(),
+            (),
+            (("f", b""),),
+            "'03' has a leading zero: N is a whole number up to 1000000000",
+        ),
+        (
+            ("run", "script", *outputs),
+            2,
+            b"predator: elf TooShort\n",
+            ("script",),
+            both,
+            "script: a script: guest/build.sh builds for RV32IMA",
+        ),
+        (
+            ("run", "small.elf", "--schedule", "bad", *outputs),
+            3,
+            b"predator: schedule BadLine 1\n",
+            ("small.elf", "bad"),
+            both,
+            "bad: line 1 isn't a hart, one space and a count, as `0 500`",
+        ),
+        (
+            ("run", "small.elf", "--settings", "bad", *outputs),
+            4,
+            b"predator: settings OutOfRange harts\n",
+            ("bad",),
+            both,
+            "bad: `harts` is a whole number from 1 to 256",
+        ),
+        (
+            ("replay", "bad", "--save", "s"),
+            5,
+            b"predator: trace Truncated 10\n",
+            ("bad",),
+            state,
+            f"bad: {cut}",
+        ),
         (("blame", "short"), 5, b"predator: trace NoPcs\n", ("short",), (), f"short: {NO_PCS}"),
-        (("split", "bad", "3", "a", "b"), 5, b"predator: trace Truncated 10\n", ("bad",), (("a", b""), ("b", b"")), f"bad: {cut}"),
-        (("convert", "script", "c"), 5, b"predator: trace Truncated 10\n", ("script",), (("c", b""),), f"script: {cut}"),
-        (("replay", "short", "--resume", "bad", "--save", "s"), 6, b"predator: state BadState 0\n", ("bad",), state,
-         "bad: not a saved state, or only part of one: byte 0 is wrong"),
+        (
+            ("split", "bad", "3", "a", "b"),
+            5,
+            b"predator: trace Truncated 10\n",
+            ("bad",),
+            (("a", b""), ("b", b"")),
+            f"bad: {cut}",
+        ),
+        (
+            ("convert", "script", "c"),
+            5,
+            b"predator: trace Truncated 10\n",
+            ("script",),
+            (("c", b""),),
+            f"script: {cut}",
+        ),
+        (
+            ("replay", "short", "--resume", "bad", "--save", "s"),
+            6,
+            b"predator: state BadState 0\n",
+            ("bad",),
+            state,
+            "bad: not a saved state, or only part of one: byte 0 is wrong",
+        ),
         (("place", "two", "none"), 13, b"predator: place NoObject\n", ("two",), (), none),
-        (("move", "made", "bad", "m"), 14, b"predator: table BadLine 1\n", ("bad",), (("m", b""),), f"bad: line 1 {FORM}"),
-        (("move", "script", "table", "m"), 5, b"predator: trace Truncated 10\n", ("table", "script"), (("m", b""),), f"script: {cut}"),
+        (
+            ("move", "made", "bad", "m"),
+            14,
+            b"predator: table BadLine 1\n",
+            ("bad",),
+            (("m", b""),),
+            f"bad: line 1 {FORM}",
+        ),
+        (
+            ("move", "script", "table", "m"),
+            5,
+            b"predator: trace Truncated 10\n",
+            ("table", "script"),
+            (("m", b""),),
+            f"script: {cut}",
+        ),
     ]
     made_of = [Case(*row[:5], said=f"predator: {row[5]}\n".encode()) for row in rows]
-    return [it._replace(again=it.reads[0]) if it.words[0] in ("split", "convert", "place") else it for it in made_of]
+    return [
+        it._replace(again=it.reads[0]) if it.words[0] in ("split", "convert", "place") else it
+        for it in made_of
+    ]
 
 
 def cases() -> list[Case]:

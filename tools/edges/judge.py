@@ -14,7 +14,8 @@ PIECE = 65536
 
 class Wanted(NamedTuple):
     """How a call ends where one of its calls of the system went wrong. Of what is printed a front may be enough. `line` is the fault that
-    is said, and None where whatever is said will do. Outputs are `whole`, `begun` in their order, or as they `stay`."""
+    is said, and None where whatever is said will do. Outputs are `whole`, `begun` in their order, or as they `stay`.
+    """
 
     status: int
     printed: bytes
@@ -35,8 +36,14 @@ def is_said(case: Case, ending: Ending, wanted: Wanted) -> bool:
         return ending.said == case.said
     shown, found, advice = ending.said.partition(wanted.line)
     if case.refuses():
-        return bool(found) and not shown and advice == (case.said if wanted.status == case.status else b"")
-    is_shown = case.said.startswith(shown) or (shown.endswith(b"\n") and case.said.startswith(shown[:-1]))
+        return (
+            bool(found)
+            and not shown
+            and advice == (case.said if wanted.status == case.status else b"")
+        )
+    is_shown = case.said.startswith(shown) or (
+        shown.endswith(b"\n") and case.said.startswith(shown[:-1])
+    )
     return bool(found) and is_shown and not advice
 
 
@@ -58,12 +65,22 @@ def faults_of_outputs(case: Case, ending: Ending, outputs: str) -> Iterator[Faul
 
 
 def faults_of(case: Case, ending: Ending, wanted: Wanted) -> list[Fault]:
-    found = list(ending.faults) + faults_of_calls(case, ending) + list(faults_of_outputs(case, ending, wanted.outputs))
+    found = (
+        list(ending.faults)
+        + faults_of_calls(case, ending)
+        + list(faults_of_outputs(case, ending, wanted.outputs))
+    )
     if ending.status != wanted.status:
         found.append(f"status {ending.status}, and {wanted.status} is wanted")
-    is_right = wanted.printed.startswith(ending.printed) if wanted.is_front else wanted.printed == ending.printed
+    is_right = (
+        wanted.printed.startswith(ending.printed)
+        if wanted.is_front
+        else wanted.printed == ending.printed
+    )
     if not is_right:
-        found.append(f"it printed {ending.printed[:60]!r}.., {len(ending.printed)} bytes, and wanted are {wanted.printed[:60]!r}..")
+        found.append(
+            f"it printed {ending.printed[:60]!r}.., {len(ending.printed)} bytes, and wanted are {wanted.printed[:60]!r}.."
+        )
     if not is_said(case, ending, wanted):
         found.append(f"it said {ending.said[-200:]!r}, and wanted is {wanted.line!r}")
     return found
@@ -81,7 +98,8 @@ class Seen:
 
 def faults_of_opening(case: Case, it: Call, seen: Seen) -> Iterator[Fault]:
     """What is wrong with how a file is opened. Each is opened once, an input for reading alone, and an output to be written as it stands,
-    after the inputs were read to their ends. Of a trace that is read along with the writing something was read."""
+    after the inputs were read to their ends. Of a trace that is read along with the writing something was read.
+    """
     outputs = dict(case.writes)
     how = it.asked & ~(os.O_CLOEXEC | os.O_NOCTTY | os.O_LARGEFILE)
     if it.name in seen.opened and it.name != os.devnull:
@@ -94,8 +112,11 @@ def faults_of_opening(case: Case, it: Call, seen: Seen) -> Iterator[Fault]:
         return
     if how != os.O_WRONLY | os.O_CREAT:
         yield f"{it.name} is opened with {it.asked:#o}"
-    yield from (f"{it.name} is opened before {name} was read to its end" for name in case.reads
-                if name not in (seen.begun if name == case.along else seen.ended))
+    yield from (
+        f"{it.name} is opened before {name} was read to its end"
+        for name in case.reads
+        if name not in (seen.begun if name == case.along else seen.ended)
+    )
 
 
 def faults_of_calls(case: Case, ending: Ending) -> list[Fault]:
@@ -124,7 +145,12 @@ def faults_of_calls(case: Case, ending: Ending) -> list[Fault]:
                 found.append(f"{it.name} is written, and wasn't emptied")
     found += [f"{name} isn't closed" for name in still.values()]
     if handed["<1>"] != len(ending.printed):
-        found.append(f"{handed['<1>']} bytes were answered as printed, and {len(ending.printed)} are there")
-    found += [f"{handed[name]} bytes were answered as written to {name}, and {len(ending.files[name] or b'')} are there"
-              for name in seen.emptied if name in outputs and len(ending.files[name] or b"") != handed[name]]
+        found.append(
+            f"{handed['<1>']} bytes were answered as printed, and {len(ending.printed)} are there"
+        )
+    found += [
+        f"{handed[name]} bytes were answered as written to {name}, and {len(ending.files[name] or b'')} are there"
+        for name in seen.emptied
+        if name in outputs and len(ending.files[name] or b"") != handed[name]
+    ]
     return found

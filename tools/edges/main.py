@@ -60,7 +60,11 @@ SHARES = {"read": ("less", "half", "one"), "write": ("less", "half", "one", "non
 # Which calls are made anew where a signal interrupts them.
 TRIED_ANEW = ("open", "write", "ftruncate", "close")
 NO_BYTE = "failed to write whole buffer"
-READ_FAULT, WRITE_FAULT, NO_MEMORY = b"predator: read fault\n", b"predator: write fault\n", b"predator: no memory\n"
+READ_FAULT, WRITE_FAULT, NO_MEMORY = (
+    b"predator: read fault\n",
+    b"predator: write fault\n",
+    b"predator: no memory\n",
+)
 
 
 class How(NamedTuple):
@@ -80,12 +84,21 @@ def part_of(case: Case, calls: list[Call], number: int) -> str:
     """What a call of the system is for: to `read`, to `write`, to `print`, to tell whether a file can be read again (`again`), or
     something on which nothing hangs (`aside`)."""
     it = calls[number - 1]
-    text = max(at for at, other in enumerate(calls, 1) if other.call == "write" and other.name == "<1>")
-    if it.call == "close" or it.name == "<2>" or number > text or (it.call == "statx" and it.fd < 0):
+    text = max(
+        at for at, other in enumerate(calls, 1) if other.call == "write" and other.name == "<1>"
+    )
+    if (
+        it.call == "close"
+        or it.name == "<2>"
+        or number > text
+        or (it.call == "statx" and it.fd < 0)
+    ):
         return "aside"
     if it.name == "<1>":
         return "print"
-    is_first_seek = it.call == "lseek" and not any(other.call == "lseek" and other.name == it.name for other in calls[: number - 1])
+    is_first_seek = it.call == "lseek" and not any(
+        other.call == "lseek" and other.name == it.name for other in calls[: number - 1]
+    )
     if it.name in dict(case.writes):
         return "aside" if is_first_seek else "write"
     if is_first_seek:
@@ -108,7 +121,9 @@ def wanted_of(case: Case, calls: list[Call], number: int, how: How) -> Wanted:
     outputs = "stay" if case.stays() else "whole"
     if not reason:
         # (the advice of a refusal looks at the file again)
-        is_lost = part == "aside" and (it.name == "<2>" or (case.refuses() and it.call in ("lseek", "read")))
+        is_lost = part == "aside" and (
+            it.name == "<2>" or (case.refuses() and it.call in ("lseek", "read"))
+        )
         return Wanted(case.status, case.printed, False, None if is_lost else b"", outputs)
     called = {"<1>": "standard output", "/dev/stdin": "standard input"}.get(it.name, it.name)
     line = f"predator: {called}: {reason}\n".encode()
@@ -119,7 +134,9 @@ def wanted_of(case: Case, calls: list[Call], number: int, how: How) -> Wanted:
     printed = NO_MEMORY if wants_memory else WRITE_FAULT if part == "write" else READ_FAULT
     if how.lasts:
         printed, line = b"", line + f"predator: standard output: {reason}\n".encode()
-    is_begun = any(other.call == "open" and other.name in dict(case.writes) for other in calls[: number - 1])
+    is_begun = any(
+        other.call == "open" and other.name in dict(case.writes) for other in calls[: number - 1]
+    )
     status = 9 if wants_memory else 8 if part == "write" else 7
     return Wanted(status, printed, False, line, "begun" if part == "write" or is_begun else "stay")
 
@@ -129,7 +146,11 @@ def hows_of(it: Call, number: int, is_long: bool) -> Iterator[How]:
     names = ERRORS[it.call].split()
     if not is_long:
         others = [name for name in names[1:] if name != "EINTR"]
-        names = names[:1] + ["EINTR"] * ("EINTR" in names) + [others[(number + by) % len(others)] for by in (0, len(others) // 2)]
+        names = (
+            names[:1]
+            + ["EINTR"] * ("EINTR" in names)
+            + [others[(number + by) % len(others)] for by in (0, len(others) // 2)]
+        )
     for name in names:
         yield How(name, getattr(errno, name))
     for share in SHARES.get(it.call, ()):
@@ -150,7 +171,12 @@ def try_case(bench: Bench, case: Case, is_long: bool) -> None:
     """Tries a call as it is, and with each of its calls of the system going wrong."""
     good = bench.call(case)
     bench.count("as it is", "", case.words, faults_of(case, good, good_end(case)))
-    bench.count("as it is", "new", case.words, faults_of(case, bench.call(case, is_new=True), good_end(case)))
+    bench.count(
+        "as it is",
+        "new",
+        case.words,
+        faults_of(case, bench.call(case, is_new=True), good_end(case)),
+    )
     for number in chosen(good.calls, is_long):
         it = good.calls[number - 1]
         for how in hows_of(it, number, is_long):
@@ -158,10 +184,14 @@ def try_case(bench: Bench, case: Case, is_long: bool) -> None:
             if is_long and case.writes:
                 try_call(bench, case, good.calls, number, how, True)
         if part_of(case, good.calls, number) in ("read", "write", "print") and not case.refuses():
-            try_call(bench, case, good.calls, number, How("EIO for ever", errno.EIO, lasts=True), False)
+            try_call(
+                bench, case, good.calls, number, How("EIO for ever", errno.EIO, lasts=True), False
+            )
 
 
-def try_call(bench: Bench, case: Case, calls: list[Call], number: int, how: How, is_new: bool) -> None:
+def try_call(
+    bench: Bench, case: Case, calls: list[Call], number: int, how: How, is_new: bool
+) -> None:
     ending = bench.call(case, how.told(number), is_new)
     found = faults_of(case, ending, wanted_of(case, calls, number, how))
     it = calls[number - 1]
@@ -176,8 +206,16 @@ def try_room(bench: Bench, case: Case) -> None:
         if room >= sum(whole):
             found = faults_of(case, ending, good_end(case))
         else:
-            line = next((f"predator: {name}: {os.strerror(errno.ENOSPC)}\n".encode() for name, _ in case.writes
-                         if ending.said.endswith(f"predator: {name}: {os.strerror(errno.ENOSPC)}\n".encode())), b"no line")
+            line = next(
+                (
+                    f"predator: {name}: {os.strerror(errno.ENOSPC)}\n".encode()
+                    for name, _ in case.writes
+                    if ending.said.endswith(
+                        f"predator: {name}: {os.strerror(errno.ENOSPC)}\n".encode()
+                    )
+                ),
+                b"no line",
+            )
             found = faults_of(case, ending, Wanted(8, WRITE_FAULT, False, line, "begun"))
             if sum(len(it or b"") for it in ending.files.values()) != room:
                 found.append(f"the outputs have other than {room} bytes together")
@@ -198,10 +236,15 @@ def try_all(bench: Bench, is_long: bool) -> None:
 
 # ---- Mistakes that are planted: each try must find something wrong.
 
+
 def try_last_pieces(bench: Bench) -> None:
     for case in bench.writing():
         calls = bench.call(case).calls
-        last = max(at for at, it in enumerate(calls, 1) if it.call == "write" and it.name in dict(case.writes))
+        last = max(
+            at
+            for at, it in enumerate(calls, 1)
+            if it.call == "write" and it.name in dict(case.writes)
+        )
         ending = bench.call(case, {"EDGES_AT": str(last)})
         bench.count("as it is", "", case.words, faults_of(case, ending, good_end(case)))
 
@@ -210,8 +253,15 @@ def try_first_outputs(bench: Bench) -> None:
     for case in (it for it in bench.writing() if len(it.writes) > 1):
         calls = bench.call(case).calls
         first = next(at for at, it in enumerate(calls, 1) if it.call == "ftruncate")
-        ending = bench.call(case, How("EIO", errno.EIO).told(first) | {"EDGES_NAME": case.writes[1][0]})
-        bench.count("ftruncate", "EIO", case.words, faults_of(case, ending, wanted_of(case, calls, first, How("EIO", errno.EIO))))
+        ending = bench.call(
+            case, How("EIO", errno.EIO).told(first) | {"EDGES_NAME": case.writes[1][0]}
+        )
+        bench.count(
+            "ftruncate",
+            "EIO",
+            case.words,
+            faults_of(case, ending, wanted_of(case, calls, first, How("EIO", errno.EIO))),
+        )
 
 
 def try_good(bench: Bench) -> None:
@@ -247,7 +297,9 @@ PLANTS = {
 
 def must_find(bench: Bench, which: str) -> set[str]:
     """The commands of which each has to find a mistake."""
-    writing, reading = {it.words[0] for it in bench.writing()}, {it.words[0] for it in bench.cases if it.reads}
+    writing, reading = {it.words[0] for it in bench.writing()}, {
+        it.words[0] for it in bench.cases if it.reads
+    }
     return {"writing": writing, "reading": reading, "both": writing & reading, "any": set()}[which]
 
 
@@ -262,19 +314,43 @@ def try_plants(bench: Bench) -> None:
         print(f"planted: {what}: {'found: ' + first[:140] if first else 'NOT FOUND'}")
         lacking = must_find(bench, which) - {it.split()[1] for it in planted.failed}
         faults = [] if first else ["it isn't found"]
-        bench.count("planted", word, (what,), faults + [f"no call of {it} finds it" for it in sorted(lacking)])
+        bench.count(
+            "planted",
+            word,
+            (what,),
+            faults + [f"no call of {it} finds it" for it in sorted(lacking)],
+        )
 
 
 def built(work: str) -> str:
     """The library that stands between the program and the C library."""
-    source, shim = os.path.join(os.path.dirname(os.path.abspath(__file__)), "between.c"), os.path.join(work, "between.so")
-    subprocess.run(["cc", "-Wall", "-Wextra", "-Werror", "-O1", "-shared", "-fPIC", "-o", shim, source, "-ldl"], check=True)
+    source, shim = os.path.join(
+        os.path.dirname(os.path.abspath(__file__)), "between.c"
+    ), os.path.join(work, "between.so")
+    subprocess.run(
+        [
+            "cc",
+            "-Wall",
+            "-Wextra",
+            "-Werror",
+            "-O1",
+            "-shared",
+            "-fPIC",
+            "-o",
+            shim,
+            source,
+            "-ldl",
+        ],
+        check=True,
+    )
     return shim
 
 
 def main(words: list[str]) -> int:
     programs = [it for it in words if not it.startswith("-")]
-    if len(programs) != 1 or any(it.startswith("-") and it not in ("--long", "--planted", "--open") for it in words):
+    if len(programs) != 1 or any(
+        it.startswith("-") and it not in ("--long", "--planted", "--open") for it in words
+    ):
         print(__doc__)
         return 0 if words in (["--help"], ["-h"]) else 1
     with tempfile.TemporaryDirectory() as work:

@@ -6,7 +6,17 @@ from typing import Iterator
 
 import files
 from bench import OLDER, Bench, content
-from ended import IN_USE, WRITE_FAULT, Ended, fault_line, other_bytes, put, remove, try_case, unwritten
+from ended import (
+    IN_USE,
+    WRITE_FAULT,
+    Ended,
+    fault_line,
+    other_bytes,
+    put,
+    remove,
+    try_case,
+    unwritten,
+)
 from files import Case
 from judge import faults_of, good_end
 
@@ -37,7 +47,12 @@ def try_same_names(bench: Bench) -> None:
     calls += [(case.renamed(other, name).words, name) for case, name, other in beside(bench)]
     for words, name in [*calls, *((tuple(it.split()), "-") for it in WITH_INPUT)]:
         said = f"predator: '{name}' stands twice; each file that is written wants its own name\n".encode()
-        bench.count("names", "a name twice", words, Ended(bench, words).faults(1, files.usage(), said) + bench.changed())
+        bench.count(
+            "names",
+            "a name twice",
+            words,
+            Ended(bench, words).faults(1, files.usage(), said) + bench.changed(),
+        )
 
 
 def other_names(name: str) -> Iterator[tuple[str, str, tuple[int, ...]]]:
@@ -67,7 +82,9 @@ def try_links(bench: Bench) -> None:
         for what, other, opened in other_names(first):
             call = case.renamed(name, other).words
             ended = Ended(bench, call, pass_fds=opened)
-            found = ended.faults(8, WRITE_FAULT, fault_line(other, IN_USE)) + other_bytes(first, wanted)
+            found = ended.faults(8, WRITE_FAULT, fault_line(other, IN_USE)) + other_bytes(
+                first, wanted
+            )
             bench.count("names", what, call, found)
         remove(*dict(case.writes))
     bench.kept = bench.inputs()
@@ -75,7 +92,9 @@ def try_links(bench: Bench) -> None:
 
 def try_outputs_by_link(bench: Bench) -> None:
     """What is written under a link goes into the file that it leads to, and the link stays."""
-    for case, name, whole in ((case, name, whole) for case in bench.fullest() for name, whole in case.writes):
+    for case, name, whole in (
+        (case, name, whole) for case in bench.fullest() for name, whole in case.writes
+    ):
         call = case.renamed(name, "link").words
         for what in ("a hard link", "a symbolic link"):
             put("led", OLDER)
@@ -83,9 +102,18 @@ def try_outputs_by_link(bench: Bench) -> None:
                 os.link("led", "link")
             else:
                 os.symlink("led", "link")
-            found = Ended(bench, call).faults(0, case.printed, case.said) + other_bytes("led", whole)
-            is_link = os.path.samefile("led", "link") and os.path.islink("link") == (what == "a symbolic link")
-            bench.count("names", f"an output by {what}", call, found + ([] if is_link else ["the link is another file"]))
+            found = Ended(bench, call).faults(0, case.printed, case.said) + other_bytes(
+                "led", whole
+            )
+            is_link = os.path.samefile("led", "link") and os.path.islink("link") == (
+                what == "a symbolic link"
+            )
+            bench.count(
+                "names",
+                f"an output by {what}",
+                call,
+                found + ([] if is_link else ["the link is another file"]),
+            )
             remove("led", "link", *dict(case.writes))
 
 
@@ -94,11 +122,18 @@ def try_inodes(bench: Bench) -> None:
     for numbers in ("long", "devices"):
         told = {"EDGES_INODES": numbers}
         for case in (it for it in bench.writing() if it.reads or len(it.writes) > 1):
-            bench.count("names", f"{numbers} numbers", case.words, faults_of(case, bench.call(case, told), good_end(case)))
+            bench.count(
+                "names",
+                f"{numbers} numbers",
+                case.words,
+                faults_of(case, bench.call(case, told), good_end(case)),
+            )
         words = ["convert", "short", "hard"]
         os.link("short", "hard")
         ended = Ended(bench, words, env=bench.environment(told))
-        found = ended.faults(8, WRITE_FAULT, fault_line("hard", IN_USE)) + other_bytes("short", files.files()["short"])
+        found = ended.faults(8, WRITE_FAULT, fault_line("hard", IN_USE)) + other_bytes(
+            "short", files.files()["short"]
+        )
         remove("hard")
         bench.kept = bench.inputs()
         bench.count("names", f"{numbers} numbers", words, found)
@@ -111,11 +146,21 @@ def with_mask() -> None:
 def try_modes(bench: Bench) -> None:
     """A new output may be read and written by whom the mask leaves, and an older one stays the file that it is, with its rights."""
     for case in bench.writing():
-        found = Ended(bench, case.words, preexec_fn=with_mask).faults(case.status, case.printed, case.said)
-        found += [f"{name} has other rights" for name, _ in case.writes if os.stat(name).st_mode & 0o777 != 0o640]
+        found = Ended(bench, case.words, preexec_fn=with_mask).faults(
+            case.status, case.printed, case.said
+        )
+        found += [
+            f"{name} has other rights"
+            for name, _ in case.writes
+            if os.stat(name).st_mode & 0o777 != 0o640
+        ]
         was = {name: os.stat(name).st_ino for name, _ in case.writes}
         for name in was:
             os.chmod(name, 0o604)
         found += Ended(bench, case.words).faults(case.status, case.printed, case.said)
-        found += [f"{name} is another file" for name in was if (os.stat(name).st_ino, os.stat(name).st_mode & 0o777) != (was[name], 0o604)]
+        found += [
+            f"{name} is another file"
+            for name in was
+            if (os.stat(name).st_ino, os.stat(name).st_mode & 0o777) != (was[name], 0o604)
+        ]
         bench.count("names", "rights", case.words, found + unwritten(case) + bench.changed())

@@ -13,7 +13,17 @@ from typing import Callable, Iterator, Sequence
 
 import files
 from bench import SECONDS, Bench, Fault, content
-from ended import IN_USE, READ_FAULT, WRITE_FAULT, Ended, fault_line, other_bytes, put, remove, unwritten
+from ended import (
+    IN_USE,
+    READ_FAULT,
+    WRITE_FAULT,
+    Ended,
+    fault_line,
+    other_bytes,
+    put,
+    remove,
+    unwritten,
+)
 from files import Case
 
 BROKEN, NO_SPACE, NO_STREAM = "Broken pipe", "No space left on device", "Bad file descriptor"
@@ -27,6 +37,7 @@ def closing(*numbers: int) -> Callable[[], None]:
     def close() -> None:
         for it in numbers:
             os.close(it)
+
     return close
 
 
@@ -39,8 +50,17 @@ def try_closed_streams(bench: Bench) -> None:
             said = shown + fault_line("standard output", NO_STREAM) if is_lost else case.said
             is_seen = 2 not in numbers and not case.refuses()
             ended = Ended(bench, case.words, preexec_fn=closing(*numbers))
-            found = ended.faults(8 if is_lost else case.status, b"" if 1 in numbers else case.printed, said if is_seen else None)
-            bench.count("streams", f"without {' '.join(map(str, numbers))}", case.words, found + unwritten(case) + bench.changed())
+            found = ended.faults(
+                8 if is_lost else case.status,
+                b"" if 1 in numbers else case.printed,
+                said if is_seen else None,
+            )
+            bench.count(
+                "streams",
+                f"without {' '.join(map(str, numbers))}",
+                case.words,
+                found + unwritten(case) + bench.changed(),
+            )
 
 
 def shown_on(terminal: int) -> bytes:
@@ -63,7 +83,9 @@ def try_terminals(bench: Bench) -> None:
         ended = Ended(bench, case.words, stderr=theirs)
         os.close(theirs)
         said = shown_on(ours).replace(b"\r\n", b"\n")
-        found = ended.faults(case.status, case.printed, None) + ([] if said == case.said else [f"it said {said!r}"])
+        found = ended.faults(case.status, case.printed, None) + (
+            [] if said == case.said else [f"it said {said!r}"]
+        )
         bench.count("streams", "a terminal", case.words, found + unwritten(case) + bench.changed())
 
 
@@ -107,16 +129,28 @@ def try_text_into_file(bench: Bench) -> None:
         put("text", b"before\n")
         with open("text", "ab") as file:
             ended = Ended(bench, case.words, stdout=file)
-        found = ended.faults(case.status, None, case.said) + other_bytes("text", b"before\n" + case.printed) + unwritten(case)
+        found = (
+            ended.faults(case.status, None, case.said)
+            + other_bytes("text", b"before\n" + case.printed)
+            + unwritten(case)
+        )
         remove("text")
         for name in case.reads + tuple(dict(case.writes)):
             was = content(name)
             with open(name, "ab") as file:
                 ended = Ended(bench, case.words, stdout=file)
             if name in case.reads:
-                found += other_bytes(name, was) + ended.faults(8, None, None) + ended.unsaid(fault_line("standard output", IN_USE))
+                found += (
+                    other_bytes(name, was)
+                    + ended.faults(8, None, None)
+                    + ended.unsaid(fault_line("standard output", IN_USE))
+                )
             else:
-                found += other_bytes(name, WRITE_FAULT) + ended.faults(8, None, None) + ended.unsaid(fault_line(name, IN_USE))
+                found += (
+                    other_bytes(name, WRITE_FAULT)
+                    + ended.faults(8, None, None)
+                    + ended.unsaid(fault_line(name, IN_USE))
+                )
             remove(*dict(case.writes))
         bench.count("streams", "a file", case.words, found + bench.changed())
 
@@ -130,15 +164,21 @@ def try_full_pipes(bench: Bench) -> None:
         os.close(writing)
         with open(reading, "rb") as pipe:
             front = pipe.read()
-        found = ended.faults(8, None, fault_line("standard output", "Resource temporarily unavailable"))
-        found += [] if case.printed.startswith(front) and front else ["no front of the text was printed"]
+        found = ended.faults(
+            8, None, fault_line("standard output", "Resource temporarily unavailable")
+        )
+        found += (
+            [] if case.printed.startswith(front) and front else ["no front of the text was printed"]
+        )
         bench.count("streams", "a pipe that is full", case.words, found)
 
 
 def through_fifo(bench: Bench, words: Sequence[str]) -> tuple[Ended, bytes]:
     """How a call ends, and what came through the FIFO that it writes into, to a program that reads it."""
     # (into a file, which takes all of it while the call goes on)
-    with tempfile.TemporaryFile() as came, subprocess.Popen(["cat", "fifo"], stdout=came) as reading:
+    with tempfile.TemporaryFile() as came, subprocess.Popen(
+        ["cat", "fifo"], stdout=came
+    ) as reading:
         ended = Ended(bench, words)
         try:
             reading.wait(SECONDS)
@@ -159,6 +199,7 @@ def into_fifo(bench: Bench, words: Sequence[str]) -> Ended:
         if select.select([reading], [], [], SECONDS)[0]:
             os.read(reading, 10)
         os.close(reading)
+
     reader = threading.Thread(target=read_some)
     reader.start()
     ended = Ended(bench, words)
@@ -169,10 +210,14 @@ def into_fifo(bench: Bench, words: Sequence[str]) -> Ended:
 def try_fifos(bench: Bench) -> None:
     """A FIFO gets a whole output; where its reader goes, that is a fault of writing."""
     os.mkfifo("fifo")
-    for case, name, whole in ((case, name, whole) for case in bench.writing() for name, whole in case.writes):
+    for case, name, whole in (
+        (case, name, whole) for case in bench.writing() for name, whole in case.writes
+    ):
         words = ["fifo" if it == name else it for it in case.words]
         ended, came = through_fifo(bench, words)
-        found = ended.faults(case.status, case.printed, case.said) + ([] if came == whole else ["what came through is another file"])
+        found = ended.faults(case.status, case.printed, case.said) + (
+            [] if came == whole else ["what came through is another file"]
+        )
         bench.count("streams", "a FIFO", words, found)
         if len(whole) > 2 * PAGE:
             ended = into_fifo(bench, words)
@@ -187,9 +232,13 @@ def try_inputs_by_fifo(bench: Bench) -> None:
     one is refused before an output is begun."""
     os.mkfifo("fifo")
     bench.kept = bench.inputs()
-    for case, name in ((case, name) for case in bench.cases if not case.piped for name in case.reads):
+    for case, name in (
+        (case, name) for case in bench.cases if not case.piped for name in case.reads
+    ):
         words = case.renamed(name, "fifo").words
-        with subprocess.Popen(["sh", "-c", 'exec cat "$1" >fifo', "sh", name], stderr=subprocess.DEVNULL) as giving:
+        with subprocess.Popen(
+            ["sh", "-c", 'exec cat "$1" >fifo', "sh", name], stderr=subprocess.DEVNULL
+        ) as giving:
             ended = Ended(bench, words)
             giving.kill()
         if name == case.again:
@@ -212,16 +261,34 @@ def absent(case: Case) -> list[Fault]:
 
 # ---- A full disk.
 
+
 def fill(bench: Bench, mount: str, case: Case) -> list[Fault]:
     """What is wrong with a call whose outputs go onto a disk that they fill."""
     words = [f"disk/{it}" if it in dict(case.writes) else it for it in case.words]
     script = f'{mount} && {{ "$@"; ended=$?; cp disk/* .; exit $ended; }}'
-    ran = subprocess.run(["unshare", "-m", "sh", "-c", script, "sh", bench.program, *words], stdin=subprocess.DEVNULL, capture_output=True,
-                         timeout=SECONDS, check=False)
-    found = [] if (ran.returncode, ran.stdout) == (8, WRITE_FAULT) else [f"status {ran.returncode}, and it printed {ran.stdout!r}"]
+    ran = subprocess.run(
+        ["unshare", "-m", "sh", "-c", script, "sh", bench.program, *words],
+        stdin=subprocess.DEVNULL,
+        capture_output=True,
+        timeout=SECONDS,
+        check=False,
+    )
+    found = (
+        []
+        if (ran.returncode, ran.stdout) == (8, WRITE_FAULT)
+        else [f"status {ran.returncode}, and it printed {ran.stdout!r}"]
+    )
     made = [content(name) or b"" for name, _ in case.writes]
-    found += [f"{name} is no front" for (name, whole), now in zip(case.writes, made) if not whole.startswith(now)]
-    found += [] if sum(map(len, made)) == DISK else [f"the outputs have {sum(map(len, made))} bytes, and the disk {DISK}"]
+    found += [
+        f"{name} is no front"
+        for (name, whole), now in zip(case.writes, made)
+        if not whole.startswith(now)
+    ]
+    found += (
+        []
+        if sum(map(len, made)) == DISK
+        else [f"the outputs have {sum(map(len, made))} bytes, and the disk {DISK}"]
+    )
     lines = tuple(fault_line(f"disk/{name}", NO_SPACE) for name, _ in case.writes)
     found += [] if ran.stderr.endswith(lines) else [f"it said {ran.stderr[-200:]!r}"]
     remove(*dict(case.writes))
@@ -232,7 +299,10 @@ def try_full_disk(bench: Bench) -> bool:
     """Fills a disk of 16 KiB, where one may be mounted. What fits is a front, and the call fails."""
     mount = f"mount -t tmpfs -o size={DISK} none disk"
     os.makedirs("disk")
-    may = shutil.which("unshare") is not None and subprocess.call(["unshare", "-m", "sh", "-c", mount], stderr=subprocess.DEVNULL) == 0
+    may = (
+        shutil.which("unshare") is not None
+        and subprocess.call(["unshare", "-m", "sh", "-c", mount], stderr=subprocess.DEVNULL) == 0
+    )
     if may:
         one_piece = Case(("gen", "3000", "f"), 0, b"", (), (("f", files.trace(files.made(3000))),))
         for case in [one_piece, *bench.writing()]:

@@ -26,10 +26,12 @@ LITTLE = 48 << 20
 
 # The functions of the C library that between.c stands before, and those about files that would go past it.
 STOOD_BEFORE = {"open", "close", "read", "write", "lseek", "ftruncate", "statx"}
-PAST = re.compile(r"(p?(read|write)v?2?|open|creat|openat2?|lseek|f?truncate|[fl]?stat|f?statat|newfstatat|__[fl]?xstat|fdopen|fopen|"
-                  r"freopen|fread|fwrite|fputs|fputc|puts|f?printf|fflush|unlink(at)?|remove|(sym)?link(at)?|mkdir(at)?|"
-                  r"rename(at2?)?|rmdir|mmap|sendfile|copy_file_range|splice|tee|dup[23]?|fcntl|ioctl|f(data)?sync|(posix_)?fallocate|"
-                  r"syscall|readlink(at)?|v?fork|exec[lvpe]+|posix_spawnp?|system|popen|socket|send|recv|io_uring_\w+)(64)?")
+PAST = re.compile(
+    r"(p?(read|write)v?2?|open|creat|openat2?|lseek|f?truncate|[fl]?stat|f?statat|newfstatat|__[fl]?xstat|fdopen|fopen|"
+    r"freopen|fread|fwrite|fputs|fputc|puts|f?printf|fflush|unlink(at)?|remove|(sym)?link(at)?|mkdir(at)?|"
+    r"rename(at2?)?|rmdir|mmap|sendfile|copy_file_range|splice|tee|dup[23]?|fcntl|ioctl|f(data)?sync|(posix_)?fallocate|"
+    r"syscall|readlink(at)?|v?fork|exec[lvpe]+|posix_spawnp?|system|popen|socket|send|recv|io_uring_\w+)(64)?"
+)
 
 
 def try_calls(bench: Bench) -> None:
@@ -37,12 +39,25 @@ def try_calls(bench: Bench) -> None:
     if not shutil.which("objdump"):
         print("skipped: which calls there are, which wants objdump")
         return
-    listed = subprocess.run(["objdump", "-T", bench.program], capture_output=True, text=True, check=True).stdout
+    listed = subprocess.run(
+        ["objdump", "-T", bench.program], capture_output=True, text=True, check=True
+    ).stdout
     wanted = {line.split()[-1] for line in listed.splitlines() if "*UND*" in line}
     found = [f"it calls {it}" for it in sorted(wanted - STOOD_BEFORE) if PAST.fullmatch(it)]
-    found += [] if STOOD_BEFORE <= wanted else ["not all of the calls are its own that are to go wrong"]
-    code = subprocess.run(["objdump", "-d", "--no-show-raw-insn", bench.program], capture_output=True, text=True, check=True).stdout
-    found += ["it calls the system itself"] if re.search(r"\s(syscall|sysenter|int +\$0x80)\b", code) else []
+    found += (
+        [] if STOOD_BEFORE <= wanted else ["not all of the calls are its own that are to go wrong"]
+    )
+    code = subprocess.run(
+        ["objdump", "-d", "--no-show-raw-insn", bench.program],
+        capture_output=True,
+        text=True,
+        check=True,
+    ).stdout
+    found += (
+        ["it calls the system itself"]
+        if re.search(r"\s(syscall|sysenter|int +\$0x80)\b", code)
+        else []
+    )
     bench.count("main", "calls", ["objdump"], found)
 
 
@@ -58,11 +73,17 @@ def try_commands(bench: Bench) -> None:
     """No command is left out, and of none that writes a file that it reads or writes."""
     names_of = {it.split()[2] for it in files.usage().decode().splitlines()}
     left = names_of ^ {it.words[0] for it in bench.cases}
-    bench.count("main", "commands", sorted(left), [f"{it} isn't tried, or is no command" for it in left])
+    bench.count(
+        "main", "commands", sorted(left), [f"{it} isn't tried, or is no command" for it in left]
+    )
     tried = {it.words[0]: (len(it.reads), len(it.writes)) for it in bench.fullest()}
     wanted = {it: slots(it) for it in sorted(names_of) if slots(it)[1]}
     refused = {it.words[0] for it in bench.cases if it.stays() and it.writes}
-    found = [f"{it} is tried with {tried.get(it)} files, and it has {wanted[it]}" for it in wanted if tried.get(it) != wanted[it]]
+    found = [
+        f"{it} is tried with {tried.get(it)} files, and it has {wanted[it]}"
+        for it in wanted
+        if tried.get(it) != wanted[it]
+    ]
     found += [f"no refusal of {it} is tried" for it in wanted if it not in refused]
     bench.count("main", "commands", sorted(wanted), found)
 
@@ -101,7 +122,12 @@ def try_statuses(bench: Bench) -> None:
     for status, words, printed in ends():
         limit: Callable[[], None] | None = with_little_memory if status == 9 else None
         ended = Ended(bench, words.split(), preexec_fn=limit)
-        bench.count("main", f"status {status}", words.split(), ended.faults(status, printed, None) + bench.changed())
+        bench.count(
+            "main",
+            f"status {status}",
+            words.split(),
+            ended.faults(status, printed, None) + bench.changed(),
+        )
 
 
 def try_words(bench: Bench) -> None:
@@ -109,12 +135,31 @@ def try_words(bench: Bench) -> None:
     many = "run --settings settings --schedule schedule --set quantum=3 --trace t --output o"
     outputs = (("t", SMALL.trace), ("o", SMALL.output))
     text = report("exit 0", SMALL.steps, 3, "64 0", "1 64 1")
-    try_case(bench, "main", "words", Case((*many.split(), "--", "small.elf"), 0, text, ("settings", "small.elf", "schedule"), outputs))
-    more, twice = "unexpected argument 'more' found", "the argument '--set <set>' cannot be used multiple times"
-    for words, why in ((f"{many} small.elf more", more), ("check plain.elf" + " more" * 100, more),
-                       ("run small.elf" + " --set=quantum=3" * 20, twice)):
+    try_case(
+        bench,
+        "main",
+        "words",
+        Case(
+            (*many.split(), "--", "small.elf"),
+            0,
+            text,
+            ("settings", "small.elf", "schedule"),
+            outputs,
+        ),
+    )
+    more, twice = (
+        "unexpected argument 'more' found",
+        "the argument '--set <set>' cannot be used multiple times",
+    )
+    for words, why in (
+        (f"{many} small.elf more", more),
+        ("check plain.elf" + " more" * 100, more),
+        ("run small.elf" + " --set=quantum=3" * 20, twice),
+    ):
         said = f"predator: {why}\n".encode()
-        try_case(bench, "main", "words", Case(tuple(words.split()), 1, files.usage(), (), outputs, said))
+        try_case(
+            bench, "main", "words", Case(tuple(words.split()), 1, files.usage(), (), outputs, said)
+        )
 
 
 def try_dash(bench: Bench) -> None:
@@ -124,19 +169,40 @@ def try_dash(bench: Bench) -> None:
     for case in (it for it in bench.cases if it.words[0] in FROM_INPUT and not it.piped):
         command, trace, *others = case.words
         said = case.said.replace(f"predator: {trace}: ".encode(), b"predator: standard input: ")
-        try_case(bench, "main", "-", case.renamed(trace, "/dev/stdin")._replace(words=(command, "-", *others), piped=trace, said=said))
+        try_case(
+            bench,
+            "main",
+            "-",
+            case.renamed(trace, "/dev/stdin")._replace(
+                words=(command, "-", *others), piped=trace, said=said
+            ),
+        )
     remove("-")
     bench.kept = bench.inputs()
     cut = b"predator: standard input: it ends after 10 bytes, before the trace does: write or copy it again\n"
-    for words in ("replay -", "misses -", "blame -", "caches - --size 64 --sets 64 --ways 64", "sweep - --size 8", "move - table m"):
+    for words in (
+        "replay -",
+        "misses -",
+        "blame -",
+        "caches - --size 64 --sets 64 --ways 64",
+        "sweep - --size 8",
+        "move - table m",
+    ):
         with open("bad", "rb") as given:
-            found = Ended(bench, words.split(), stdin=given).faults(5, b"predator: trace Truncated 10\n", cut)
+            found = Ended(bench, words.split(), stdin=given).faults(
+                5, b"predator: trace Truncated 10\n", cut
+            )
         bench.count("main", "-", words.split(), found + bench.changed())
     # (one name is one file in a call)
-    for status, words, fault in ((4, "replay - --settings -", "settings OutOfRange harts"), (6, "replay - --resume -", "state BadState 0"),
-                                 (14, "move - - m", "table BadLine 1")):
+    for status, words, fault in (
+        (4, "replay - --settings -", "settings OutOfRange harts"),
+        (6, "replay - --resume -", "state BadState 0"),
+        (14, "move - - m", "table BadLine 1"),
+    ):
         with open("bad", "rb") as given:
-            found = Ended(bench, words.split(), stdin=given).faults(status, f"predator: {fault}\n".encode(), None)
+            found = Ended(bench, words.split(), stdin=given).faults(
+                status, f"predator: {fault}\n".encode(), None
+            )
         bench.count("main", "-", words.split(), found + bench.changed())
 
 
@@ -154,19 +220,25 @@ def try_files_of_that_name(bench: Bench) -> None:
             remove("-")
             bench.kept = bench.inputs()
             if name in case.reads:
-                said, before = fault_line("-", "No such file or directory"), called.reads[: called.reads.index("-")]
+                said, before = (
+                    fault_line("-", "No such file or directory"),
+                    called.reads[: called.reads.index("-")],
+                )
                 missing = called._replace(status=7, printed=READ_FAULT, reads=before, said=said)
-                found = faults_of(missing, bench.call(missing), good_end(missing)._replace(outputs="stay"))
+                found = faults_of(
+                    missing, bench.call(missing), good_end(missing)._replace(outputs="stay")
+                )
                 bench.count("main", "-", missing.words, found)
 
 
 # ---- A trace that changes between two readings.
 
+
 def changes() -> Iterator[tuple[bytes, int, str]]:
     """What `made` may be when it is read again, and how that is refused: as no trace, or for the first field in which it differs."""
     touches = files.made(files.MADE)
     whole, count = files.trace(touches), files.MADE
-    behind_header = whole[len(files.header()):]
+    behind_header = whole[len(files.header()) :]
     yield whole[:-1], 5, f"trace Truncated {len(whole) - 1}"
     yield whole + b"\0", 5, f"trace AfterEnd {len(whole)}"
     yield b"PRDTRC09" + whole[8:], 5, "trace BadMagic"
@@ -179,11 +251,20 @@ def changes() -> Iterator[tuple[bytes, int, str]]:
 def try_changed_traces(bench: Bench) -> None:
     """A trace that is another one when it is read again is refused for what was read then."""
     two = content("two") or b""
-    of_two = [(other, 5, line) for other, line in (
-        (two[:-1], f"trace Truncated {len(two) - 1}"), (two + b"\0", f"trace AfterEnd {len(two)}"), (b"harts = 0\n", "trace Truncated 10"),
-        (b"PRDTRC09" + two[8:], "trace BadMagic"))]
-    for words, name, becomes in ((f"split made {files.CUT} a b", "made", list(changes())), ("convert made c", "made", list(changes())),
-                                 ("place two pair", "two", of_two)):
+    of_two = [
+        (other, 5, line)
+        for other, line in (
+            (two[:-1], f"trace Truncated {len(two) - 1}"),
+            (two + b"\0", f"trace AfterEnd {len(two)}"),
+            (b"harts = 0\n", "trace Truncated 10"),
+            (b"PRDTRC09" + two[8:], "trace BadMagic"),
+        )
+    ]
+    for words, name, becomes in (
+        (f"split made {files.CUT} a b", "made", list(changes())),
+        ("convert made c", "made", list(changes())),
+        ("place two pair", "two", of_two),
+    ):
         first = content(name) or b""
         for other, status, line in becomes:
             put("other", other)
@@ -198,34 +279,71 @@ def try_changed_traces(bench: Bench) -> None:
 
 # ---- What one would expect, and the program doesn't do.
 
+
 def try_open(bench: Bench) -> None:
     """Standard input is opened anew as /dev/stdin: a file is read from its front though some of it was read before, and a socket isn't
-    read. A read that a signal interrupts isn't made anew. A limit on the size of files (`ulimit -f`) ends the process by a signal."""
+    read. A read that a signal interrupts isn't made anew. A limit on the size of files (`ulimit -f`) ends the process by a signal.
+    """
     case = next(it for it in bench.cases if it.words == ("misses", "-"))
     put("behind", b"12345" + (content(case.piped) or b""))
     with open("behind", "rb", buffering=0) as file:
         file.read(5)
-        bench.count("open", "the rest of a file", case.words, Ended(bench, case.words, stdin=file).faults(0, case.printed, b""))
+        bench.count(
+            "open",
+            "the rest of a file",
+            case.words,
+            Ended(bench, case.words, stdin=file).faults(0, case.printed, b""),
+        )
     remove("behind")
     ours, theirs = socket.socketpair()
     with ours, theirs:
         ours.sendall(content(case.piped) or b"")
         ours.shutdown(socket.SHUT_WR)
-        bench.count("open", "a socket", case.words, Ended(bench, case.words, stdin=theirs).faults(0, case.printed, b""))
+        bench.count(
+            "open",
+            "a socket",
+            case.words,
+            Ended(bench, case.words, stdin=theirs).faults(0, case.printed, b""),
+        )
     first = next(at for at, it in enumerate(bench.call(case).calls, 1) if it.call == "read")
     ending = bench.call(case, {"EDGES_AT": str(first), "EDGES_ERROR": str(errno.EINTR)})
-    bench.count("open", "a read that is interrupted", case.words, faults_of(case, ending, good_end(case)))
+    bench.count(
+        "open", "a read that is interrupted", case.words, faults_of(case, ending, good_end(case))
+    )
     words = ["convert", "made", "c"]
     ended = Ended(bench, words, preexec_fn=with_small_files)
-    bench.count("open", "a limit on files", words, ended.faults(8, WRITE_FAULT, fault_line("c", "File too large")))
+    bench.count(
+        "open",
+        "a limit on files",
+        words,
+        ended.faults(8, WRITE_FAULT, fault_line("c", "File too large")),
+    )
     remove("c")
 
 
 TRIES = (
-    try_calls, try_commands, try_statuses, try_words, try_dash, try_files_of_that_name, names.try_names_by_case, names.try_same_names,
-    names.try_links, names.try_inodes, names.try_outputs_by_link, names.try_modes, streams.try_closed_streams, streams.try_terminals,
-    streams.try_full_output, streams.try_output_as_file, streams.try_text_into_file, streams.try_full_pipes, streams.try_fifos,
-    streams.try_inputs_by_fifo, try_changed_traces)
+    try_calls,
+    try_commands,
+    try_statuses,
+    try_words,
+    try_dash,
+    try_files_of_that_name,
+    names.try_names_by_case,
+    names.try_same_names,
+    names.try_links,
+    names.try_inodes,
+    names.try_outputs_by_link,
+    names.try_modes,
+    streams.try_closed_streams,
+    streams.try_terminals,
+    streams.try_full_output,
+    streams.try_output_as_file,
+    streams.try_text_into_file,
+    streams.try_full_pipes,
+    streams.try_fifos,
+    streams.try_inputs_by_fifo,
+    try_changed_traces,
+)
 
 
 def try_all(bench: Bench) -> None:

@@ -7,7 +7,11 @@ def told(accesses, size, sets, ways):
     for hart, addr, writes in accesses:
         line = addr // size
         if writes:
-            others = [own for (other, at), own in lists.items() if other != hart and at == line % sets and line in own]
+            others = [
+                own
+                for (other, at), own in lists.items()
+                if other != hart and at == line % sets and line in own
+            ]
             if line in written:
                 bounded, unbounded = counts[line]
                 counts[line] = bounded + bool(others), unbounded + bool(held[line] - {hart})
@@ -24,7 +28,9 @@ def told(accesses, size, sets, ways):
         if len(own) > ways:
             last = own.pop()
             evicted[last] = evicted.get(last, 0) + 1
-    taken = sorted((-unbounded, line, bounded) for line, (bounded, unbounded) in counts.items() if unbounded)
+    taken = sorted(
+        (-unbounded, line, bounded) for line, (bounded, unbounded) in counts.items() if unbounded
+    )
     yield from (f"caches {size} {sets} {ways}", f"accesses {len(accesses)}", f"lines {len(taken)}")
     for unbounded, line, bounded in taken:
         yield f"line {line * size:#010x} bounded {bounded} unbounded {-unbounded} evicted {evicted.get(line, 0)}"

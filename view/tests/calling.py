@@ -7,7 +7,9 @@ HERE = os.path.dirname(os.path.abspath(__file__))
 TOP = os.path.dirname(os.path.dirname(HERE))
 STAND_IN = os.path.join(HERE, "stand_in.py")
 # The program, where it is built.
-PROGRAM = os.environ.get("PREDATOR_PROGRAM") or os.path.join(TOP, "crates", "predator", "out", "predator")
+PROGRAM = os.environ.get("PREDATOR_PROGRAM") or os.path.join(
+    TOP, "crates", "predator", "out", "predator"
+)
 # What a run of the small programs has turns of.
 TURNS = ("--set", "quantum=3")
 
@@ -30,7 +32,14 @@ def view(*words, program=STAND_IN, lacks="", cwd=None, **more):
         words = ("run", "--latency=0", *words[1:])
     own = {"PREDATOR_PROGRAM": program, "STAND_IN_LACKS": lacks, "PREDATOR_BUILD": "no", **more}
     command = [os.path.join(TOP, "bin", "predator"), "view", *words]
-    ran = subprocess.run(command, capture_output=True, encoding="utf-8", env={**os.environ, **own}, cwd=cwd, stdin=subprocess.DEVNULL)
+    ran = subprocess.run(
+        command,
+        capture_output=True,
+        encoding="utf-8",
+        env={**os.environ, **own},
+        cwd=cwd,
+        stdin=subprocess.DEVNULL,
+    )
     return ran.returncode, ran.stdout, ran.stderr
 
 

@@ -90,7 +90,15 @@ def extended(number, width):
 
 class Hart:
     def __init__(self):
-        self.phase, self.code, self.regs, self.pc, self.sites, self.held, self.of = FREE, 0, [0] * 32, 0, [], None, 0
+        self.phase, self.code, self.regs, self.pc, self.sites, self.held, self.of = (
+            FREE,
+            0,
+            [0] * 32,
+            0,
+            [],
+            None,
+            0,
+        )
 
 
 class Machine:
@@ -99,7 +107,9 @@ class Machine:
     def __init__(self, path, settings):
         with open(path, "rb") as file:
             elf = ELFFile(file)
-            self.segments = [it for it in elf.iter_segments() if it["p_type"] == "PT_LOAD" and it["p_memsz"]]
+            self.segments = [
+                it for it in elf.iter_segments() if it["p_type"] == "PT_LOAD" and it["p_memsz"]
+            ]
             self.low = min(it["p_vaddr"] for it in self.segments) // 4096 * 4096
             self.memory = bytearray(settings["memory"])
             for it in self.segments:
@@ -107,8 +117,15 @@ class Machine:
                 self.memory[at : at + it["p_filesz"]] = it.data()
             table = elf.get_section_by_name(".symtab")
             kinds = {"STT_OBJECT": 1, "STT_FUNC": 2}
-            kept = [it for it in (table.iter_symbols() if table else ()) if it["st_info"]["type"] in kinds and it["st_size"]]
-            self.symbols = [(kinds[it["st_info"]["type"]], it["st_value"], it["st_size"], it.name.encode()) for it in kept]
+            kept = [
+                it
+                for it in (table.iter_symbols() if table else ())
+                if it["st_info"]["type"] in kinds and it["st_size"]
+            ]
+            self.symbols = [
+                (kinds[it["st_info"]["type"]], it["st_value"], it["st_size"], it.name.encode())
+                for it in kept
+            ]
             entry = elf["e_entry"]
         self.settings, self.top = settings, self.low + settings["memory"]
         self.stacks = self.top - settings["harts"] * settings["stack"]
@@ -121,7 +138,11 @@ class Machine:
     def start(self, number, pc, argument, gp):
         hart = self.harts[number] = Hart()
         hart.phase, hart.pc = RUNS, pc
-        hart.regs[2], hart.regs[3], hart.regs[10] = self.top - number * self.settings["stack"], gp, argument
+        hart.regs[2], hart.regs[3], hart.regs[10] = (
+            self.top - number * self.settings["stack"],
+            gp,
+            argument,
+        )
 
     def place(self, addr, size, cause):
         if addr % size:
@@ -157,7 +178,11 @@ class Machine:
                 if last in runs and turn < self.settings["quantum"]:
                     turn += 1
                 else:
-                    after = runs if last is None else [it for it in runs if it > last] + [it for it in runs if it <= last]
+                    after = (
+                        runs
+                        if last is None
+                        else [it for it in runs if it > last] + [it for it in runs if it <= last]
+                    )
                     # (a hart that goes on alone has more turns in a row than the quantum, and gives way at once)
                     last, turn = after[0], turn + 1 if after[0] == last else 1
                 self.step(last)
@@ -188,7 +213,12 @@ class Machine:
             offset = extended(bits(word, 31, 25) << 5 | rd, 12)
             self.store(number, a + offset & MASK, 1 << kind, b, pc)
         elif opcode == 0x63:
-            offset = bits(word, 31, 31) << 12 | bits(word, 7, 7) << 11 | bits(word, 30, 25) << 5 | bits(word, 11, 8) << 1
+            offset = (
+                bits(word, 31, 31) << 12
+                | bits(word, 7, 7) << 11
+                | bits(word, 30, 25) << 5
+                | bits(word, 11, 8) << 1
+            )
             if BRANCHES[kind](a, b):
                 to = pc + extended(offset, 13)
         elif opcode in (0x37, 0x17):
@@ -217,7 +247,11 @@ class Machine:
             hart.sites.append(pc)
         if is_plain:
             return pc + extended(
-                bits(word, 31, 31) << 20 | bits(word, 19, 12) << 12 | bits(word, 20, 20) << 11 | bits(word, 30, 21) << 1, 21
+                bits(word, 31, 31) << 20
+                | bits(word, 19, 12) << 12
+                | bits(word, 20, 20) << 11
+                | bits(word, 30, 21) << 1,
+                21,
             )
         return a + immediate & ~1
 
@@ -240,7 +274,13 @@ class Machine:
     def call(self, number, hart):
         a, b, c, what = hart.regs[10], hart.regs[11], hart.regs[12], hart.regs[17]
         hart.pc += 4
-        calls = {64: self.write, 1024: self.alloc, 1025: self.free, 1026: self.spawn, 1029: self.wake}
+        calls = {
+            64: self.write,
+            1024: self.alloc,
+            1025: self.free,
+            1026: self.spawn,
+            1029: self.wake,
+        }
         if what == 93:
             hart.phase, hart.code = ENDED, a
             joiner = next((it for it in self.harts if it.phase == JOINS and it.of == number), None)

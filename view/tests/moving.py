@@ -17,7 +17,14 @@ import traces  # noqa: E402
 OF_TABLE, OF_WORDS = 14, 1
 MOST = 1 << 20
 NUMBER = re.compile(rb"0x[0-9a-fA-F]{1,8}|0|[1-9][0-9]*")
-TAGS = {(False, 1): 0x11, (False, 2): 0x12, (False, 4): 0x14, (True, 1): 0x21, (True, 2): 0x22, (True, 4): 0x24}
+TAGS = {
+    (False, 1): 0x11,
+    (False, 2): 0x12,
+    (False, 4): 0x14,
+    (True, 1): 0x21,
+    (True, 2): 0x22,
+    (True, 4): 0x24,
+}
 
 
 class Refused(Exception):

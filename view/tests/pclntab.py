@@ -30,11 +30,26 @@ OWN = [
     Own("main.plain", 32, 0, [(1, 32)], [(7, 16), (8, 8), (6, 8)]),
     # (lib.inner is called at byte 15, and calls lib.deep at byte 31)
     Own(
-        *("main.outer", 64, 0, [(0, 16), (1, 32), (0, 16)], [(300, 15), (301, 1), (20, 15), (21, 1), (50, 16), (302, 16)]),
+        *(
+            "main.outer",
+            64,
+            0,
+            [(0, 16), (1, 32), (0, 16)],
+            [(300, 15), (301, 1), (20, 15), (21, 1), (50, 16), (302, 16)],
+        ),
         *([(-1, 16), (0, 16), (1, 16), (-1, 16)], [("lib.inner", 15), ("lib.deep", 31)]),
     ),
     Own("github.com/x/y%2ev3.(*T).M", 16, 2, [(0, 16)], [(1000000, 16)]),
-    Own("main.bare", 32, 0, [(0, 32)], [(90, 16), (91, 16)], [(0, 16), (-1, 16)], [("lib.inner", 20)], has_tree=False),
+    Own(
+        "main.bare",
+        32,
+        0,
+        [(0, 32)],
+        [(90, 16), (91, 16)],
+        [(0, 16), (-1, 16)],
+        [("lib.inner", 20)],
+        has_tree=False,
+    ),
     Own("main.unknown", 16, 3, [(0, 16)], [(5, 16)]),
     Own("main.short", 16, 0, [(0, 4)], [(60, 4)], [(-1, 4)]),
 ]
@@ -73,14 +88,31 @@ class Store:
 class Made:
     """A program with a table. `way` is how addresses are written: `fixed`, or moved by relocations with `addends` or by `packed` ones."""
 
-    def __init__(self, version: str = "1.18", way: str = "fixed", own: Sequence[Own] = OWN, has_module: bool = True) -> None:
+    def __init__(
+        self,
+        version: str = "1.18",
+        way: str = "fixed",
+        own: Sequence[Own] = OWN,
+        has_module: bool = True,
+    ) -> None:
         self.version, self.way, self.own, self.is_wide = version, way, own, version == "1.16"
         self.pointers: dict[int, int] = {}
         self.starts = [TEXT + sum(it.size for it in own[:at]) for at in range(len(own) + 1)]
-        self.parts = {TEXT: bytearray(b"\xcc" * (self.starts[-1] - TEXT)), TABLE: bytearray(0x2000), MODULE: bytearray(0x200)}
-        self.names, self.files, self.values, self.trees = Store(b"go.buildid\0"), Store(b"/src/a.go\0"), Store(b"\0"), Store(b"\0" * 8)
+        self.parts = {
+            TEXT: bytearray(b"\xcc" * (self.starts[-1] - TEXT)),
+            TABLE: bytearray(0x2000),
+            MODULE: bytearray(0x200),
+        }
+        self.names, self.files, self.values, self.trees = (
+            Store(b"go.buildid\0"),
+            Store(b"/src/a.go\0"),
+            Store(b"\0"),
+            Store(b"\0" * 8),
+        )
         told = [self.told(it) for it in own]
-        units = b"".join(struct.pack("<I", MISSING if it is None else self.files.text(it)) for it in FILES)
+        units = b"".join(
+            struct.pack("<I", MISSING if it is None else self.files.text(it)) for it in FILES
+        )
         self.places = [TABLE + (64 if self.is_wide else 72)]
         for it in (self.names.data, units, self.files.data, self.values.data):
             self.put(self.places[-1], it)
@@ -95,11 +127,20 @@ class Made:
 
     def told(self, own: Own) -> tuple[int, int, int, int, int]:
         """Where a function's name, files, lines, tables of inlined calls and tree are."""
-        found = [self.values.put(encoded(it)) if it else 0 for it in (own.files, own.lines, own.index)]
+        found = [
+            self.values.put(encoded(it)) if it else 0 for it in (own.files, own.lines, own.index)
+        ]
         calls = [(self.names.text(name), place) for name, place in own.calls]
         how = struct.Struct("<4xIi4x") if self.version == "1.20" else struct.Struct("<hxxiiIi")
-        tree = b"".join(how.pack(*it) if self.version == "1.20" else how.pack(at - 1, 0, 0, *it) for at, it in enumerate(calls))
-        return (self.names.text(own.name), *found, self.trees.put(tree) if tree and own.has_tree else MISSING)
+        tree = b"".join(
+            how.pack(*it) if self.version == "1.20" else how.pack(at - 1, 0, 0, *it)
+            for at, it in enumerate(calls)
+        )
+        return (
+            self.names.text(own.name),
+            *found,
+            self.trees.put(tree) if tree and own.has_tree else MISSING,
+        )
 
     def put(self, addr: int, data: bytes) -> None:
         begin = max(it for it in self.parts if it <= addr)
@@ -114,8 +155,15 @@ class Made:
         self.put(addr, struct.pack("<Q", 0 if self.way == "addends" else to))
 
     def head(self) -> None:
-        words = [len(self.own), len(FILES), *([] if self.is_wide else [0]), *(it - TABLE for it in self.places)]
-        self.put(TABLE, struct.pack(f"<IBBBB{len(words)}Q", MAGICS[self.version], 0, 0, 1, 8, *words))
+        words = [
+            len(self.own),
+            len(FILES),
+            *([] if self.is_wide else [0]),
+            *(it - TABLE for it in self.places),
+        ]
+        self.put(
+            TABLE, struct.pack(f"<IBBBB{len(words)}Q", MAGICS[self.version], 0, 0, 1, 8, *words)
+        )
         if not self.is_wide:
             self.point(TABLE + 24, TEXT)
 
@@ -136,13 +184,19 @@ class Made:
         else:
             self.put(addr, struct.pack("<I", start - TEXT))
 
-    def function(self, place: int, own: Own, start: int, told: tuple[int, int, int, int, int]) -> int:
+    def function(
+        self, place: int, own: Own, start: int, told: tuple[int, int, int, int, int]
+    ) -> int:
         """Puts a function's record, and tells where the next one may be."""
         name, files, lines, index, tree = told
         tables, pieces = (4 if own.index else 3 if own.unit else 2), (4 if own.calls else 3)
         self.start(place, start)
         unread = 7 if self.version == "1.20" else 3
-        rest = struct.pack("<I12xIIII", name, files, lines, tables, own.unit) + bytes(unread) + bytes([pieces])
+        rest = (
+            struct.pack("<I12xIIII", name, files, lines, tables, own.unit)
+            + bytes(unread)
+            + bytes([pieces])
+        )
         place += 8 if self.is_wide else 4
         # (the other tables and pieces are of what isn't read here)
         self.put(place, rest + struct.pack("<IIII", 1, 1, index, 1)[: 4 * tables])
@@ -158,7 +212,9 @@ class Made:
     def module(self) -> None:
         self.point(MODULE, TABLE)
         names, units, files, values, functions = self.places
-        for word, to, size in zip((1, 4, 7, 10, 13, 16), (*self.places, functions), (1, 2, 3, 4, 5, len(self.own) + 1)):
+        for word, to, size in zip(
+            (1, 4, 7, 10, 13, 16), (*self.places, functions), (1, 2, 3, 4, 5, len(self.own) + 1)
+        ):
             self.point(MODULE + 8 * word, to)
             self.put(MODULE + 8 * word + 8, struct.pack("<QQ", size, size))
         for word, to in ((20, TEXT), (21, self.starts[-1]), (22, TEXT), (23, self.starts[-1])):
@@ -191,10 +247,21 @@ class Made:
         """The program's file: for x86-64, by its class one of 64 bits."""
         segments = list(self.segments())
         place = 64 + 56 * len(segments)
-        head = struct.pack("<16sHHIQQQIHHHHHH", b"\x7fELF" + bytes([kind, 1, 1]), 2 if self.way == "fixed" else 3, machine, 1, TEXT, 64, 0,
-                           *(0, 64, 56, len(segments), 64, 0, 0))
+        head = struct.pack(
+            "<16sHHIQQQIHHHHHH",
+            b"\x7fELF" + bytes([kind, 1, 1]),
+            2 if self.way == "fixed" else 3,
+            machine,
+            1,
+            TEXT,
+            64,
+            0,
+            *(0, 64, 56, len(segments), 64, 0, 0),
+        )
         table, body = b"", b""
         for it, rights, addr, data in segments:
-            table += struct.pack("<IIQQQQQQ", it, rights, place + len(body), addr, addr, len(data), len(data), 8)
+            table += struct.pack(
+                "<IIQQQQQQ", it, rights, place + len(body), addr, addr, len(data), len(data), 8
+            )
             body += data
         return head + table + body

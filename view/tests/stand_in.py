@@ -22,7 +22,16 @@ import traces  # noqa: E402
 
 LACKS = os.environ.get("STAND_IN_LACKS", "").split()
 HAS_MOVE = "move" in os.environ.get("STAND_IN_HAS", "").split()
-USUAL = {"harts": 8, "memory": 1 << 24, "stack": 1 << 16, "tracking": 16, "report": 100, "quantum": 100, "budget": 10**8, "line": 64}
+USUAL = {
+    "harts": 8,
+    "memory": 1 << 24,
+    "stack": 1 << 16,
+    "tracking": 16,
+    "report": 100,
+    "quantum": 100,
+    "budget": 10**8,
+    "line": 64,
+}
 USAGE = {
     "run": "PROGRAM [--settings F] [--schedule F] [--trace F] [--pcs] [--output F]",
     "replay": "TRACE [--settings F] [--size N] [--shift N] [--save F] [--resume F]",
@@ -59,7 +68,12 @@ def settings_of(options):
     if "--settings" in options:
         with open(options["--settings"], "rb") as file:
             found.update(tomllib.load(file))
-    found.update({key: int(value) for key, value in (it.split("=") for it in options.get("--set", "").split(",") if it)})
+    found.update(
+        {
+            key: int(value)
+            for key, value in (it.split("=") for it in options.get("--set", "").split(",") if it)
+        }
+    )
     return found
 
 
@@ -80,15 +94,25 @@ def case_of(trace, settings, options):
             accesses.append(judge_report.Access(it[0], it[2], it[1], 1))
     outcome, cause, hart, value, steps = struct.unpack("<BBHIQ", trace[-24:-8])
     trap = f"trap hart {hart} pc {value:#010x} {judge_report.CAUSES[cause - 1]}"
-    ending = judge_report.Ending((f"exit {value}", "budget", "deadlock", trap, "part")[outcome], steps, (0, 0, 0, 0))
-    layout = (int(options.get("--size", 64)), int(options.get("--shift", 0))) if {"--size", "--shift"} & {*options} else None
+    ending = judge_report.Ending(
+        (f"exit {value}", "budget", "deadlock", trap, "part")[outcome], steps, (0, 0, 0, 0)
+    )
+    layout = (
+        (int(options.get("--size", 64)), int(options.get("--shift", 0)))
+        if {"--size", "--shift"} & {*options}
+        else None
+    )
     return case_under(settings, accesses, records, ending, layout)
 
 
 def case_under(settings, accesses, records, ending, layout=None):
     prediction = settings.get("prediction", max(64, settings["tracking"]))
-    harts, tracking, report, native = (settings[it] for it in ("harts", "tracking", "report", "line"))
-    return judge_report.Case(accesses, records, ending, harts, tracking, prediction, report, native, layout)
+    harts, tracking, report, native = (
+        settings[it] for it in ("harts", "tracking", "report", "line")
+    )
+    return judge_report.Case(
+        accesses, records, ending, harts, tracking, prediction, report, native, layout
+    )
 
 
 def machine_of(name, options, runs=True):
@@ -106,16 +130,31 @@ def ending_of(text):
     words = text.split()
     if words[0] == "trap":
         return 3, judge_report.CAUSES.index(words[-1]) + 1, int(words[2]), int(words[4], 16)
-    return {"exit": 0, "budget": 1, "deadlock": 2}[words[0]], 0, 0, int(words[1]) if words[0] == "exit" else 0
+    return (
+        {"exit": 0, "budget": 1, "deadlock": 2}[words[0]],
+        0,
+        0,
+        int(words[1]) if words[0] == "exit" else 0,
+    )
 
 
 def case_of_run(machine):
     """What a run did, as judge_report has it."""
     kinds = {"alloc": traces.Alloc, "free": traces.Free}
-    records = [(0, traces.Symbol(*it)) for it in machine.symbols] + [(at, kinds[it[0]](*it[1:])) for at, it in machine.records]
-    accesses = [judge_report.Access(hart, writes, addr, size) for hart, addr, writes, size, _ in machine.accesses]
+    records = [(0, traces.Symbol(*it)) for it in machine.symbols] + [
+        (at, kinds[it[0]](*it[1:])) for at, it in machine.records
+    ]
+    accesses = [
+        judge_report.Access(hart, writes, addr, size)
+        for hart, addr, writes, size, _ in machine.accesses
+    ]
     fields = ending_of(machine.ending)
-    return case_under(machine.settings, accesses, records, judge_report.Ending(machine.ending, machine.steps, fields))
+    return case_under(
+        machine.settings,
+        accesses,
+        records,
+        judge_report.Ending(machine.ending, machine.steps, fields),
+    )
 
 
 def run(names, options):
@@ -126,7 +165,9 @@ def run(names, options):
     if "--trace" in options:
         with open(options["--trace"], "wb") as file:
             pcs, trace = iter([it[4] for it in machine.accesses]), judge_report.trace_of(case)
-            file.write(traces.with_pcs(trace, lambda *_: next(pcs)) if "--pcs" in options else trace)
+            file.write(
+                traces.with_pcs(trace, lambda *_: next(pcs)) if "--pcs" in options else trace
+            )
     yield from judge_report.report_of(case)
 
 
@@ -151,11 +192,23 @@ def explain(names, options):
             pair[1] += victim[1] // 4 == addr // 4
             harts[victim[0], hart] = harts.get((victim[0], hart), 0) + 1
         held = {hart} if writes else held | {hart}
-    yield from ("predator explain 1", f"outcome {machine.ending}", f"steps {machine.steps}", f"accesses {len(machine.accesses)}")
+    yield from (
+        "predator explain 1",
+        f"outcome {machine.ending}",
+        f"steps {machine.steps}",
+        f"accesses {len(machine.accesses)}",
+    )
     yield f"line {base:#010x} {size} start {start} count {sum(it[0] for it in pairs.values())}"
     yield f"sites {len(sites)}"
     for pc, own in sorted(sites.items()):
-        name = next((it[3].decode() for it in machine.symbols if it[0] == 2 and it[1] <= pc < it[1] + it[2]), "-")
+        name = next(
+            (
+                it[3].decode()
+                for it in machine.symbols
+                if it[0] == 2 and it[1] <= pc < it[1] + it[2]
+            ),
+            "-",
+        )
         owners = {it[0] for it in own}
         whose = f"hart {min(owners)}" if len(owners) == 1 else "many"
         yield f"site {pc:#010x} reads {sum(not it[1] for it in own)} writes {sum(it[1] for it in own)} {whose} {name}"
@@ -173,11 +226,17 @@ def replay(names, options):
 
 
 def misses(names, options):
-    return recount_misses.told(read(names[0]), int(options.get("--size", 64)), int(options.get("--shift", 0)))
+    return recount_misses.told(
+        read(names[0]), int(options.get("--size", 64)), int(options.get("--shift", 0))
+    )
 
 
 def blame(names, options):
-    lines = list(recount_blame.told(read(names[0]), int(options.get("--size", 64)), int(options.get("--shift", 0))))
+    lines = list(
+        recount_blame.told(
+            read(names[0]), int(options.get("--size", 64)), int(options.get("--shift", 0))
+        )
+    )
     if lines[0].startswith("predator: "):
         raise LookupError(lines[0])
     return lines
@@ -193,7 +252,10 @@ def place(names, options):
 def sweep(names, options):
     """By the definition: of each shift the writes behind a line's first one that find it in the cache of another hart."""
     size = int(options["--size"])
-    accesses = [(it[0], it[2], it[1]) for it in case_of(read(names[0]), settings_of(options), options).accesses]
+    accesses = [
+        (it[0], it[2], it[1])
+        for it in case_of(read(names[0]), settings_of(options), options).accesses
+    ]
     totals = []
     for shift in range(0, size, 4):
         held, taken = {}, {}
@@ -213,12 +275,21 @@ def sweep(names, options):
 
 def caches(names, options):
     accesses = case_of(read(names[0]), settings_of(options), options).accesses
-    return bounded.told([(it[0], it[2], it[1]) for it in accesses], *(int(options[it]) for it in ("--size", "--sets", "--ways")))
+    return bounded.told(
+        [(it[0], it[2], it[1]) for it in accesses],
+        *(int(options[it]) for it in ("--size", "--sets", "--ways")),
+    )
 
 
 def main(words):
-    known = {name: told for name, told in USAGE.items() if name not in LACKS and (name != "move" or HAS_MOVE)}
-    works = {it.__name__: it for it in (run, replay, check, misses, blame, explain, place, sweep, caches)}
+    known = {
+        name: told
+        for name, told in USAGE.items()
+        if name not in LACKS and (name != "move" or HAS_MOVE)
+    }
+    works = {
+        it.__name__: it for it in (run, replay, check, misses, blame, explain, place, sweep, caches)
+    }
     if not words or words[0] not in known:
         print(*(f"usage: predator {name} {told}" for name, told in known.items()), sep="\n")
         return 1
@@ -236,7 +307,9 @@ def main(words):
         return 13
     sys.stdout.writelines(f"{it}\n" for it in lines)
     outcome = lines[1] if len(lines) > 1 else ""
-    return {"outcome budget": 10, "outcome deadlock": 11}.get(outcome, 12 if outcome.startswith("outcome trap") else 0)
+    return {"outcome budget": 10, "outcome deadlock": 11}.get(
+        outcome, 12 if outcome.startswith("outcome trap") else 0
+    )
 
 
 if __name__ == "__main__":

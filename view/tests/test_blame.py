@@ -32,14 +32,22 @@ class Read(unittest.TestCase):
         found = Blame(TEXT)
         self.assertEqual(found.accesses, 19)
         first, other = found.takings(0x11000), found.takings(-0x20)
-        self.assertEqual(first.pairs, [Pair(0x10044, 0x1003C, 5, 2), Pair(0xFFFFFFFC, 0x10044, 1, 0)])
+        self.assertEqual(
+            first.pairs, [Pair(0x10044, 0x1003C, 5, 2), Pair(0xFFFFFFFC, 0x10044, 1, 0)]
+        )
         self.assertEqual((first.base, first.harts), (0x11000, {(0, 255): 6}))
         self.assertEqual((other.pairs, other.harts), ([Pair(0, 0x10044, 1, 1)], {(1, 0): 1}))
         self.assertIsNone(found.takings(0x11040))
         self.assertIsNone(Blame(EMPTY).takings(0))
 
     def test_what_is_none(self):
-        for text in ("", TEXT[:-4], TEXT.replace("lines 2", "lines 3"), TEXT.replace("blame 1", "blame 2"), "predator: trace NoPcs\n"):
+        for text in (
+            "",
+            TEXT[:-4],
+            TEXT.replace("lines 2", "lines 3"),
+            TEXT.replace("blame 1", "blame 2"),
+            "predator: trace NoPcs\n",
+        ):
             with self.assertRaises(Fault):
                 Blame(text)
 
@@ -62,7 +70,9 @@ class Shown(unittest.TestCase):
         with open(self.path("notes"), "w", encoding="ascii") as file:
             file.write(NOTES)
         os.chmod(file.name, 0o755)
-        status, text, said = view(*words, program=file.name, CALLS=self.path("calls"), BEHIND=program, **more)
+        status, text, said = view(
+            *words, program=file.name, CALLS=self.path("calls"), BEHIND=program, **more
+        )
         self.assertEqual((status, said), (0, ""))
         with open(self.path("calls"), encoding="utf-8") as file:
             made = [it.split(" ", 1)[0] for it in file.read().split("\n")]
@@ -87,7 +97,9 @@ class Traces(Shown):
     def found(self, *words, **more):
         """The screen of a replay, and its record."""
         path = self.path("json")
-        status, text, said = view("replay", self.trace, *words, "--json", path, program=self.program, **more)
+        status, text, said = view(
+            "replay", self.trace, *words, "--json", path, program=self.program, **more
+        )
         self.assertEqual((status, said), (0, ""))
         with open(path, encoding="utf-8") as file:
             return text, json.load(file)
@@ -99,20 +111,42 @@ class Guests(Traces):
             self.record(name, "--pcs")
             _, found = self.found("--program", built(f"{name}.elf"), "--words")
             for thing in found["objects"]:
-                base = max(thing["lines"], key=lambda it: (it["useless"], it["count"] or 0, -int(it["base"], 16)))["base"]
+                base = max(
+                    thing["lines"],
+                    key=lambda it: (it["useless"], it["count"] or 0, -int(it["base"], 16)),
+                )["base"]
                 words = ["explain", built(f"{name}.elf"), base, "64", "0", *TURNS]
-                rows = subprocess.run([self.program, *words], capture_output=True, text=True, check=True).stdout.split("\n")
+                rows = subprocess.run(
+                    [self.program, *words], capture_output=True, text=True, check=True
+                ).stdout.split("\n")
                 pairs = [it.split()[1:] for it in rows if it.startswith("pair ")]
-                wanted = sorted((int(it[5]) - int(it[3]), -int(it[3]), it[0], it[1]) for it in pairs)[:8]
-                fights = [(it["same"] - it["taken"], -it["taken"], *(it[one]["address"] for one in ROLES)) for it in thing["fights"]]
+                wanted = sorted(
+                    (int(it[5]) - int(it[3]), -int(it[3]), it[0], it[1]) for it in pairs
+                )[:8]
+                fights = [
+                    (it["same"] - it["taken"], -it["taken"], *(it[one]["address"] for one in ROLES))
+                    for it in thing["fights"]
+                ]
                 self.assertEqual(sorted(fights), wanted, (name, thing["name"]))
-                harts = [f"from {it['from']} to {it['to']} taken {it['taken']}" for it in thing["harts"]]
+                harts = [
+                    f"from {it['from']} to {it['to']} taken {it['taken']}" for it in thing["harts"]
+                ]
                 self.assertEqual(harts, [it for it in rows if it.startswith("from ")])
 
     def test_rows_and_page(self):
         self.record("ring", "--pcs")
-        text, calls = self.calls("replay", self.trace, "--program", built("ring.elf"), "--html", self.path("html"), program=self.program)
-        self.shows(text, "ring.c:34 (note < consumer) takes the line from ring.c:34 (note < producer)")
+        text, calls = self.calls(
+            "replay",
+            self.trace,
+            "--program",
+            built("ring.elf"),
+            "--html",
+            self.path("html"),
+            program=self.program,
+        )
+        self.shows(
+            text, "ring.c:34 (note < consumer) takes the line from ring.c:34 (note < producer)"
+        )
         self.assertEqual((calls.count("blame"), calls.count("explain")), (1, 0))
         with open(self.path("html"), encoding="utf-8") as file:
             page = file.read()
@@ -120,13 +154,20 @@ class Guests(Traces):
         self.assertIn("seen[", page)
         # (a program isn't wanted)
         text, _ = self.found()
-        self.assertRegex(joined(text), "fighting 0x0001[0-9a-f]{4} takes the line from 0x0001[0-9a-f]{4}, 150 times")
+        self.assertRegex(
+            joined(text),
+            "fighting 0x0001[0-9a-f]{4} takes the line from 0x0001[0-9a-f]{4}, 150 times",
+        )
 
     def test_a_run_whose_trace_is_kept(self):
         words = ("run", built("ring.elf"), *TURNS, "--trace", self.trace)
         text, calls = self.calls(*words, "--pcs", program=self.program)
-        self.assertEqual((calls.count("blame"), calls.count("explain"), calls.count("run")), (1, 0, 1))
-        self.shows(text, "ring.c:34 (note < consumer) takes the line from ring.c:34 (note < producer)")
+        self.assertEqual(
+            (calls.count("blame"), calls.count("explain"), calls.count("run")), (1, 0, 1)
+        )
+        self.shows(
+            text, "ring.c:34 (note < consumer) takes the line from ring.c:34 (note < producer)"
+        )
         _, calls = self.calls(*words, program=self.program)
         self.assertEqual((calls.count("blame"), calls.count("explain")), (0, 2))
 
@@ -163,10 +204,16 @@ class Lacking(Traces):
         self.record("ring", "--pcs")
         text, _ = self.found(lacks="blame")
         self.assertNotIn("fighting", text)
-        self.shows(text, "note: this program has no command `blame`, so the instructions that fight are unknown")
+        self.shows(
+            text,
+            "note: this program has no command `blame`, so the instructions that fight are unknown",
+        )
         text, found = self.found("--program", built("ring.elf"), *TURNS, lacks="blame")
         self.assertEqual(found["notes"], [])
-        self.shows(text, "ring.c:34 (note < consumer) takes the line from ring.c:34 (note < producer), 142 times")
+        self.shows(
+            text,
+            "ring.c:34 (note < consumer) takes the line from ring.c:34 (note < producer), 142 times",
+        )
 
 
 class Predictions(Shown):
@@ -189,9 +236,24 @@ class Predictions(Shown):
         for name in ("apart", "ring", "arena", "anderson", "flags"):
             shown = []
             for word in ((), ("--predicted",)):
-                view("run", built(f"{name}.elf"), *TURNS, "--explain", "0", *word, "--json", self.path("json"))
+                view(
+                    "run",
+                    built(f"{name}.elf"),
+                    *TURNS,
+                    "--explain",
+                    "0",
+                    *word,
+                    "--json",
+                    self.path("json"),
+                )
                 with open(self.path("json"), encoding="utf-8") as file:
-                    shown.append([(it["base"], it["size"], it["useless"]) for it in json.load(file)["predicted"] if it["shown"]])
+                    shown.append(
+                        [
+                            (it["base"], it["size"], it["useless"])
+                            for it in json.load(file)["predicted"]
+                            if it["shown"]
+                        ]
+                    )
             self.assertEqual(*shown, name)
 
 
@@ -201,7 +263,11 @@ RECORDER = os.path.join(TOP, "native", "out", "predator-amd64-linux")
 class Compiled(Shown):
     def compiled(self, name, *words):
         source = os.path.join(TOP, "native", "tries", f"{name}.c")
-        subprocess.run(["gcc", "-g", "-O1", "-pthread", source, "-o", name, *words], cwd=self.folder, check=True)
+        subprocess.run(
+            ["gcc", "-g", "-O1", "-pthread", source, "-o", name, *words],
+            cwd=self.folder,
+            check=True,
+        )
         return f"./{name}"
 
 
@@ -215,7 +281,9 @@ class OfThisMachine(Compiled):
         """What one call shows of a program, which leaves nothing behind."""
         left = self.path("left")
         os.makedirs(left, exist_ok=True)
-        status, text, said = view(*words, program, program=self.program, cwd=self.folder, TMPDIR=left)
+        status, text, said = view(
+            *words, program, program=self.program, cwd=self.folder, TMPDIR=left
+        )
         self.assertEqual(status, 0)
         self.assertTrue(said.startswith("stack 0x"), said)
         self.assertEqual(os.listdir(left), [])
@@ -223,11 +291,25 @@ class OfThisMachine(Compiled):
 
     def judge(self, text):
         self.shows(text, "stack of thread 0, used in on_stack", "(in_plain)")
-        self.assertRegex(joined(text), r"[0-9] memory of data file, used at nameless\.c:[0-9]+ \(in_file\) worst field")
-        self.assertRegex(joined(text), r"[0-9] memory used at nameless\.c:[0-9]+ \(in_plain\) worst field")
-        self.assertRegex(joined(text), r"fighting nameless\.c:[0-9]+ \(in_file\) takes the line from nameless\.c:[0-9]+ \(in_file\), ")
-        self.assertRegex(joined(text), r"block of 4,096 made at nameless\.c:[0-9]+ < main \(an arena: the instructions that use it ")
-        self.assertRegex(joined(text), r"are nameless\.c:[0-9]+ \((odd|even)\) and nameless\.c:[0-9]+ \((odd|even)\)\)")
+        self.assertRegex(
+            joined(text),
+            r"[0-9] memory of data file, used at nameless\.c:[0-9]+ \(in_file\) worst field",
+        )
+        self.assertRegex(
+            joined(text), r"[0-9] memory used at nameless\.c:[0-9]+ \(in_plain\) worst field"
+        )
+        self.assertRegex(
+            joined(text),
+            r"fighting nameless\.c:[0-9]+ \(in_file\) takes the line from nameless\.c:[0-9]+ \(in_file\), ",
+        )
+        self.assertRegex(
+            joined(text),
+            r"block of 4,096 made at nameless\.c:[0-9]+ < main \(an arena: the instructions that use it ",
+        )
+        self.assertRegex(
+            joined(text),
+            r"are nameless\.c:[0-9]+ \((odd|even)\) and nameless\.c:[0-9]+ \((odd|even)\)\)",
+        )
 
     def test_by_valgrind(self):
         program = self.compiled("nameless")
@@ -237,10 +319,15 @@ class OfThisMachine(Compiled):
     def test_by_the_compiler(self):
         # (which of the two records it the program's file says)
         library = os.path.join(TOP, "native", "out", "lib")
-        self.judge(self.shown(self.compiled("nameless", "-fsanitize=thread", f"-L{library}"), "--top", "4"))
+        self.judge(
+            self.shown(self.compiled("nameless", "-fsanitize=thread", f"-L{library}"), "--top", "4")
+        )
 
 
-@unittest.skipUnless(os.path.exists(RECORDER) and has(PROGRAM, "misses", "blame"), "one of the two isn't built, or has no blame")
+@unittest.skipUnless(
+    os.path.exists(RECORDER) and has(PROGRAM, "misses", "blame"),
+    "one of the two isn't built, or has no blame",
+)
 class OfThisMachineByTheProgram(OfThisMachine):
     program = PROGRAM
 
@@ -248,7 +335,9 @@ class OfThisMachineByTheProgram(OfThisMachine):
 @unittest.skipUnless(os.path.exists(RECORDER), "the recorder of native/ isn't built")
 class WithoutInstructions(Compiled):
     def test_a_program_without_debug_information(self):
-        _, _, said = view("native", "--explain", "0", self.compiled("counters", "-s", "-g0"), cwd=self.folder)
+        _, _, said = view(
+            "native", "--explain", "0", self.compiled("counters", "-s", "-g0"), cwd=self.folder
+        )
         told = "/counters has no debug information, so fields and source lines are unknown: build it with -g, or install its package of"
         self.shows(said, f"{told} debug information (Debian: NAME-dbgsym)")
 

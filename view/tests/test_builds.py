@@ -41,24 +41,44 @@ def shown(first):
     """The block of guest/README.md whose first line begins so."""
     with open(os.path.join(TOP, "guest", "README.md"), encoding="utf-8") as file:
         text = file.read()
-    return re.sub("^    ", "", re.search(rf"^    {re.escape(first)}.*\n(?:(?:    .*)?\n)*", text, re.MULTILINE)[0], flags=re.MULTILINE)
+    return re.sub(
+        "^    ",
+        "",
+        re.search(rf"^    {re.escape(first)}.*\n(?:(?:    .*)?\n)*", text, re.MULTILINE)[0],
+        flags=re.MULTILINE,
+    )
 
 
-@unittest.skipUnless(not LACKS and os.path.isdir(PICOLIBC), f"{' '.join(LACKS) or 'picolibc'} isn't installed")
+@unittest.skipUnless(
+    not LACKS and os.path.isdir(PICOLIBC), f"{' '.join(LACKS) or 'picolibc'} isn't installed"
+)
 class Builds(unittest.TestCase):
     def setUp(self):
         self.folder = tempfile.mkdtemp()
         self.addCleanup(shutil.rmtree, self.folder)
         program = os.environ.get("PREDATOR_PROGRAM") or STAND_IN
         path = f"{TOP}/bin:{os.environ['PATH']}"
-        self.env = {**os.environ, "PATH": path, "PREDATOR": TOP, "PREDATOR_PROGRAM": program, "PREDATOR_BUILD": "no"}
+        self.env = {
+            **os.environ,
+            "PATH": path,
+            "PREDATOR": TOP,
+            "PREDATOR_PROGRAM": program,
+            "PREDATOR_BUILD": "no",
+        }
 
     def write(self, name, text):
         with open(os.path.join(self.folder, name), "w", encoding="utf-8") as file:
             file.write(text)
 
     def call(self, *words):
-        ran = subprocess.run(words, cwd=self.folder, env=self.env, capture_output=True, text=True, stdin=subprocess.DEVNULL)
+        ran = subprocess.run(
+            words,
+            cwd=self.folder,
+            env=self.env,
+            capture_output=True,
+            text=True,
+            stdin=subprocess.DEVNULL,
+        )
         return ran.returncode, ran.stdout + ran.stderr
 
     def test_make(self):
@@ -75,7 +95,9 @@ class Builds(unittest.TestCase):
     def test_cmake(self):
         self.write("CMakeLists.txt", shown("cmake_minimum_required"))
         self.write("queue_test.c", SOURCE.replace("LINE", "4"))
-        status, said = self.call("cmake", "-S", ".", "-B", "built", f"-DCMAKE_TOOLCHAIN_FILE={TOP}/guest/toolchain.cmake")
+        status, said = self.call(
+            "cmake", "-S", ".", "-B", "built", f"-DCMAKE_TOOLCHAIN_FILE={TOP}/guest/toolchain.cmake"
+        )
         self.assertEqual(status, 0, said)
         for line, wanted in (("4", 8), ("64", 0)):
             self.write("queue_test.c", SOURCE.replace("LINE", line))
@@ -84,7 +106,9 @@ class Builds(unittest.TestCase):
             status, said = self.call("ctest", "--test-dir", "built", "--output-on-failure")
             self.assertEqual(status, wanted, said)
             if wanted:
-                self.assertRegex(said, "predator view: queue has [0-9]+ useless misses, more than 100")
+                self.assertRegex(
+                    said, "predator view: queue has [0-9]+ useless misses, more than 100"
+                )
 
 
 if __name__ == "__main__":

@@ -29,7 +29,11 @@ def lost(addr, by, times=10):
     """A hart that reads as many lines as push a line out of its small cache before another one writes that."""
     found = []
     for _ in range(times):
-        found += [Access(0, True, addr, 4), *(Access(0, False, by + 64 * it, 4) for it in range(64)), Access(1, True, addr + 4, 4)]
+        found += [
+            Access(0, True, addr, 4),
+            *(Access(0, False, by + 64 * it, 4) for it in range(64)),
+            Access(1, True, addr + 4, 4),
+        ]
     return found
 
 
@@ -41,11 +45,27 @@ class CachesOfShapes(unittest.TestCase):
         self.addCleanup(work.cleanup)
         self.trace, self.html = os.path.join(work.name, "<i>t"), os.path.join(work.name, "h")
         accesses = fight(0x1000, 20) + lost(0x2000, 0x3000)
-        self.write(accesses, [(0, Symbol(1, 0x1000, 8, b"<b>&mine")), (0, Symbol(1, 0x2000, 8, b"lost"))])
+        self.write(
+            accesses, [(0, Symbol(1, 0x1000, 8, b"<b>&mine")), (0, Symbol(1, 0x2000, 8, b"lost"))]
+        )
 
     def write(self, accesses, records=()):
         with open(self.trace, "wb") as file:
-            file.write(trace_of(Case(accesses, list(records), Ending("exit 0", 9, (0, 0, 0, 0)), 2, 16, 64, 100, 64, None)))
+            file.write(
+                trace_of(
+                    Case(
+                        accesses,
+                        list(records),
+                        Ending("exit 0", 9, (0, 0, 0, 0)),
+                        2,
+                        16,
+                        64,
+                        100,
+                        64,
+                        None,
+                    )
+                )
+            )
 
     def call(self, *words):
         return view("caches", self.trace, *words, program=self.program)
@@ -55,13 +75,18 @@ class CachesOfShapes(unittest.TestCase):
         self.assertEqual((status, said), (0, ""))
         found = text.split("\n")
         told = "48 times in those of 2 KiB (64x16x2) and 58 in those of 32 KiB (64x64x8)"
-        self.assertEqual(found[0], f"2 lines of 64 bytes are taken 58 times in caches that lose no line, {told} (700 accesses)")
+        self.assertEqual(
+            found[0],
+            f"2 lines of 64 bytes are taken 58 times in caches that lose no line, {told} (700 accesses)",
+        )
         self.assertEqual(found[2].split(), ["39", "39", "39", "0x00001000", "<b>&mine"])
         self.assertEqual(found[3].split(), ["19", "9", "19", "0x00002000", "lost"])
         self.assertEqual(found[4].split(), ["58", "48", "58", "all", "lines", "(2)"])
         self.assertEqual(found[5].split()[0::3], ["-", "evicted"])
         # Without shapes those that are usual.
-        self.assertEqual(self.call()[1].split("\n")[1].split(), ["unbounded", *USUAL, "line", "object"])
+        self.assertEqual(
+            self.call()[1].split("\n")[1].split(), ["unbounded", *USUAL, "line", "object"]
+        )
 
     def test_the_page_has_what_the_table_has(self):
         status, text, said = self.call("--shape", "64x16x2", "--shape=64x64x8", "--html", "-")
@@ -71,49 +96,73 @@ class CachesOfShapes(unittest.TestCase):
         self.assertIn("<h1>&lt;i&gt;t: 2 lines of 64 bytes are taken 58 times", text)
         self.assertIn("<th>2 KiB (64x16x2)</th><th>32 KiB (64x64x8)</th>", text)
         asked = [self.asked(it) for it in ("64x16x2", "64x64x8")]
-        (all_lines, *lines) = re.findall(r"<tr><t[hd]>(?:<code>(0x\w+)</code>|all lines \(2\))(.*?)</tr>", text, re.DOTALL)
+        (all_lines, *lines) = re.findall(
+            r"<tr><t[hd]>(?:<code>(0x\w+)</code>|all lines \(2\))(.*?)</tr>", text, re.DOTALL
+        )
         self.assertEqual([int(it[0], 16) for it in lines], list(asked[0].lines))
         for base, row in lines:
             self.cells(row, [it.lines[int(base, 16)] for it in asked], 39)
         self.cells(all_lines[1], [it.total for it in asked], 58)
         self.assertIn("</code> &lt;b&gt;&amp;mine", text)
         # The file has the same.
-        self.assertEqual(self.call("--shape", "64x16x2", "--shape=64x64x8", "--html", self.html)[0], 0)
+        self.assertEqual(
+            self.call("--shape", "64x16x2", "--shape=64x64x8", "--html", self.html)[0], 0
+        )
         with open(self.html, encoding="utf-8") as file:
             self.assertEqual(file.read(), text)
 
     def asked(self, name):
         """What the program says of a shape."""
         words = [self.program, *shape_of(name).words(), "--", self.trace]
-        return Caches(subprocess.run(words, capture_output=True, text=True).stdout, shape_of(name), LINES)
+        return Caches(
+            subprocess.run(words, capture_output=True, text=True).stdout, shape_of(name), LINES
+        )
 
     def cells(self, row, own, greatest):
         """Compares the texts and the marks of a row with the counts of each shape."""
-        found = re.findall(r'<rect .*?width="(\d+)".*?<rect .*?width="(\d+)".*?<b>(\d+)</b> <span class="soft">evicted (\d+)<', row)
-        self.assertEqual([(int(it[2]), int(it[3])) for it in found], [(it.bounded, it.evicted) for it in own])
+        found = re.findall(
+            r'<rect .*?width="(\d+)".*?<rect .*?width="(\d+)".*?<b>(\d+)</b> <span class="soft">evicted (\d+)<',
+            row,
+        )
+        self.assertEqual(
+            [(int(it[2]), int(it[3])) for it in found], [(it.bounded, it.evicted) for it in own]
+        )
         for it, (fill, frame, _, _) in zip(own, found):
             drawn = bar(it.bounded, it.unbounded, greatest)
             self.assertEqual((int(fill), int(frame)), (drawn["fill"], drawn["frame"]))
         self.assertIn(f'<td class="n" data-of="lose no line">{own[0].unbounded}</td>', row)
         self.assertEqual(
-            re.findall(r"<title>.*?: (\d+) of (\d+) are left", row), [(str(it.bounded), str(it.unbounded)) for it in own]
+            re.findall(r"<title>.*?: (\d+) of (\d+) are left", row),
+            [(str(it.bounded), str(it.unbounded)) for it in own],
         )
 
     def test_lines_of_several_sizes(self):
         status, text, _ = self.call("--shape", "64x64x8", "--shape=8x64x8", "--html", "-")
         self.assertEqual(status, 0)
-        self.assertEqual([re.findall(r"of (\d+) bytes", it)[0] for it in re.findall("<h2>(.*)</h2>", text)], ["64", "8"])
+        self.assertEqual(
+            [re.findall(r"of (\d+) bytes", it)[0] for it in re.findall("<h2>(.*)</h2>", text)],
+            ["64", "8"],
+        )
 
     def test_a_line_that_is_taken_in_no_shape(self):
         self.write(lost(0x2000, 0x3000))
         text = self.call("--shape", "64x1x1", "--shape", "64x2x1")[1]
-        self.assertIn("taken 19 times in caches that lose no line, and 9 times in those of all 2 shapes", text)
+        self.assertIn(
+            "taken 19 times in caches that lose no line, and 9 times in those of all 2 shapes", text
+        )
         self.assertNotIn("none of these", text)
         # (each write behind a read of another line, by the same hart)
-        alone = [it for at in range(20) for it in (Access(at % 2, True, 0x2000, 4), Access(at % 2, False, 0x2040, 4))]
+        alone = [
+            it
+            for at in range(20)
+            for it in (Access(at % 2, True, 0x2000, 4), Access(at % 2, False, 0x2040, 4))
+        ]
         self.write(alone)
         status, text, _ = self.call("--shape", "64x1x1", "--html", "-")
-        self.assertIn("is taken 19 times in caches that lose no line, and 0 times in those of 64 bytes (64x1x1)", text)
+        self.assertIn(
+            "is taken 19 times in caches that lose no line, and 0 times in those of 64 bytes (64x1x1)",
+            text,
+        )
         self.assertIn('<span class="soft">in none of these caches</span>', text)
         self.assertRegex(text, '<rect x="1" y="3" width="0"')
         self.assertIn("(in none of these caches)", self.call("--shape", "64x1x1")[1])
@@ -134,7 +183,9 @@ class CachesOfShapes(unittest.TestCase):
         self.assertEqual(text.count("<svg"), LINES + 1)
         self.assertIn("10 more lines aren't drawn: --top 50 draws all", text.replace("&#39;", "'"))
         self.assertIn("10 more lines: --top 50 shows all", self.call("--shape", "64x64x8")[1])
-        self.assertEqual(self.call("--html", "-", "--top", "50", "--shape", "64x64x8")[1].count("<svg"), 51)
+        self.assertEqual(
+            self.call("--html", "-", "--top", "50", "--shape", "64x64x8")[1].count("<svg"), 51
+        )
 
     def test_a_pipe(self):
         env = {**os.environ, "PREDATOR_PROGRAM": self.program, "PREDATOR_BUILD": "no"}
@@ -144,19 +195,40 @@ class CachesOfShapes(unittest.TestCase):
         self.assertEqual(ran.stdout.decode(), self.call()[1])
 
     def test_refused(self):
-        for bad in ("64x64", "63x64x8", "64x3x8", "64x0x8", "64x64x65", "64x1024x64", "2x64x8", "2048x1x1", "064x64x8", "axbxc", "1x1"):
+        for bad in (
+            "64x64",
+            "63x64x8",
+            "64x3x8",
+            "64x0x8",
+            "64x64x65",
+            "64x1024x64",
+            "2x64x8",
+            "2048x1x1",
+            "064x64x8",
+            "axbxc",
+            "1x1",
+        ):
             status, _, said = self.call("--shape", bad)
-            self.assertEqual((status, f"'--shape' is as 64x64x8, and not '{bad}': bytes of a line" in said), (2, True), bad)
+            self.assertEqual(
+                (status, f"'--shape' is as 64x64x8, and not '{bad}': bytes of a line" in said),
+                (2, True),
+                bad,
+            )
         for words, told in (
             (["--shape", "64x1x1", "--shape=64x1x1"], "the shape 64x1x1 stands twice"),
             (["--html", self.trace], "the same file is in use"),
-            (["--json", "j"], "'--json' isn't for `view caches`, which takes --html, --shape, --top"),
+            (
+                ["--json", "j"],
+                "'--json' isn't for `view caches`, which takes --html, --shape, --top",
+            ),
             (["--size", "64"], "'--size' is no option of view caches"),
             (["--top", "all"], "'--top' is a number"),
         ):
             status, _, said = self.call(*words)
             self.assertEqual((status, told in said), (2, True), said)
-        status, _, said = view("sweep", self.trace, "--size", "64", "--shape", "64x1x1", program=self.program)
+        status, _, said = view(
+            "sweep", self.trace, "--size", "64", "--shape", "64x1x1", program=self.program
+        )
         self.assertEqual((status, "'--shape' is for `predator view caches`" in said), (2, True))
         status, _, said = view("caches", __file__, program=self.program)
         self.assertEqual((status, "`predator caches` was refused" in said), (2, True))
@@ -174,7 +246,12 @@ class Texts(unittest.TestCase):
         self.assertEqual(own.lines, {0x1000: (1, 3, 0)})
         # (one time, of one line)
         self.assertIn("1 line of 64 bytes is taken 3 times", Sized([own], {}).told())
-        for bad in ("", TEXT.format(2, line, 1, 3), TEXT.format(1, line, 1, 3)[:-4], TEXT.format(0, "", 0, 0).replace("64", "32")):
+        for bad in (
+            "",
+            TEXT.format(2, line, 1, 3),
+            TEXT.format(1, line, 1, 3)[:-4],
+            TEXT.format(0, "", 0, 0).replace("64", "32"),
+        ):
             with self.assertRaises(Fault):
                 Caches(bad, Shape(64, 1, 1), 9)
         other = Caches(TEXT.format(1, line.replace("3", "4"), 1, 4), Shape(64, 1, 1), 9)
@@ -182,7 +259,10 @@ class Texts(unittest.TestCase):
             Sized([own, other], {})
 
     def test_a_million_lines(self):
-        lines = "".join(f"line {64 * it:#010x} bounded {it % 3} unbounded {2_000_000 - it} evicted 1\n" for it in range(1_000_000))
+        lines = "".join(
+            f"line {64 * it:#010x} bounded {it % 3} unbounded {2_000_000 - it} evicted 1\n"
+            for it in range(1_000_000)
+        )
         text = TEXT.format(1_000_000, lines, 999_999, 1_500_000_500_000)
         own = Sized([Caches(text, shape_of("64x1x1"), LINES)], {0: "n" * 300})
         self.assertEqual(len(list(rows(own))), LINES + 5)
@@ -193,7 +273,9 @@ class Texts(unittest.TestCase):
     def test_a_bar(self):
         self.assertEqual(bar(5, 10, 10), {"width": BAR, "frame": BAR, "fill": BAR // 2})
         # What isn't 0 is seen, and what isn't all isn't full.
-        self.assertEqual([bar(it, 1000, 1000)["fill"] for it in (0, 1, 999, 1000)], [0, 1, BAR - 1, BAR])
+        self.assertEqual(
+            [bar(it, 1000, 1000)["fill"] for it in (0, 1, 999, 1000)], [0, 1, BAR - 1, BAR]
+        )
         self.assertEqual(bar(0, 1, 1000), {"width": BAR, "frame": 1, "fill": 0})
 
     def test_how_large_a_cache_is(self):

@@ -26,7 +26,13 @@ def takes(way, option, has_value):
     more = BESIDE.get(option, ())
     # (a program has its types)
     more = () if option == "--type" and way in ("run", "native") else more
-    words = [way, built("ring.elf") if way == "run" else "subject", option, *([GOOD.get(option, "1")] if has_value else []), *more]
+    words = [
+        way,
+        built("ring.elf") if way == "run" else "subject",
+        option,
+        *([GOOD.get(option, "1")] if has_value else []),
+        *more,
+    ]
     try:
         Call([*words, *(() if option == "--size" else WAYS[way])])
     except Fault:
@@ -37,18 +43,32 @@ def takes(way, option, has_value):
 class Completion(unittest.TestCase):
     def offered(self, *words):
         script = '. "$0/bin/predator.bash"; COMP_WORDS=(predator "$@"); COMP_CWORD=$#; _predator; printf "%s\\n" "${COMPREPLY[@]}"'
-        ran = subprocess.run(["bash", "-c", script, TOP, *words], capture_output=True, text=True, check=True)
+        ran = subprocess.run(
+            ["bash", "-c", script, TOP, *words], capture_output=True, text=True, check=True
+        )
         return set(ran.stdout.split()) - {"--help"}
 
     def test_all_options(self):
         bare = {*(f"--{it}" for it in (*FLAGS, *MARKS))} - {"--help"}
-        valued = {*(f"--{it}" for it in (*VALUES, *LISTS)), *RECORDS, *(it for own in OPTIONS.values() for it in own)} - bare
+        valued = {
+            *(f"--{it}" for it in (*VALUES, *LISTS)),
+            *RECORDS,
+            *(it for own in OPTIONS.values() for it in own),
+        } - bare
         for way in WAYS:
-            taken = {it for own, has_value in ((bare, False), (valued, True)) for it in own if takes(way, it, has_value)}
+            taken = {
+                it
+                for own, has_value in ((bare, False), (valued, True))
+                for it in own
+                if takes(way, it, has_value)
+            }
             self.assertEqual(sorted(self.offered("view", way, "subject", "--")), sorted(taken), way)
 
     def test_by_what_a_file_is(self):
-        self.assertEqual(self.offered("view", built("ring.elf"), "--"), self.offered("view", "run", "subject", "--"))
+        self.assertEqual(
+            self.offered("view", built("ring.elf"), "--"),
+            self.offered("view", "run", "subject", "--"),
+        )
 
 
 if __name__ == "__main__":

@@ -30,10 +30,17 @@ class Fields(unittest.TestCase):
 
     def test_version_5(self):
         program = Program(built("ring.elf"))
-        self.assertEqual(self.named(program, "stats", 4, 28), ["stats[0].seen[0].high", "stats[1].seen[1].high"])
-        self.assertEqual(self.named(program, "ring", 0, 8, 12), ["ring.head", "ring.slots[0]", "ring.slots[1]"])
+        self.assertEqual(
+            self.named(program, "stats", 4, 28), ["stats[0].seen[0].high", "stats[1].seen[1].high"]
+        )
+        self.assertEqual(
+            self.named(program, "ring", 0, 8, 12), ["ring.head", "ring.slots[0]", "ring.slots[1]"]
+        )
         stats = self.variable(program, "stats")
-        self.assertEqual((type_name(stats.type), size_of(stats.type), stats.alignment()), ("struct stats[4]", 64, 256))
+        self.assertEqual(
+            (type_name(stats.type), size_of(stats.type), stats.alignment()),
+            ("struct stats[4]", 64, 256),
+        )
         self.assertEqual(program.declared(stats), ("ring.c", 29))
 
     def test_version_4_with_all_kinds(self):
@@ -50,15 +57,23 @@ class Fields(unittest.TestCase):
     def test_words_with_several_fields(self):
         for name, variable, offsets in (
             # (the members of the union `number` lie in one place, and `wide` has eight bytes)
-            ("odd.elf", "parts", {0: False, 4: True, 8: False, 12: False, 16: True, 20: True, 24: True}),
+            (
+                "odd.elf",
+                "parts",
+                {0: False, 4: True, 8: False, 12: False, 16: True, 20: True, 24: True},
+            ),
             ("ring.elf", "ring", {0: False, 4: False, 8: False}),
             ("shards.elf", "shards", {16: False, 20: True}),
         ):
             kind = self.variable(Program(built(name)), variable).type
-            self.assertEqual({it: are_several(kind, 8 * it, 8 * it + 32) for it in offsets}, offsets, name)
+            self.assertEqual(
+                {it: are_several(kind, 8 * it, 8 * it + 32) for it in offsets}, offsets, name
+            )
 
     def test_bit_fields_of_version_5(self):
-        self.assertEqual(self.named(Program(built("shards.elf")), "shards", 20), ["shards[1].used, .is_full"])
+        self.assertEqual(
+            self.named(Program(built("shards.elf")), "shards", 20), ["shards[1].used, .is_full"]
+        )
 
     def test_types_by_name(self):
         program = Program(built("arena.elf"))

@@ -40,7 +40,9 @@ def sarif(path):
 
 def places(result):
     """The files and lines of a result."""
-    found = [it["physicalLocation"] for it in result["locations"] + result.get("relatedLocations", [])]
+    found = [
+        it["physicalLocation"] for it in result["locations"] + result.get("relatedLocations", [])
+    ]
     return [(it["artifactLocation"]["uri"], it["region"]["startLine"]) for it in found]
 
 
@@ -50,7 +52,9 @@ class Files(unittest.TestCase):
         cls.folder = tempfile.mkdtemp()
         cls.paths = {it: os.path.join(cls.folder, f"page.{it}") for it in ("json", "sarif", "html")}
         words = [f"--{it}={path}" for it, path in cls.paths.items()]
-        cls.status, _, cls.said = view("run", built("odd.elf"), "--set", "quantum=3,report=1", *words, cwd=HERE)
+        cls.status, _, cls.said = view(
+            "run", built("odd.elf"), "--set", "quantum=3,report=1", *words, cwd=HERE
+        )
 
     @classmethod
     def tearDownClass(cls):
@@ -96,10 +100,16 @@ class Files(unittest.TestCase):
     def test_names_that_are_no_text(self):
         path = os.path.join(self.folder.encode(), b"r\xff<b>&'\"")
         with open(path, "w", encoding="ascii") as file:
-            file.write("predator report 1\noutcome exit 0\nsteps 0\naccesses 9\nlayout 64 0\nthresholds 16 64 100\nlines 1\n")
-            file.write("line observed 0x00001000 64 start 0 count 200 verdict false\nobject symbol <i>&\\x00\"' 0x00001000 8\nend\n")
+            file.write(
+                "predator report 1\noutcome exit 0\nsteps 0\naccesses 9\nlayout 64 0\nthresholds 16 64 100\nlines 1\n"
+            )
+            file.write(
+                "line observed 0x00001000 64 start 0 count 200 verdict false\nobject symbol <i>&\\x00\"' 0x00001000 8\nend\n"
+            )
         page, report = os.path.join(self.folder, "other.html"), os.fsdecode(path)
-        status, text, said = view(report, "--html", page, f"--json={page}.json", f"--sarif={page}.sarif")
+        status, text, said = view(
+            report, "--html", page, f"--json={page}.json", f"--sarif={page}.sarif"
+        )
         self.assertEqual((status, said), (0, ""))
         self.assertIn("<i>&\\x00\"'", text)
         self.assertEqual([places(it) for it in sarif(f"{page}.sarif")["results"]], [[]])
@@ -111,13 +121,26 @@ class Files(unittest.TestCase):
 
     @unittest.skipUnless(BROWSER, "chromium isn't installed")
     def test_page_in_a_browser(self):
-        browser = [BROWSER, "--headless", "--no-sandbox", "--disable-gpu", "--hide-scrollbars", f"--user-data-dir={self.folder}/browser"]
+        browser = [
+            BROWSER,
+            "--headless",
+            "--no-sandbox",
+            "--disable-gpu",
+            "--hide-scrollbars",
+            f"--user-data-dir={self.folder}/browser",
+        ]
         page, picture = "file://" + self.paths["html"], os.path.join(self.folder, "page.png")
-        tree = subprocess.run([*browser, "--dump-dom", page], capture_output=True, encoding="utf-8", timeout=50).stdout
+        tree = subprocess.run(
+            [*browser, "--dump-dom", page], capture_output=True, encoding="utf-8", timeout=50
+        ).stdout
         cells = re.findall(r'<div class="who"[^>]*>(.)</div>', tree)
         self.assertEqual("".join(cells), "ABBBAABAB")
         self.assertIn('<div class="field">.low, .middle, .high</div>', tree)
-        subprocess.run([*browser, "--window-size=1100,900", f"--screenshot={picture}", page], capture_output=True, timeout=50)
+        subprocess.run(
+            [*browser, "--window-size=1100,900", f"--screenshot={picture}", page],
+            capture_output=True,
+            timeout=50,
+        )
         with open(picture, "rb") as file:
             self.assertEqual(struct.unpack(">II", file.read(24)[16:24]), (1100, 900))
         self.assertGreater(os.path.getsize(picture), 30000)
@@ -128,7 +151,16 @@ class Predicted(unittest.TestCase):
         with tempfile.TemporaryDirectory() as folder:
             path = os.path.join(folder, "json")
             words = ("--json", path, "--sarif", f"{path}.sarif", "--predicted")
-            _, text, _ = view("run", built("apart.elf"), "--set", "quantum=3", "--explain", "0", *words, cwd=folder)
+            _, text, _ = view(
+                "run",
+                built("apart.elf"),
+                "--set",
+                "quantum=3",
+                "--explain",
+                "0",
+                *words,
+                cwd=folder,
+            )
             with open(path, encoding="utf-8") as file:
                 found = json.load(file)["predicted"]
             self.assertTrue(found)
@@ -137,7 +169,11 @@ class Predicted(unittest.TestCase):
             self.assertEqual({it["kind"] for it in found if it["shown"]}, {"doubled"})
             self.assertTrue(any("can't come to lie so" in it["why"] for it in found))
             self.assertIn("with lines of 128 bytes", text)
-            told = [it for it in sarif(f"{path}.sarif")["results"] if it["ruleId"] == "predicted-sharing"]
+            told = [
+                it
+                for it in sarif(f"{path}.sarif")["results"]
+                if it["ruleId"] == "predicted-sharing"
+            ]
             self.assertTrue(told)
             for it in told:
                 self.assertEqual([uri for uri, _ in places(it)], ["file://" + built("apart.c")])
@@ -173,17 +209,29 @@ class Large(unittest.TestCase):
     def write(self, path, lines):
         """A report of so many lines: most are of one array, one in eight has two blocks of some call sites that came and went."""
         with open(path, "w", encoding="ascii") as file:
-            file.write(f"predator report 1\noutcome exit 0\nsteps 5\naccesses 5\nlayout 64 0\nthresholds 16 64 100\nlines {lines}\n")
+            file.write(
+                f"predator report 1\noutcome exit 0\nsteps 5\naccesses 5\nlayout 64 0\nthresholds 16 64 100\nlines {lines}\n"
+            )
             for at in range(lines):
                 base = 0x10000 + 64 * at
-                rows = [f"line observed 0x{base:08x} 64 start 5 count {10**6 - at + 100} verdict false"]
+                rows = [
+                    f"line observed 0x{base:08x} 64 start 5 count {10**6 - at + 100} verdict false"
+                ]
                 if at % 8:
                     rows.append(f"object symbol table 0x00010000 {64 * lines}")
                 else:
                     for it in range(2):
-                        rows.append(f"object block 0x{base + 32 * it:08x} 32 born {at} died {at + 9}")
-                        rows += [f"site 0x{0x10400 + 4 * (it + at // 8 % 10):08x} work", "site 0x00010ab8 begin"]
-                rows += [f"word 0x{base + 32 * it:08x} reads 10 writes {it + 1} hart {it}" for it in range(2)]
+                        rows.append(
+                            f"object block 0x{base + 32 * it:08x} 32 born {at} died {at + 9}"
+                        )
+                        rows += [
+                            f"site 0x{0x10400 + 4 * (it + at // 8 % 10):08x} work",
+                            "site 0x00010ab8 begin",
+                        ]
+                rows += [
+                    f"word 0x{base + 32 * it:08x} reads 10 writes {it + 1} hart {it}"
+                    for it in range(2)
+                ]
                 file.write("\n".join(rows) + "\n")
             file.write("end\n")
 
@@ -210,7 +258,16 @@ class Program(unittest.TestCase):
         """The status of a run, the screen, and what is found."""
         path = os.path.join(folder, "json")
         explains = [] if has(PROGRAM, "explain") else ["--explain", "0"]
-        words = ("run", built(f"{name}.elf"), "--set", "quantum=3", "--words", "--json", path, *explains)
+        words = (
+            "run",
+            built(f"{name}.elf"),
+            "--set",
+            "quantum=3",
+            "--words",
+            "--json",
+            path,
+            *explains,
+        )
         status, text, _ = view(*words, **more)
         with open(path, encoding="utf-8") as file:
             return status, text, json.load(file)
@@ -221,16 +278,28 @@ class Program(unittest.TestCase):
                 # (repairs that are tried take the stand-in long)
                 is_tried = name == "shards" and has(PROGRAM, "move")
                 (one, text, found), (other, told, wanted) = (
-                    self.seen(folder, name, **more) for more in ({"STAND_IN_HAS": "move" * is_tried}, {"program": PROGRAM})
+                    self.seen(folder, name, **more)
+                    for more in ({"STAND_IN_HAS": "move" * is_tried}, {"program": PROGRAM})
                 )
-                for it in (*found["objects"], *wanted["objects"]) if not is_tried and has(PROGRAM, "move") else ():
+                for it in (
+                    (*found["objects"], *wanted["objects"])
+                    if not is_tried and has(PROGRAM, "move")
+                    else ()
+                ):
                     it["todo"] = it["repaired"] = None
                 if is_tried:
                     self.assertEqual(text, told)
-                    self.assertIn("counted so: useless 2147 before, 0 after", " ".join(told.split()))
-                by_name = [sorted(it.pop("objects"), key=lambda it: it["key"]) for it in (found, wanted)]
+                    self.assertIn(
+                        "counted so: useless 2147 before, 0 after", " ".join(told.split())
+                    )
+                by_name = [
+                    sorted(it.pop("objects"), key=lambda it: it["key"]) for it in (found, wanted)
+                ]
                 self.assertEqual(*by_name, name)
-                notes = [[row for row in it.pop("notes") if not row.startswith("all that is to do")] for it in (found, wanted)]
+                notes = [
+                    [row for row in it.pop("notes") if not row.startswith("all that is to do")]
+                    for it in (found, wanted)
+                ]
                 self.assertEqual((one, found, notes[0]), (other, wanted, notes[1]), name)
 
 

@@ -94,7 +94,11 @@ class Versions(OfBytes):
     def test_all_places(self):
         table = self.table(Made())
         for at in range(-1, 177):
-            self.assertEqual([tuple(it) for it in table.frames(TEXT + at)], TOLD[max(it for it in TOLD if it <= at)], at)
+            self.assertEqual(
+                [tuple(it) for it in table.frames(TEXT + at)],
+                TOLD[max(it for it in TOLD if it <= at)],
+                at,
+            )
 
     def test_without_the_record_of_the_module(self):
         # (then trees are known by the versions alone in which functions point to them)
@@ -102,7 +106,9 @@ class Versions(OfBytes):
             with self.subTest(way):
                 self.assertEqual(self.told(Made("1.16", way, has_module=False)), TOLD)
                 for version in ("1.18", "1.20"):
-                    wanted = {at: [("", *it[0][1:])] if len(it) > 1 else it for at, it in TOLD.items()}
+                    wanted = {
+                        at: [("", *it[0][1:])] if len(it) > 1 else it for at, it in TOLD.items()
+                    }
                     self.assertEqual(self.told(Made(version, way, has_module=False)), wanted)
 
     def test_code_begins_where_the_module_says(self):
@@ -117,7 +123,9 @@ class Versions(OfBytes):
         # (of a program that has another one in its data, its own is the one that the runtime points to)
         for has_module in (True, False):
             made = Made(has_module=has_module)
-            own, strange = bytes(made.parts[TABLE]), Made(own=[it._replace(name="other." + it.name) for it in OWN])
+            own, strange = bytes(made.parts[TABLE]), Made(
+                own=[it._replace(name="other." + it.name) for it in OWN]
+            )
             made.parts[TABLE - 0x4000] = bytearray(strange.parts[TABLE] + own[:0])
             made.parts = dict(sorted(made.parts.items()))
             if has_module:
@@ -145,7 +153,13 @@ class Strange(OfBytes):
     def test_headers(self):
         for place, data in (
             # (another magic number, bytes that aren't zero, steps of code of 4 bytes, addresses of 4)
-            *((TABLE, b"\xfb"), (TABLE + 3, b"\0"), (TABLE + 4, b"\1"), (TABLE + 6, b"\4"), (TABLE + 7, b"\4")),
+            *(
+                (TABLE, b"\xfb"),
+                (TABLE + 3, b"\0"),
+                (TABLE + 4, b"\1"),
+                (TABLE + 6, b"\4"),
+                (TABLE + 7, b"\4"),
+            ),
             # (no function, and more than there are)
             *((TABLE + 8, struct.pack("<Q", it)) for it in (0, 7, 1 << 19, 1 << 40, 1 << 63)),
             # (parts that aren't in order, or beyond the end)
@@ -167,7 +181,10 @@ class Strange(OfBytes):
         # (one without any code)
         made = Made()
         made.put(first + 8, bytes(4))
-        self.assertEqual([it[-1].function for it in map(self.table(made).frames, (TEXT, TEXT + 63))], ["main.outer"] * 2)
+        self.assertEqual(
+            [it[-1].function for it in map(self.table(made).frames, (TEXT, TEXT + 63))],
+            ["main.outer"] * 2,
+        )
         self.refused(TABLE + 24, struct.pack("<Q", TEXT - 16), has_module=False)
         # (data is no code)
         self.refused(TABLE + 24, struct.pack("<Q", MODULE), has_module=False)
@@ -185,14 +202,31 @@ class Strange(OfBytes):
 
     def test_trees(self):
         """A call that isn't in order isn't told, and nor is the outer function for it."""
-        for version, size, name_at, place_at in (("1.16", 20, 12, 16), ("1.18", 20, 12, 16), ("1.20", 16, 4, 8)):
+        for version, size, name_at, place_at in (
+            ("1.16", 20, 12, 16),
+            ("1.18", 20, 12, 16),
+            ("1.20", 16, 4, 8),
+        ):
             inner = Made(version).tree + 8
             deep = inner + size
             for place, value in (
-                *((it + name_at, value) for it in (inner, deep) for value in (12, 0x7FFFFFF, 0xFFFFFFFF)),
+                *(
+                    (it + name_at, value)
+                    for it in (inner, deep)
+                    for value in (12, 0x7FFFFFF, 0xFFFFFFFF)
+                ),
                 # (outside of the function; in itself; in one that isn't told)
-                *((it + place_at, value) for it in (inner, deep) for value in (64, 0xFFFFFFFF, 0x7FFFFFFF)),
-                *((deep + place_at, 32), (deep + place_at, 63), (inner + place_at, 20), (inner + place_at, 40)),
+                *(
+                    (it + place_at, value)
+                    for it in (inner, deep)
+                    for value in (64, 0xFFFFFFFF, 0x7FFFFFFF)
+                ),
+                *(
+                    (deep + place_at, 32),
+                    (deep + place_at, 63),
+                    (inner + place_at, 20),
+                    (inner + place_at, 40),
+                ),
             ):
                 made = Made(version)
                 made.put(place, struct.pack("<I", value))
@@ -227,7 +261,9 @@ class Strange(OfBytes):
         for to in (0, TABLE + 0x1100, TABLE + 0x10000, TABLE + 0x1FF8, (1 << 64) - 8):
             made = Made()
             made.put(MODULE + 8 * 38, struct.pack("<Q", to))
-            self.assertEqual([tuple(it) for it in self.table(made).frames(TEXT + 48)], [("", B, 20)], hex(to))
+            self.assertEqual(
+                [tuple(it) for it in self.table(made).frames(TEXT + 48)], [("", B, 20)], hex(to)
+            )
 
     def test_names(self):
         made = Made()
@@ -251,11 +287,15 @@ class Strange(OfBytes):
         ):
             made = Made()
             made.put(place, struct.pack("<I", value))
-            self.assertEqual(self.table(made).frames(TEXT), [Place("main.plain", "", 0)], (hex(place), value))
+            self.assertEqual(
+                self.table(made).frames(TEXT), [Place("main.plain", "", 0)], (hex(place), value)
+            )
         # (no file, and one behind the list of them)
         for unit, at in ((2, -1), (0, (TABLE + 0x1800 - made.places[1]) // 4), (1 << 20, 0)):
             made = Made(own=[OWN[0]._replace(unit=unit, files=[(at, 32)])])
-            self.assertEqual(self.table(made).frames(TEXT), [Place("main.plain", "", 0)], (unit, at))
+            self.assertEqual(
+                self.table(made).frames(TEXT), [Place("main.plain", "", 0)], (unit, at)
+            )
 
     def test_lines(self):
         for line in (-1, 0, -7):
@@ -269,8 +309,12 @@ class Strange(OfBytes):
             for at in TOLD if table else ():
                 found = sound(functools.partial(table.frames, TEXT + at), [])
                 # (all, or the line alone, or the function alone, or nothing)
-                line, function = [("", *it[1:]) for it in TOLD[at][:1]], [(it[0], "", 0) for it in TOLD[at][-1:]]
-                self.assertIn([tuple(it) for it in found], (TOLD[at], line, function, []), (size, at))
+                line, function = [("", *it[1:]) for it in TOLD[at][:1]], [
+                    (it[0], "", 0) for it in TOLD[at][-1:]
+                ]
+                self.assertIn(
+                    [tuple(it) for it in found], (TOLD[at], line, function, []), (size, at)
+                )
 
     def test_any_bytes(self):
         """Whatever a file has, nothing is raised beyond what leaves names as they are."""
@@ -282,7 +326,9 @@ class Strange(OfBytes):
                 for _ in range(20):
                     data = bytearray(whole)
                     for _ in range(dice.choice((1, 4, 32))):
-                        data[dice.randrange(len(data))] = dice.choice((0, 1, 0x7F, 0x80, 0xFF, dice.randrange(256)))
+                        data[dice.randrange(len(data))] = dice.choice(
+                            (0, 1, 0x7F, 0x80, 0xFF, dice.randrange(256))
+                        )
                     with open(self.path, "wb") as file:
                         file.write(data)
                     native.go_tables = {}
@@ -300,9 +346,14 @@ class Strange(OfBytes):
         struct.pack_into("<Q", data, 32, len(data))
         struct.pack_into("<H", data, 56, 60000)
         begin = time.process_time()
-        self.assertIsNotNone(self.table(bytes(data + data[table : table + 56 * count] + one * (60000 - count))))
+        self.assertIsNotNone(
+            self.table(bytes(data + data[table : table + 56 * count] + one * (60000 - count)))
+        )
         made.parts[0x900000] = bytearray(b"\xff" * (1 << 20))
-        made.moves = lambda: (b"", b"".join(struct.pack("<QQ", *it) for it in ((36, 0x900000), (35, 1 << 20), (0, 0))))
+        made.moves = lambda: (
+            b"",
+            b"".join(struct.pack("<QQ", *it) for it in ((36, 0x900000), (35, 1 << 20), (0, 0))),
+        )
         self.assertIsNotNone(self.table(made))
         self.assertLess(time.process_time() - begin, 4)
 
@@ -314,7 +365,10 @@ class Strange(OfBytes):
             made.parts = {0x10000: bytearray(grown), **made.parts}
             begin = time.process_time()
             table = self.table(made)
-            self.assertEqual(table and table.frames(TEXT), None if grown[:4] == head[:4] else [Place("main.plain", B, 7)])
+            self.assertEqual(
+                table and table.frames(TEXT),
+                None if grown[:4] == head[:4] else [Place("main.plain", B, 7)],
+            )
             self.assertLess(time.process_time() - begin, 4)
         with mock.patch.object(golang, "FUNCTIONS", len(OWN) - 1):
             self.assertIsNone(self.table(Made()))
@@ -324,7 +378,10 @@ class Strange(OfBytes):
         for told in ([(5, 4)], [(-1, 1), (300, 200), (-5, 1 << 20), (0, 1)]):
             table.begin, table.values, table.data = 0, 0, encoded(told) + encoded([(7, 4)])
             table.steps.cache_clear()
-            self.assertEqual(table.steps(0), ([*itertools.accumulate(it for _, it in told)], [it for it, _ in told]))
+            self.assertEqual(
+                table.steps(0),
+                ([*itertools.accumulate(it for _, it in told)], [it for it, _ in told]),
+            )
 
     def test_steps_without_end(self):
         table = self.table(Made())
@@ -342,9 +399,18 @@ class Native:
     """A program of this machine: a file with a table, and one without."""
 
     def __init__(self, path):
-        self.path, self.back, self.go_tables, self.own = path, mock.Mock(frames={}, sites={}), {}, None
-        self.one, self.other = mock.Mock(path=path, debug="/bin/sh"), mock.Mock(path="/bin/sh", debug="/bin/sh")
-        self.go_table, self.go_frames = (functools.partial(it, self) for it in (NativeProgram.go_table, NativeProgram.go_frames))
+        self.path, self.back, self.go_tables, self.own = (
+            path,
+            mock.Mock(frames={}, sites={}),
+            {},
+            None,
+        )
+        self.one, self.other = mock.Mock(path=path, debug="/bin/sh"), mock.Mock(
+            path="/bin/sh", debug="/bin/sh"
+        )
+        self.go_table, self.go_frames = (
+            functools.partial(it, self) for it in (NativeProgram.go_table, NativeProgram.go_frames)
+        )
 
     def file(self, addr):
         return (self.one if addr < 1 << 31 else self.other), addr % (1 << 31)
@@ -372,7 +438,9 @@ class Names(OfBytes):
             (176, f"program+{TEXT + 176:#x}"),
         ):
             self.assertEqual(naming.instruction(TEXT + at), wanted)
-        self.assertEqual(naming.names.shortened(naming.instruction(TEXT + 96)), "c.go:1000000 (y.v3.(*T).M)")
+        self.assertEqual(
+            naming.names.shortened(naming.instruction(TEXT + 96)), "c.go:1000000 (y.v3.(*T).M)"
+        )
         self.assertEqual(naming.instruction((1 << 31) + 0x40), "sh+0x40")
 
     def test_call_sites(self):
@@ -380,7 +448,10 @@ class Names(OfBytes):
         sites = [Called(TEXT + at, "-") for at in (64, 31, 144, 0x100)]
         # (a function that is called has its own name, and not that of what is inlined)
         self.assertEqual([naming.called(it) for it in sites[:2]], ["main.outer", "main.plain"])
-        self.assertEqual([naming.called(it) for it in sites[2:]], [f"program+{TEXT + 144:#x}", f"program+{TEXT + 0x100:#x}"])
+        self.assertEqual(
+            [naming.called(it) for it in sites[2:]],
+            [f"program+{TEXT + 144:#x}", f"program+{TEXT + 0x100:#x}"],
+        )
         self.assertEqual(naming.block(sites[:2]), "block made at b.go:50 < main.plain")
         self.assertEqual(naming.called(Called(TEXT, "own")), "own")
 
@@ -388,8 +459,18 @@ class Names(OfBytes):
         """Debug information comes before the table, and what the recorder told behind it."""
         _, native = self.naming()
         native.back.sites = {TEXT + at: [Site("recorded", "r.c:1")] for at in (0, 144)}
-        told = [{"Symbol": [it]} for it in ({"FunctionName": "own", "FileName": "/own.c", "Line": 3}, {"FunctionName": "own"}, {})]
-        with mock.patch("native.subprocess.run", return_value=mock.Mock(stdout="\n".join(map(json.dumps, (*told, *told))).encode())):
+        told = [
+            {"Symbol": [it]}
+            for it in (
+                {"FunctionName": "own", "FileName": "/own.c", "Line": 3},
+                {"FunctionName": "own"},
+                {},
+            )
+        ]
+        with mock.patch(
+            "native.subprocess.run",
+            return_value=mock.Mock(stdout="\n".join(map(json.dumps, (*told, *told))).encode()),
+        ):
             sources = NativeSources(native)
             sources.find([TEXT, TEXT + 16, TEXT + 24, TEXT + 144, TEXT + 164, TEXT + 176])
         self.assertEqual(sources.frames(TEXT), [Place("own", "/own.c", 3)])
@@ -397,7 +478,9 @@ class Names(OfBytes):
         self.assertEqual(sources.frames(TEXT + 24), [Place("main.plain", B, 6)])
         self.assertEqual(sources.frames(TEXT + 144), [Place("own", "/own.c", 3)])
         self.assertEqual(sources.frames(TEXT + 164), [Place("own", "", 0)])
-        with mock.patch("native.subprocess.run", return_value=mock.Mock(stdout=json.dumps(told[1]).encode())):
+        with mock.patch(
+            "native.subprocess.run", return_value=mock.Mock(stdout=json.dumps(told[1]).encode())
+        ):
             sources = NativeSources(native)
             self.assertEqual(sources.frames(TEXT + 144), [Place("recorded", "r.c", 1)])
             native.back.sites = {}
@@ -415,16 +498,29 @@ class Names(OfBytes):
             ("sync/atomic.(*Pointer[...]).Load", "atomic.(*Pointer[...]).Load"),
             ("main.most[go.shape.int]", "main.most[go.shape.int]"),
             ("main.(*stack[go.shape.int]).push", "main.(*stack[go.shape.int]).push"),
-            ("tls12.PRF[go.shape.interface { Reset(); Write([]uint8) (int, error) }]", "tls12.PRF[...]"),
-            ("a/sync.(*Map[go.shape.interface {},go.shape.interface {}]).Load", "sync.(*Map[...]).Load"),
+            (
+                "tls12.PRF[go.shape.interface { Reset(); Write([]uint8) (int, error) }]",
+                "tls12.PRF[...]",
+            ),
+            (
+                "a/sync.(*Map[go.shape.interface {},go.shape.interface {}]).Load",
+                "sync.(*Map[...]).Load",
+            ),
         ):
             self.assertEqual(names.shortened(names.readable(whole)), wanted)
 
     def test_atomic_operations(self):
-        files = ("/usr/lib/go-1.19/src/runtime/internal/atomic/types.go", "sync/atomic/type.go", "internal/runtime/atomic/types.go")
+        files = (
+            "/usr/lib/go-1.19/src/runtime/internal/atomic/types.go",
+            "sync/atomic/type.go",
+            "internal/runtime/atomic/types.go",
+        )
         for file in files:
             told = [Place("atomic.Add", file, 3), Place("main.own", "own.go", 4)]
-            self.assertEqual(Naming(None, None, mock.Mock(frames=lambda _, told=told: told)).instruction(8), "own.go:4 (main.own)")
+            self.assertEqual(
+                Naming(None, None, mock.Mock(frames=lambda _, told=told: told)).instruction(8),
+                "own.go:4 (main.own)",
+            )
         for file in ("x/unsync/atomic/x.go", "x/sync/atomic/x.h"):
             told = [Place("x.Add", file, 3), Place("main.own", "own.go", 4)]
             told_as = Naming(None, None, mock.Mock(frames=lambda _, told=told: told)).instruction(8)
@@ -435,8 +531,14 @@ class Names(OfBytes):
         thing = Thing(OfFile("file", self.path), None)
         self.assertTrue(is_unnamed(thing, naming))
         for pcs, wanted in (
-            ([TEXT, TEXT + 48], "memory of program, used at b.go:7 (main.plain) and b.go:20 (lib.inner < main.outer)"),
-            ([TEXT, TEXT + 1, TEXT + 48], "memory of program, used at b.go:7 (main.plain) and b.go:20 (lib.inner < main.outer)"),
+            (
+                [TEXT, TEXT + 48],
+                "memory of program, used at b.go:7 (main.plain) and b.go:20 (lib.inner < main.outer)",
+            ),
+            (
+                [TEXT, TEXT + 1, TEXT + 48],
+                "memory of program, used at b.go:7 (main.plain) and b.go:20 (lib.inner < main.outer)",
+            ),
             ([TEXT + 176, TEXT + 176], f"memory of program, used at program+{TEXT + 176:#x}"),
         ):
             thing.name = naming.key_name(thing.key, None)
@@ -472,10 +574,22 @@ class Names(OfBytes):
             (False, False, False, none + package),
             (False, True, True, none + package + near),
             (False, False, True, none + package + refers),
-            (True, False, True, f"{go}: leave it unstripped, without -s and -w in -ldflags{package}"),
+            (
+                True,
+                False,
+                True,
+                f"{go}: leave it unstripped, without -s and -w in -ldflags{package}",
+            ),
         ):
-            asked = {"has_go_table": has_table, "has_panics": has_panics, "has_landmarks": has_landmarks}
-            self.assertEqual(lacking(mock.Mock(**{it: lambda told=told: told for it, told in asked.items()})), wanted)
+            asked = {
+                "has_go_table": has_table,
+                "has_panics": has_panics,
+                "has_landmarks": has_landmarks,
+            }
+            self.assertEqual(
+                lacking(mock.Mock(**{it: lambda told=told: told for it, told in asked.items()})),
+                wanted,
+            )
 
 
 SOURCE = os.path.join(TOP, "native", "tries", "golang.go")
@@ -483,7 +597,9 @@ SOURCE = os.path.join(TOP, "native", "tries", "golang.go")
 SHOWN, WRAPPER, CALLED = re.compile(r"\[.*\]"), "<autogenerated>", ".abi0"
 
 
-@unittest.skipUnless(shutil.which("go") and shutil.which("objdump"), "there is no go, or no objdump")
+@unittest.skipUnless(
+    shutil.which("go") and shutil.which("objdump"), "there is no go, or no objdump"
+)
 class OfGo(unittest.TestCase):
     """A program with a fixed place and one that is moved, each built whole and without symbols."""
 
@@ -492,35 +608,61 @@ class OfGo(unittest.TestCase):
         folder = tempfile.TemporaryDirectory()
         cls.addClassCleanup(folder.cleanup)
         cls.programs = []
-        own = {"GOCACHE": os.path.join(folder.name, "cache"), "GO111MODULE": "off", "CGO_ENABLED": "0"}
+        own = {
+            "GOCACHE": os.path.join(folder.name, "cache"),
+            "GO111MODULE": "off",
+            "CGO_ENABLED": "0",
+        }
         for way in ("exe", "pie"):
             whole, small = (os.path.join(folder.name, way + it) for it in ("", ".small"))
             for path, words in ((whole, ()), (small, ("-ldflags", "-s -w"))):
                 words = ["go", "build", f"-buildmode={way}", "-o", path, *words, SOURCE]
-                subprocess.run(words, env={**os.environ, **own}, check=True, stderr=subprocess.DEVNULL)
+                subprocess.run(
+                    words, env={**os.environ, **own}, check=True, stderr=subprocess.DEVNULL
+                )
             cls.programs.append((whole, small))
 
     def instructions(self, path, wanted):
         """The instructions of some functions of a program."""
-        rows = subprocess.run(["objdump", "-d", "--no-show-raw-insn", path], capture_output=True, text=True).stdout.split("\n\n")
+        rows = subprocess.run(
+            ["objdump", "-d", "--no-show-raw-insn", path], capture_output=True, text=True
+        ).stdout.split("\n\n")
         found = [it for it in rows if re.match(rf"[0-9a-f]+ <{wanted}", it)]
-        return [int(it, 16) for own in found for it in re.findall(r"^ +([0-9a-f]+):\s+(?!int3|nop|xchg|data16|cs )", own, re.MULTILINE)]
+        return [
+            int(it, 16)
+            for own in found
+            for it in re.findall(
+                r"^ +([0-9a-f]+):\s+(?!int3|nop|xchg|data16|cs )", own, re.MULTILINE
+            )
+        ]
 
     def symbolized(self, path, places):
         tool = ["llvm-symbolizer", f"--obj={path}", "--output-style=JSON", "--inlines"]
-        told = subprocess.run(tool, input="\n".join(map(hex, places)), capture_output=True, text=True).stdout.splitlines()
+        told = subprocess.run(
+            tool, input="\n".join(map(hex, places)), capture_output=True, text=True
+        ).stdout.splitlines()
         for row in told:
-            yield [(it["FunctionName"], os.path.normpath(it["FileName"]), it["Line"]) for it in json.loads(row)["Symbol"]]
+            yield [
+                (it["FunctionName"], os.path.normpath(it["FileName"]), it["Line"])
+                for it in json.loads(row)["Symbol"]
+            ]
 
     def test_the_same_as_by_debug_information(self):
         for whole, small in self.programs:
-            places, table = self.instructions(whole, r"(?:main|sync|strconv|runtime)\."), table_of(small)
+            places, table = self.instructions(whole, r"(?:main|sync|strconv|runtime)\."), table_of(
+                small
+            )
             self.assertGreater(len(places), 30000)
             different, chains = [], set()
             for at, told in zip(places, self.symbolized(whole, places), strict=True):
-                own = [(SHOWN.sub("[...]", it.function), it.file, it.line) for it in table.frames(at)]
+                own = [
+                    (SHOWN.sub("[...]", it.function), it.file, it.line) for it in table.frames(at)
+                ]
                 chains.add(len(own))
-                wanted = [(SHOWN.sub("[...]", function).removesuffix(CALLED), *more) for function, *more in told]
+                wanted = [
+                    (SHOWN.sub("[...]", function).removesuffix(CALLED), *more)
+                    for function, *more in told
+                ]
                 if own != wanted and own[-1][1] != WRAPPER:
                     different.append((hex(at), own, wanted))
             self.assertEqual(different, [])

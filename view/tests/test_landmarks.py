@@ -123,7 +123,14 @@ int main(int argc, char **) {
 """
 # How programs are built: as one that is moved when it is loaded, the same with packed relocations, and with calls that are checked, as one
 # with a fixed place, with calls through words, and without the table for unwinding.
-CODE = ["-O1", "-w", "-fno-reorder-blocks-and-partition", "-fno-toplevel-reorder", "-foptimize-sibling-calls", "-falign-functions=16"]
+CODE = [
+    "-O1",
+    "-w",
+    "-fno-reorder-blocks-and-partition",
+    "-fno-toplevel-reorder",
+    "-foptimize-sibling-calls",
+    "-falign-functions=16",
+]
 WAYS = {
     "pie": ["-fPIE", "-pie", "-fcf-protection=none"],
     "packed": ["-fPIE", "-pie", "-Wl,-z,pack-relative-relocs"],
@@ -131,7 +138,13 @@ WAYS = {
     "fixed": ["-fno-pie", "-no-pie"],
     "through": ["-fPIE", "-pie", "-fno-plt", "-Wl,-z,now"],
     "mixed": ["-fPIE", "-pie", "-Wl,-z,noseparate-code"],
-    "bare": ["-fPIE", "-pie", "-fno-asynchronous-unwind-tables", "-fno-unwind-tables", "-fno-exceptions"],
+    "bare": [
+        "-fPIE",
+        "-pie",
+        "-fno-asynchronous-unwind-tables",
+        "-fno-unwind-tables",
+        "-fno-exceptions",
+    ],
 }
 FIXED = ("fixed",)
 
@@ -140,7 +153,11 @@ def functions(path):
     """Where each function of a program begins and ends."""
     with open(path, "rb") as file:
         symbols = ELFFile(file).get_section_by_name(".symtab").iter_symbols()
-        return {it.name: (it["st_value"], it["st_value"] + it["st_size"]) for it in symbols if it["st_size"]}
+        return {
+            it.name: (it["st_value"], it["st_value"] + it["st_size"])
+            for it in symbols
+            if it["st_size"]
+        }
 
 
 class Built(unittest.TestCase):
@@ -152,8 +169,19 @@ class Built(unittest.TestCase):
     def built(self, source, *words, language="c++", strip=True):
         """The program without symbols, and where its functions are."""
         path = os.path.join(self.folder, "whole")
-        command = ["gcc", *words, "-x", language, "-", "-o", path, *(["-lstdc++"] if language == "c++" else [])]
-        if subprocess.run(command, input=source.encode("latin-1"), stderr=subprocess.DEVNULL).returncode:
+        command = [
+            "gcc",
+            *words,
+            "-x",
+            language,
+            "-",
+            "-o",
+            path,
+            *(["-lstdc++"] if language == "c++" else []),
+        ]
+        if subprocess.run(
+            command, input=source.encode("latin-1"), stderr=subprocess.DEVNULL
+        ).returncode:
             self.skipTest(f"gcc can't build this here: {words}")
         subprocess.run(["strip", "-o", path + ".bare", path], check=True)
         return path + ".bare", functions(path)
@@ -161,8 +189,12 @@ class Built(unittest.TestCase):
 
 def wanted(way):
     """What is told at the beginning of each function."""
-    two = ("called near an assertion at src/list.c:12 in asserts and in a method of lists::Left and 1 more",)
-    three = ("called near an assertion at src/list.c:12 in asserts and near the text \"only here\" and 1 more",)
+    two = (
+        "called near an assertion at src/list.c:12 in asserts and in a method of lists::Left and 1 more",
+    )
+    three = (
+        'called near an assertion at src/list.c:12 in asserts and near the text "only here" and 1 more',
+    )
     called = {
         "low": 'called near the text "the list is broken"',
         "middle": 'called near the text "the list is broken"',
@@ -176,8 +208,12 @@ def wanted(way):
     }
     return {
         **{name: None if way in FIXED else told for name, told in called.items()},
-        **dict.fromkeys(("taken", "in_word", "deep1", "never_called", "plain", "unused", "says_nothing", "main")),
-        "of_header": "near an assertion at /usr/include/own.h:4 in of_header" if way in FIXED else called["low"],
+        **dict.fromkeys(
+            ("taken", "in_word", "deep1", "never_called", "plain", "unused", "says_nothing", "main")
+        ),
+        "of_header": "near an assertion at /usr/include/own.h:4 in of_header"
+        if way in FIXED
+        else called["low"],
         "says_both": 'near the text "the longer one of these"',
         "asserts": "near an assertion at src/list.c:12 in asserts",
         "asserts_twice": "near an assertion at src/list.c:22 in asserts_twice",
@@ -197,7 +233,9 @@ def wanted(way):
     }
 
 
-@unittest.skipUnless(shutil.which("g++") and shutil.which("strip") and shutil.which("c++filt"), "there is no g++")
+@unittest.skipUnless(
+    shutil.which("g++") and shutil.which("strip") and shutil.which("c++filt"), "there is no g++"
+)
 class Ways(Built):
     def test_each_way_to_build(self):
         for way, words in WAYS.items():
@@ -209,7 +247,10 @@ class Ways(Built):
                         near = landmarks.near(places[name][0])
                         self.assertEqual(near.told() if near else None, told)
                         inside = landmarks.near(places[name][1] - 1)
-                        self.assertEqual(inside.told() if inside else None, told.replace("c:22", "c:24") if told else None)
+                        self.assertEqual(
+                            inside.told() if inside else None,
+                            told.replace("c:22", "c:24") if told else None,
+                        )
                 # (before the second check, which is nearer than the first one's call)
                 near = landmarks.near(places["asserts_twice"][0] + 90)
                 self.assertEqual(near.told(), "near an assertion at src/list.c:24 in asserts_twice")
@@ -231,16 +272,27 @@ class Ways(Built):
         landmarks = Landmarks(path, [it for own in (low, caller, jumper) for it in range(*own)])
         usual = landmarks.functions.function
         landmarks.functions.function = lambda at: None if at in range(*jumper) else usual(at)
-        self.assertEqual(landmarks.near(low[0]).told(), 'called near the text "the list is broken" and 1 more')
+        self.assertEqual(
+            landmarks.near(low[0]).told(), 'called near the text "the list is broken" and 1 more'
+        )
         # (a jump writes nothing, so some of its function must have run)
         to = places["jumped_to"]
         self.assertIsNone(told(to[0], to, caller))
-        self.assertEqual(told(to[0], to, (jumper[0], jumper[0] + 1)), "called near an assertion at src/list.c:12 in asserts")
+        self.assertEqual(
+            told(to[0], to, (jumper[0], jumper[0] + 1)),
+            "called near an assertion at src/list.c:12 in asserts",
+        )
         # (between a function and one with a text the calls have run as well)
         self.assertIsNone(told(places["low"][0], places["low"], caller))
 
     def test_what_is_exported(self):
-        flags = ("-O1", "-fPIC", "-shared", "-fno-asynchronous-unwind-tables", "-fno-toplevel-reorder")
+        flags = (
+            "-O1",
+            "-fPIC",
+            "-shared",
+            "-fno-asynchronous-unwind-tables",
+            "-fno-toplevel-reorder",
+        )
         source = r"""
         #define FUNCTION __attribute__((noinline, noclone))
         const char *volatile said;
@@ -250,7 +302,11 @@ class Ways(Built):
         """
         path, places = self.built(source, *flags, language="c")
         landmarks = Landmarks(path)
-        for name, text in (("shown", "what is exported"), ("hidden", "what is hidden"), ("last", "what is last")):
+        for name, text in (
+            ("shown", "what is exported"),
+            ("hidden", "what is hidden"),
+            ("last", "what is last"),
+        ):
             self.assertEqual(landmarks.near(places[name][0] + 4).told(), f'near the text "{text}"')
         self.assertIsNone(landmarks.near(places["last"][1] + 1))
 
@@ -265,7 +321,9 @@ class Ways(Built):
         void Shown::shown(int *it) { it[0]++; }
         void Shown::hidden(int *it) { it[1]++; }
         """
-        path, places = self.built(source, "-O1", "-fPIC", "-shared", "-Wl,--unresolved-symbols=ignore-all")
+        path, places = self.built(
+            source, "-O1", "-fPIC", "-shared", "-Wl,--unresolved-symbols=ignore-all"
+        )
         landmarks = Landmarks(path)
         for name in ("_ZN5Shown5shownEPi", "_ZN5Shown6hiddenEPi"):
             self.assertEqual(landmarks.near(places[name][0]).told(), "in a method of Shown")
@@ -273,7 +331,10 @@ class Ways(Built):
     def test_what_many_call(self):
         """What is called by more than a few is told by none of them."""
         for count, more in ((16, 14), (17, None)):
-            calls = "".join(f'FUNCTION void f{it}(int *it) {{ called(it); said = "text number {it:02} of some"; }}' for it in range(count))
+            calls = "".join(
+                f'FUNCTION void f{it}(int *it) {{ called(it); said = "text number {it:02} of some"; }}'
+                for it in range(count)
+            )
             source = f"""
             #define FUNCTION __attribute__((noinline, noclone))
             const char *volatile said;
@@ -281,14 +342,23 @@ class Ways(Built):
             {calls}
             int main(int n, char **w) {{ int it[64] = {{0}}; {" ".join(f"f{it}(it);" for it in range(count))} return 0; }}
             """
-            path, places = self.built(source, "-O1", "-fPIE", "-pie", "-fno-optimize-sibling-calls", language="c")
-            near = Landmarks(path, (at for it in places.values() for at in range(*it))).near(places["called"][0])
+            path, places = self.built(
+                source, "-O1", "-fPIE", "-pie", "-fno-optimize-sibling-calls", language="c"
+            )
+            near = Landmarks(path, (at for it in places.values() for at in range(*it))).near(
+                places["called"][0]
+            )
             texts = 'called near the text "text number 00 of some" and near the text "text number 01 of some"'
-            self.assertEqual(near.told() if near else None, f"{texts} and {more} more" if more else None)
+            self.assertEqual(
+                near.told() if near else None, f"{texts} and {more} more" if more else None
+            )
 
     def test_where_nothing_is_called(self):
         """Without the table for unwinding a function that nothing calls is told from the one before, and one with branches is whole."""
-        cases = " ".join(f"case {it}: it[{it % 7}] += {it * it + 3}; return n * {it + 5} + it[{it}];" for it in range(12))
+        cases = " ".join(
+            f"case {it}: it[{it % 7}] += {it * it + 3}; return n * {it + 5} + it[{it}];"
+            for it in range(12)
+        )
         source = f"""
         #define FUNCTION __attribute__((noinline, noclone))
         const char *volatile said;
@@ -297,7 +367,9 @@ class Ways(Built):
         FUNCTION int says(int *it, int n) {{ said = "what is said"; return it[n]; }}
         int main(int n, char **w) {{ int it[64] = {{0}}; return chooses(it, n) + says(it, n); }}
         """
-        path, places = self.built(source, "-O2", "-fno-toplevel-reorder", *WAYS["bare"][:-1], language="c")
+        path, places = self.built(
+            source, "-O2", "-fno-toplevel-reorder", *WAYS["bare"][:-1], language="c"
+        )
         landmarks = Landmarks(path)
         for at in range(*places["chooses"]):
             self.assertEqual(landmarks.near(at).told(), 'near the text "what is chosen"')
@@ -326,11 +398,24 @@ class Ways(Built):
         """
         bare = source.replace(".cfi_startproc", "").replace(".cfi_endproc", "")
         for way, text in (("pie", source), ("pie", bare), ("fixed", bare)):
-            flags = ("-O1", "-w", "-fno-toplevel-reorder", "-fno-asynchronous-unwind-tables", *WAYS[way])
+            flags = (
+                "-O1",
+                "-w",
+                "-fno-toplevel-reorder",
+                "-fno-asynchronous-unwind-tables",
+                *WAYS[way],
+            )
             path, places = self.built(text, *flags, language="c")
             landmarks = Landmarks(path)
             said = 'near the text "what is said"'
-            wants = {"says": said, "by_lea": None, "says2": said, "in_table": "in a method of One", "jumps": None, "other": said}
+            wants = {
+                "says": said,
+                "by_lea": None,
+                "says2": said,
+                "in_table": "in a method of One",
+                "jumps": None,
+                "other": said,
+            }
             for name, told in wants.items():
                 near = landmarks.near(places[name][0] + 1)
                 self.assertEqual(near.told() if near else None, told, (name, way))
@@ -347,7 +432,9 @@ class Ways(Built):
         path, places = self.built(source, "-O2", "-fPIE", "-pie", language="c")
         self.assertIn("apart.cold", places)
         landmarks = Landmarks(path)
-        self.assertEqual(landmarks.near(places["apart"][0]).told(), 'near the text "what stands apart"')
+        self.assertEqual(
+            landmarks.near(places["apart"][0]).told(), 'near the text "what stands apart"'
+        )
         self.assertIsNone(landmarks.near(places["beside"][0]))
 
 
@@ -379,11 +466,19 @@ int main(int n, char **w) { return 0; }
 """
 
 
-@unittest.skipUnless(shutil.which("gcc") and shutil.which("strip") and shutil.which("c++filt"), "there is no gcc")
+@unittest.skipUnless(
+    shutil.which("gcc") and shutil.which("strip") and shutil.which("c++filt"), "there is no gcc"
+)
 class Tables(Built):
     def test_of_several_classes(self):
-        for words in (("-fPIE", "-pie"), ("-fno-pie", "-no-pie"), ("-fPIE", "-pie", "-Wl,-z,noseparate-code")):
-            path, places = self.built(TABLES, "-O1", "-w", "-fno-toplevel-reorder", *words, language="c")
+        for words in (
+            ("-fPIE", "-pie"),
+            ("-fno-pie", "-no-pie"),
+            ("-fPIE", "-pie", "-Wl,-z,noseparate-code"),
+        ):
+            path, places = self.built(
+                TABLES, "-O1", "-w", "-fno-toplevel-reorder", *words, language="c"
+            )
             landmarks = Landmarks(path)
             for name, told in (
                 ("own", "in a method of First"),
@@ -398,11 +493,15 @@ class Tables(Built):
                 ("beyond", None),
             ):
                 near = landmarks.near(places[name][0])
-                self.assertTrue(near and near.told().startswith(told) if told else near is None, (name, near))
+                self.assertTrue(
+                    near and near.told().startswith(told) if told else near is None, (name, near)
+                )
             self.assertFalse(landmarks.near(places["of_library"][0]).names_source())
 
     def test_without_a_demangler(self):
-        path, places = self.built(TABLES, "-O1", "-w", "-fno-toplevel-reorder", "-fPIE", "-pie", language="c")
+        path, places = self.built(
+            TABLES, "-O1", "-w", "-fno-toplevel-reorder", "-fPIE", "-pie", language="c"
+        )
         before = os.environ["PATH"]
         try:
             os.environ["PATH"] = self.folder
@@ -411,7 +510,9 @@ class Tables(Built):
             os.environ["PATH"] = before
 
 
-@unittest.skipUnless(shutil.which("g++") and shutil.which("strip") and shutil.which("c++filt"), "there is no g++")
+@unittest.skipUnless(
+    shutil.which("g++") and shutil.which("strip") and shutil.which("c++filt"), "there is no g++"
+)
 class Strange(Built):
     def test_damaged_files(self):
         """A file that is cut or has other bytes tells less or something else, and soon."""
@@ -436,7 +537,9 @@ class Strange(Built):
     def program(self, path, table):
         program = NativeProgram.__new__(NativeProgram)
         program.back, program.panics, program.landmarks = table, {}, {}
-        program.files = [type("File", (), {"path": path, "bias": 0, "has": lambda self, addr: True})()]
+        program.files = [
+            type("File", (), {"path": path, "bias": 0, "has": lambda self, addr: True})()
+        ]
         return program
 
     def test_who_is_asked(self):
@@ -453,16 +556,23 @@ class Strange(Built):
         self.assertEqual(told(near=lambda self, addr: None), 'near the text "the list is broken"')
         self.assertEqual(told(near=lambda self, addr: own), own.told())
         self.assertIsNone(told(near=lambda self, addr: None, places={1: own.places[0]}))
-        self.assertEqual(told(near=lambda self, addr: [][addr]), 'near the text "the list is broken"')
+        self.assertEqual(
+            told(near=lambda self, addr: [][addr]), 'near the text "the list is broken"'
+        )
 
     def table(self, path):
         table = os.path.join(self.folder, "table")
         with open(table, "w") as file:
-            file.write(f"program {path}\n" + "".join(f"{it:#x} {it:#x}\n" for it in range(0, 1 << 17, 4096)))
+            file.write(
+                f"program {path}\n"
+                + "".join(f"{it:#x} {it:#x}\n" for it in range(0, 1 << 17, 4096))
+            )
         return Back(table)
 
     def test_others_have_none(self):
-        self.assertIsNone(Landmarks(os.path.join(TOP, "guest", "built", "counters.elf")).near(0x10000))
+        self.assertIsNone(
+            Landmarks(os.path.join(TOP, "guest", "built", "counters.elf")).near(0x10000)
+        )
         path, places = self.built(SOURCE, *CODE, *WAYS["pie"])
         with open(path, "r+b") as file:
             file.seek(18)
@@ -474,10 +584,14 @@ class Strange(Built):
 
     def test_a_large_file(self):
         """All texts, calls and tables of sixteen megabytes of code are looked through in a second or two."""
-        path, places = self.built(SOURCE + "__asm__(\".fill 600000, 28, 0x2400008d48\\n\");", *CODE, *WAYS["bare"])
+        path, places = self.built(
+            SOURCE + '__asm__(".fill 600000, 28, 0x2400008d48\\n");', *CODE, *WAYS["bare"]
+        )
         began = time.process_time()
         landmarks = Landmarks(path, range(*places["low"]))
-        self.assertEqual(landmarks.near(places["says"][0]).told(), 'near the text "the list is broken"')
+        self.assertEqual(
+            landmarks.near(places["says"][0]).told(), 'near the text "the list is broken"'
+        )
         landmarks.near(places["low"][0])
         self.assertLess(time.process_time() - began, 4)
 

@@ -25,7 +25,10 @@ class Texts(unittest.TestCase):
             ("main", "main"),
             ("void check(int)", "check"),
             ("static int lists::find(const char*, std::size_t)", "lists::find"),
-            ("T lists::Map<T>::insert(T*, int) [with T = long int]", "lists::Map<long int>::insert"),
+            (
+                "T lists::Map<T>::insert(T*, int) [with T = long int]",
+                "lists::Map<long int>::insert",
+            ),
             ("T lists::Map<T>::insert(T *, int) [T = long]", "lists::Map<long>::insert"),
             (
                 "std::pair<T*, bool> mold::ConcurrentMap<T>::insert(std::string_view, mold::u64, const T&) [with T = mold::elf::Section"
@@ -57,20 +60,41 @@ class Texts(unittest.TestCase):
         normal = "__gnu_cxx::__normal_iterator<x::File**,std::vector<x::File*,std::allocator<x::File*> > >"
         for whole, told in (
             ("x::Output<x::Of>", "x::Output<x::Of>"),
-            ("tbb::detail::d1::task<x::opened<x::Of>(x::Context<x::Of>&,x::File*)::{lambda()#1}>", "task<lambda in x::opened<x::Of>>"),
-            (f"tbb::detail::d1::start_for<tbb::blocked_range<{normal} >,x::all()::{{lambda(int)#2}},int>", "start_for<lambda in x::all>"),
-            ("std::thread::_State_impl<std::thread::_Invoker<std::tuple<x::run(int)::{lambda()#1}> > >", "_State_impl<lambda in x::run>"),
-            (f"tbb::detail::d1::start_for<tbb::blocked_range<unsigned long>,{normal},int>", "start_for<x::File**,..>"),
-            ("std::_Sp_counted_ptr_inplace<x::File,std::allocator<void>,(__gnu_cxx::_Lock)2>", "_Sp_counted_ptr_inplace<x::File,..>"),
+            (
+                "tbb::detail::d1::task<x::opened<x::Of>(x::Context<x::Of>&,x::File*)::{lambda()#1}>",
+                "task<lambda in x::opened<x::Of>>",
+            ),
+            (
+                f"tbb::detail::d1::start_for<tbb::blocked_range<{normal} >,x::all()::{{lambda(int)#2}},int>",
+                "start_for<lambda in x::all>",
+            ),
+            (
+                "std::thread::_State_impl<std::thread::_Invoker<std::tuple<x::run(int)::{lambda()#1}> > >",
+                "_State_impl<lambda in x::run>",
+            ),
+            (
+                f"tbb::detail::d1::start_for<tbb::blocked_range<unsigned long>,{normal},int>",
+                "start_for<x::File**,..>",
+            ),
+            (
+                "std::_Sp_counted_ptr_inplace<x::File,std::allocator<void>,(__gnu_cxx::_Lock)2>",
+                "_Sp_counted_ptr_inplace<x::File,..>",
+            ),
             ("std::ctype<char>", "std::ctype<char>"),
             ("x::all(int)::Local", "x::all::Local"),
         ):
             self.assertEqual(classes.told(whole), told)
         for whole, is_library in (
             ("std::ctype<char>", True),
-            ("std::__cxx11::basic_stringbuf<char,std::char_traits<char>,std::allocator<char> >", True),
+            (
+                "std::__cxx11::basic_stringbuf<char,std::char_traits<char>,std::allocator<char> >",
+                True,
+            ),
             ("tbb::detail::d1::task", True),
-            ("std::_Sp_counted_ptr_inplace<x::File,std::allocator<void>,(__gnu_cxx::_Lock_policy)2>", False),
+            (
+                "std::_Sp_counted_ptr_inplace<x::File,std::allocator<void>,(__gnu_cxx::_Lock_policy)2>",
+                False,
+            ),
             ("mystd::Own", False),
             ("File", False),
         ):
@@ -81,7 +105,10 @@ class Texts(unittest.TestCase):
             (": common local symbol?\n", "common local symbol?"),
             ("can't open\nanother line", "can't open"),
             ("%s\n%s: wrong number", "%s: wrong number"),
-            (f"a text of more letters than sixty {26 * '-'} these", f"a text of more letters than sixty {26 * '-'}.."),
+            (
+                f"a text of more letters than sixty {26 * '-'} these",
+                f"a text of more letters than sixty {26 * '-'}..",
+            ),
             ("%d, %s, abcde", ""),
             ("basic_string::_M_create", ""),
             ("basic_string: construction from null", ""),
@@ -94,9 +121,14 @@ class Texts(unittest.TestCase):
             self.assertEqual(text_shown(text), shown)
 
     def test_what_is_said(self):
-        own, other = Landmark(TEXT, 'near the text "one"'), Landmark(CLASS, "in a method of std::ctype<char>", 1, True)
+        own, other = Landmark(TEXT, 'near the text "one"'), Landmark(
+            CLASS, "in a method of std::ctype<char>", 1, True
+        )
         self.assertEqual(Marks((own,)).told(), 'near the text "one"')
-        self.assertEqual(Marks((own, other), True, 3).told(), 'called near the text "one" and in a method of std::ctype<char> and 3 more')
+        self.assertEqual(
+            Marks((own, other), True, 3).told(),
+            'called near the text "one" and in a method of std::ctype<char> and 3 more',
+        )
         self.assertEqual([Marks((it,)).names_source() for it in (own, other)], [True, False])
 
 
@@ -119,13 +151,20 @@ class Names(unittest.TestCase):
         called = Marks((Landmark(TEXT, 'near the text "one"'),), True)
         library = Marks((Landmark(CLASS, "in a method of std::ctype<char>", 1, True),))
         naming = Naming(None, Stripped(x10=own, x20=called, x40=library))
-        self.assertEqual(naming.instruction(0x10), "x264+0x10 (near an assertion at src/a.c:7 in work)")
+        self.assertEqual(
+            naming.instruction(0x10), "x264+0x10 (near an assertion at src/a.c:7 in work)"
+        )
 
         def block(*sites):
             return naming.block([Site(it, "-") for it in sites])
 
-        self.assertEqual(block(0x30, 0x10), "block made in x264+0x30 < x264+0x10 (near an assertion at src/a.c:7 in work)")
-        self.assertEqual(block(0x30, 0x20), 'block made in x264+0x30 < x264+0x20 (called near the text "one")')
+        self.assertEqual(
+            block(0x30, 0x10),
+            "block made in x264+0x30 < x264+0x10 (near an assertion at src/a.c:7 in work)",
+        )
+        self.assertEqual(
+            block(0x30, 0x20), 'block made in x264+0x30 < x264+0x20 (called near the text "one")'
+        )
         self.assertEqual(block(0x20, 0x30), "block made in x264+0x20 < x264+0x30")
         self.assertEqual(block(0x40, 0x30), "block made in x264+0x40 < x264+0x30")
         self.assertEqual(naming.instruction(0x40), "x264+0x40 (in a method of std::ctype<char>)")
@@ -137,7 +176,10 @@ class Names(unittest.TestCase):
         found = [exports.instruction(view, it) for it in (0x10, 0x20, 0x30)]
         told = {"called": False, "texts": ["near an assertion at src/a.c:7 in work"], "more": 3}
         self.assertEqual([it["landmarks"] for it in found], [told, None, None])
-        self.assertEqual([it["panics"] and it["panics"]["places"] for it in found], [None, [{"file": "src/a.rs", "line": 7}], None])
+        self.assertEqual(
+            [it["panics"] and it["panics"]["places"] for it in found],
+            [None, [{"file": "src/a.rs", "line": 7}], None],
+        )
 
     def test_what_counts_as_named(self):
         made = "block made in x264+0x40 < x264+0x10"

@@ -70,9 +70,23 @@ class Messages(unittest.TestCase):
 
     def predator(self, *words):
         """The status, what is printed without the lines of usage, and what is said."""
-        command, own = [os.path.join(TOP, "bin", "predator"), *words], {"PREDATOR_PROGRAM": PROGRAM, "PREDATOR_BUILD": "no"}
-        ran = subprocess.run(command, capture_output=True, text=True, env={**os.environ, **own}, cwd=self.folder, stdin=subprocess.DEVNULL)
-        return ran.returncode, re.sub("^usage: .*\n", "", ran.stdout, flags=re.MULTILINE), ran.stderr
+        command, own = [os.path.join(TOP, "bin", "predator"), *words], {
+            "PREDATOR_PROGRAM": PROGRAM,
+            "PREDATOR_BUILD": "no",
+        }
+        ran = subprocess.run(
+            command,
+            capture_output=True,
+            text=True,
+            env={**os.environ, **own},
+            cwd=self.folder,
+            stdin=subprocess.DEVNULL,
+        )
+        return (
+            ran.returncode,
+            re.sub("^usage: .*\n", "", ran.stdout, flags=re.MULTILINE),
+            ran.stderr,
+        )
 
     def view(self, *words):
         return view(*words, program=PROGRAM, cwd=self.folder)
@@ -80,7 +94,11 @@ class Messages(unittest.TestCase):
     def build(self, name, text):
         with open(self.path(f"{name}.c"), "w", encoding="utf-8") as file:
             file.write(text)
-        subprocess.run([os.path.join(TOP, "guest", "build.sh"), f"{name}.elf", f"{name}.c"], cwd=self.folder, check=True)
+        subprocess.run(
+            [os.path.join(TOP, "guest", "build.sh"), f"{name}.elf", f"{name}.c"],
+            cwd=self.folder,
+            check=True,
+        )
 
     def is_refused(self, said, *words):
         self.assertEqual(self.view(*words), (2, "", f"predator view: {said}\n"))
@@ -88,17 +106,33 @@ class Messages(unittest.TestCase):
     def test_a_program_for_the_other_machine(self):
         said = "predator: `predator native -- own` reports on a program of this machine, and `predator view own` shows it\n"
         status, out, heard = self.predator("run", "own")
-        self.assertEqual((status, out, heard.startswith(said)), (2, "predator: elf BadClass\n", True))
-        self.assertEqual(heard[len(said) :], "predator: own: an ELF file for x86-64: guest/build.sh builds for RV32IMA\n")
-        self.is_refused("./own is a program of this machine: `predator view ./own` records it", "run", "./own")
-        self.is_refused("./ring.elf is a program: `predator view ./ring.elf` runs it", "native", "--", "./ring.elf")
+        self.assertEqual(
+            (status, out, heard.startswith(said)), (2, "predator: elf BadClass\n", True)
+        )
+        self.assertEqual(
+            heard[len(said) :],
+            "predator: own: an ELF file for x86-64: guest/build.sh builds for RV32IMA\n",
+        )
+        self.is_refused(
+            "./own is a program of this machine: `predator view ./own` records it", "run", "./own"
+        )
+        self.is_refused(
+            "./ring.elf is a program: `predator view ./ring.elf` runs it",
+            "native",
+            "--",
+            "./ring.elf",
+        )
         said = "predator native: ./ring.elf: this is a program for RV32; `predator run ./ring.elf` runs it\n"
         if os.path.exists(os.path.join(TOP, "native", "out", "predator-amd64-linux")):
             self.assertEqual(self.predator("native", "--", "./ring.elf"), (126, "", said))
 
     def test_a_program_for_a_trace(self):
-        self.is_refused("ring.elf is a program: `predator view ring.elf` runs it", "replay", "ring.elf")
-        self.is_refused("ring.trace is a trace: `predator view ring.trace` replays it", "run", "ring.trace")
+        self.is_refused(
+            "ring.elf is a program: `predator view ring.elf` runs it", "replay", "ring.elf"
+        )
+        self.is_refused(
+            "ring.trace is a trace: `predator view ring.trace` replays it", "run", "ring.trace"
+        )
 
     def test_a_trace_that_was_cut(self):
         said = "predator: cut.trace: where a kill or Ctrl-C cut it, `predator native --mend cut.trace` gives it an end\n"
@@ -112,37 +146,68 @@ class Messages(unittest.TestCase):
         self.is_refused(said, "run", "ring.elf", "--set", "quantom=3")
         status, out, heard = self.predator("run", "ring.elf", "--set", "quantom=3")
         said = f"predator: did you mean `quantum`? The keys are: {keys.replace(',', '')}\n"
-        self.assertEqual((status, out, heard), (1, "", f"{said}predator: 'quantom=3' in --set names no key of the settings\n"))
+        self.assertEqual(
+            (status, out, heard),
+            (1, "", f"{said}predator: 'quantom=3' in --set names no key of the settings\n"),
+        )
         # (before the program runs, which would put something out)
         status, out, heard = self.view("run", "ring.elf", "--html-page", "x")
         said = "predator view: '--html-page' is no option of view run; did you mean `--html`?"
         self.assertEqual((status, out, heard.split("\nusage: ")[0]), (2, "", said))
-        self.is_refused("'nosuch' is no variable of ring.elf", "run", "ring.elf", "--object", "nosuch")
-        self.is_refused("'ring.elf' is no type of ring.elf, and no variable that points to one", "run", "ring.elf", "--type", "a=ring.elf")
+        self.is_refused(
+            "'nosuch' is no variable of ring.elf", "run", "ring.elf", "--object", "nosuch"
+        )
+        self.is_refused(
+            "'ring.elf' is no type of ring.elf, and no variable that points to one",
+            "run",
+            "ring.elf",
+            "--type",
+            "a=ring.elf",
+        )
 
     def test_an_object_that_is_not_there(self):
         said = "predator: no object symbol of the trace has this name, nor was exactly one block made at that address\n"
         said += "predator: objects on lines that are taken: ring, stats\n"
-        self.assertEqual(self.predator("place", "ring.trace", "nosuch"), (13, "predator: place NoObject\n", said))
+        self.assertEqual(
+            self.predator("place", "ring.trace", "nosuch"), (13, "predator: place NoObject\n", said)
+        )
 
     def test_what_matches_nothing(self):
-        words = ("--type", "arena.c:18=node", "--sources", "empty", "--explain", "0", "--no-predicted")
+        words = (
+            "--type",
+            "arena.c:18=node",
+            "--sources",
+            "empty",
+            "--explain",
+            "0",
+            "--no-predicted",
+        )
         os.mkdir(self.path("empty"))
         status, text, _ = self.view("run", "arena.elf", *words)
         self.assertEqual(status, 0)
         text = joined(text)
         said = "note: `--type arena.c:18=..` matches nothing: blocks that are fought over are made at arena.c:17 "
-        self.assertIn(f"{said}note: `--sources empty` has none of the program's sources: start.S and arena.c useless useful count", text)
+        self.assertIn(
+            f"{said}note: `--sources empty` has none of the program's sources: start.S and arena.c useless useful count",
+            text,
+        )
 
     @unittest.skipIf(LACKS, f"{' '.join(LACKS)} missing")
     def test_a_stack_that_is_too_small(self):
         self.build("deep", DEEP)
-        status, text, _ = self.view("run", "deep.elf", "--set", "memory=1048576", "--explain", "0", "--no-predicted")
+        status, text, _ = self.view(
+            "run", "deep.elf", "--set", "memory=1048576", "--explain", "0", "--no-predicted"
+        )
         first, second, _ = text.split("\n", 2)
         self.assertEqual(status, 0)
-        self.assertRegex(first, r"^!! THE RUN DIDN'T END BY EXIT 0: trap hart 1 pc 0x\w{8} store-outside, at deep\.c:\d \(deep\)$")
+        self.assertRegex(
+            first,
+            r"^!! THE RUN DIDN'T END BY EXIT 0: trap hart 1 pc 0x\w{8} store-outside, at deep\.c:\d \(deep\)$",
+        )
         said = "!! hart 1 ran out of its stack of 65536 bytes, and wrote N bytes below its top: `--set stack=1048576` gives it more, "
-        self.assertEqual(re.sub(r"wrote \d+", "wrote N", second), f"{said}unless it calls itself without end")
+        self.assertEqual(
+            re.sub(r"wrote \d+", "wrote N", second), f"{said}unless it calls itself without end"
+        )
 
     @unittest.skipIf(LACKS, f"{' '.join(LACKS)} missing")
     @unittest.skipUnless(has(PROGRAM, "blame"), "the program has no blame")
@@ -150,9 +215,16 @@ class Messages(unittest.TestCase):
         self.build("waits", WAITS)
         status, text, _ = self.view("run", "waits.elf", "--explain", "0", "--no-predicted")
         self.assertEqual(status, 0)
-        said = re.sub(r"pthread\.c:\d+", "pthread.c:N", joined(text).partition("note: ")[2].partition(" no line is fought over")[0])
+        said = re.sub(
+            r"pthread\.c:\d+",
+            "pthread.c:N",
+            joined(text).partition("note: ")[2].partition(" no line is fought over")[0],
+        )
         wanted = "where each hart waits: hart 0 at pthread.c:N (unlock < claim), after waits.c:13 (main); "
-        self.assertEqual(said, f"{wanted}hart 1 at pthread.c:N (lock < pthread_mutex_lock), after waits.c:4 (work)")
+        self.assertEqual(
+            said,
+            f"{wanted}hart 1 at pthread.c:N (lock < pthread_mutex_lock), after waits.c:4 (work)",
+        )
 
 
 if __name__ == "__main__":

@@ -22,15 +22,15 @@ WRITES = HEAD + bytes.fromhex("24008040 240108 240007") + END
 # A run of three harts in version 3, of which each access has its instruction: the first nine accesses, and ten more as they are spelled
 # at the beginning of a file.
 FIRST = "240090c008888008 110107f88008 21010010 110202f88008 1101010f 11000770 21020a10 21010110 21000710"
-REST = (
-    "11028ac008f88008 110101f88008 110007f88008 21020a10 21010110 21000710 11020a0f 1100090f 21020a10 21000910"
-)
+REST = "11028ac008f88008 110101f88008 110007f88008 21020a10 21010110 21000710 11020a0f 1100090f 21020a10 21000910"
 SYMBOL = "0502300001002c0000000400776f726b"
 
 
 def whole():
     """The trace of the nineteen accesses."""
-    head, end = struct.pack("<8sQHH", b"PRDTRC03", 0, 8, 0), struct.pack("<BBBHIQQ", 6, 0, 0, 0, 0, 60, 19)
+    head, end = struct.pack("<8sQHH", b"PRDTRC03", 0, 8, 0), struct.pack(
+        "<BBBHIQQ", 6, 0, 0, 0, 0, 60, 19
+    )
     text, before, pcs = head + bytes.fromhex(SYMBOL), 0, {}
     for part in (FIRST, REST):
         own = head + bytes.fromhex(part) + end
@@ -65,20 +65,29 @@ class Moved(unittest.TestCase):
         self.assertEqual(len(trace), 145)
         said, status, out = self.move(trace, "0x11000 4 0x11080\n0x11004 4 0x11040\n")
         self.assertEqual((said, status, len(out)), ("move 19 18", 0, 149))
-        begin = bytes.fromhex(SYMBOL + "240090c008888008 110170f88008 21010010 110202f88008 1101010f 1100800170")
+        begin = bytes.fromhex(
+            SYMBOL + "240090c008888008 110170f88008 21010010 110202f88008 1101010f 1100800170"
+        )
         self.assertTrue(out[20:].startswith(begin))
         self.assertEqual(self.total(trace), "total cold 3 useful 4 useless 5")
         self.assertEqual(self.total(out), "total cold 4 useful 4 useless 0")
 
     def test_a_trace_of_version_2(self):
         said, status, out = self.move(WRITES, "0x1004 4 0x1040")
-        self.assertEqual((said, status, out), ("move 3 1", 0, HEAD + bytes.fromhex("24008040 24018001 24007f") + END))
+        self.assertEqual(
+            (said, status, out),
+            ("move 3 1", 0, HEAD + bytes.fromhex("24008040 24018001 24007f") + END),
+        )
 
     def test_a_place_that_is_not_free(self):
-        self.assertEqual(self.move(WRITES, "0x1004 4 0x1000")[:2], ("table Occupied 0x00001000", 14))
+        self.assertEqual(
+            self.move(WRITES, "0x1004 4 0x1000")[:2], ("table Occupied 0x00001000", 14)
+        )
 
     def test_two_that_change_places(self):
-        self.assertEqual(self.move(WRITES, "0x1000 4 0x1004\n0x1004 4 0x1000\n")[:2], ("move 3 3", 0))
+        self.assertEqual(
+            self.move(WRITES, "0x1000 4 0x1004\n0x1004 4 0x1000\n")[:2], ("move 3 3", 0)
+        )
 
     def test_tables(self):
         for table, said in (

@@ -28,7 +28,9 @@ from screen import Paint, prediction, screen  # noqa: E402
 from source_lines import Place  # noqa: E402
 from unnamed import HEAP, name  # noqa: E402
 
-HEAD = "predator report 1\noutcome exit 0\nsteps 9\naccesses 900\nlayout 64 0\nthresholds 16 64 100\n"
+HEAD = (
+    "predator report 1\noutcome exit 0\nsteps 9\naccesses 900\nlayout 64 0\nthresholds 16 64 100\n"
+)
 
 
 def report_of(rows):
@@ -53,9 +55,19 @@ def word(addr, reads, writes, hart):
 
 def made(useless, *lines, functions=("malloc", "make", "main"), useful=0):
     """A record of blocks that are made at some lines of ring.c."""
-    sites = [{"function": it, "file": "/src/ring.c" if it != "malloc" else "", "line": at} for it, at in zip(functions, (0, *lines))]
+    sites = [
+        {"function": it, "file": "/src/ring.c" if it != "malloc" else "", "line": at}
+        for it, at in zip(functions, (0, *lines))
+    ]
     key = "block " + " < ".join(functions[1:])
-    return {"key": key, "name": f"block made at ring.c:{lines[0]}", "useless": useless, "useful": useful, "count": 0, "beside": []} | {
+    return {
+        "key": key,
+        "name": f"block made at ring.c:{lines[0]}",
+        "useless": useless,
+        "useful": useful,
+        "count": 0,
+        "beside": [],
+    } | {
         "words": [],
         "sites": sites,
         "declared": None,
@@ -64,12 +76,18 @@ def made(useless, *lines, functions=("malloc", "make", "main"), useful=0):
 
 class Compared(unittest.TestCase):
     def pairs(self, old, new):
-        return sorted((a and a["useless"] or 0, b and b["useless"] or 0) for a, b in compare.pairs(old, new))
+        return sorted(
+            (a and a["useless"] or 0, b and b["useless"] or 0) for a, b in compare.pairs(old, new)
+        )
 
     def test_blocks_whose_lines_have_moved(self):
         old = [made(11, 9, 40), made(12, 100, 40), made(13, 20, 50)]
         for by in (0, 7, -5):
-            new = [made(91, 9 + by, 40 + by), made(92, 100 + by, 40 + by), made(93, 20 + by, 50 + by)]
+            new = [
+                made(91, 9 + by, 40 + by),
+                made(92, 100 + by, 40 + by),
+                made(93, 20 + by, 50 + by),
+            ]
             self.assertEqual(self.pairs(old, new), [(11, 91), (12, 92), (13, 93)])
             # One that is gone, or new, isn't taken for another one.
             self.assertEqual(self.pairs(old, new[1:]), [(11, 0), (12, 92), (13, 93)])
@@ -78,27 +96,44 @@ class Compared(unittest.TestCase):
     def test_callers_and_order(self):
         old, new = [made(1, 9, 40), made(2, 9, 50)], [made(5, 9, 50)]
         self.assertEqual(self.pairs(old, new), [(1, 0), (2, 5)])
-        self.assertEqual(self.pairs([made(1, 9), made(2, 30)], [made(5, 9), made(6, 33)]), [(1, 5), (2, 6)])
+        self.assertEqual(
+            self.pairs([made(1, 9), made(2, 30)], [made(5, 9), made(6, 33)]), [(1, 5), (2, 6)]
+        )
         other = made(7, 9, functions=("malloc", "grow"))
         self.assertEqual(self.pairs([other], [made(5, 9)]), [(0, 5), (7, 0)])
         # (a kept report has no lines)
-        self.assertEqual(self.pairs([made(1, 0), made(2, 0)], [made(5, 0)]), [(0, 5), (1, 0), (2, 0)])
+        self.assertEqual(
+            self.pairs([made(1, 0), made(2, 0)], [made(5, 0)]), [(0, 5), (1, 0), (2, 0)]
+        )
 
     def test_rows(self):
         self.assertEqual(compare.row(made(3, 9), made(3, 9), "useless"), "the same")
         self.assertEqual(compare.row(made(3, 9), None, "useless"), "gone: 3 before")
-        self.assertEqual(compare.row(None, made(3, 9, useful=2), "useless"), "new: 3 useless and 2 useful")
+        self.assertEqual(
+            compare.row(None, made(3, 9, useful=2), "useless"), "new: 3 useless and 2 useful"
+        )
         self.assertEqual(compare.row(None, made(0, 9, useful=2), "useless"), "new: 2 useful")
         told = "less: 300 before, 0 now; useful more: 1 before, 900 now"
-        self.assertEqual(compare.row(made(300, 9, useful=1), made(0, 9, useful=900), "useless"), told)
+        self.assertEqual(
+            compare.row(made(300, 9, useful=1), made(0, 9, useful=900), "useless"), told
+        )
 
     def test_what_was_saved_and_costs_more(self):
-        view = view_of([], "misses 64 0\naccesses 900\nlines 0\ntotal cold 4 useful 901 useless 0\nend\n")
-        before = compare.Before([made(300, 9, useful=1)], "exit 0", {"cold": 2, "useful": 1, "useless": 300})
+        view = view_of(
+            [], "misses 64 0\naccesses 900\nlines 0\ntotal cold 4 useful 901 useless 0\nend\n"
+        )
+        before = compare.Before(
+            [made(300, 9, useful=1)], "exit 0", {"cold": 2, "useful": 1, "useless": 300}
+        )
         rows = list(compare.compared(view, before, "old"))
         self.assertEqual(rows[1], "  all misses but cold ones: worse: 301 before, 901 now")
-        self.assertEqual(rows[2:4], ["    useless: less: 300 before, 0 now", "    useful: more: 1 before, 901 now"])
-        self.assertEqual(rows[4:], ["  block made at ring.c:9: gone: 300 useless and 1 useful before"])
+        self.assertEqual(
+            rows[2:4],
+            ["    useless: less: 300 before, 0 now", "    useful: more: 1 before, 901 now"],
+        )
+        self.assertEqual(
+            rows[4:], ["  block made at ring.c:9: gone: 300 useless and 1 useful before"]
+        )
         nothing = compare.Before([made(0, 9)], "exit 0", {"cold": 2, "useful": 0, "useless": 0})
         self.assertEqual(list(compare.compared(view, nothing, "old"))[4:], [])
 
@@ -120,53 +155,94 @@ class Advised(unittest.TestCase):
         return thing
 
     def todo(self, *words, useless=0, useful=300, turns=100):
-        return advice.sentence(self.thing(useless, useful), words, {}, 64, True, lambda _: "", turns)
+        return advice.sentence(
+            self.thing(useless, useful), words, {}, 64, True, lambda _: "", turns
+        )
 
     def test_several_fields_in_a_word(self):
-        state, flags = used("lock.state", 0, 200), used("lock.ready, .done", 4, 40, WordKind(True, True))
+        state, flags = used("lock.state", 0, 200), used(
+            "lock.ready, .done", 4, 40, WordKind(True, True)
+        )
         for turns in (1, 3, 100):
             for useless, useful in ((0, 300), (100, 300), (300, 20)):
                 told = self.todo(state, flags, useless=useless, useful=useful, turns=turns)
                 self.assertIn("several fields or elements lie in a word of lock.ready, .done", told)
                 self.assertNotIn("padding", told)
-            self.assertIn("several fields or elements lie in one word there", self.todo(flags, turns=turns))
+            self.assertIn(
+                "several fields or elements lie in one word there", self.todo(flags, turns=turns)
+            )
         self.assertIn("padding doesn't help", self.todo(state))
         # (what isn't known of memory without a type)
-        self.assertIn("padding helps only where harts use different bytes", self.todo(used("lock+8", 8, 200, WordKind(False, False))))
+        self.assertIn(
+            "padding helps only where harts use different bytes",
+            self.todo(used("lock+8", 8, 200, WordKind(False, False))),
+        )
 
     def test_a_field_of_eight_bytes_is_one(self):
-        words = [used("lock.sum", 0, 90), used("lock.sum+4", 4, 90), used("lock.own", 8, 0, hart="1"), used("lock.own+4", 12, 0, hart="1")]
+        words = [
+            used("lock.sum", 0, 90),
+            used("lock.sum+4", 4, 90),
+            used("lock.own", 8, 0, hart="1"),
+            used("lock.own+4", 12, 0, hart="1"),
+        ]
         told = self.todo(*words, useless=200, useful=90)
         self.assertIn("behind the first of each: lock.sum (shared); lock.own (hart 1)", told)
         self.assertNotIn("+4", told)
         self.assertIn("the sharing of lock.sum is true", self.todo(*words[:2]))
         # (each load brings both of its words)
         self.assertNotIn("times more", self.todo(*words[:2], useful=90))
-        self.assertIn("a line for each of its words would miss 90 times more", self.todo(words[0], used("lock.other", 8, 90), useful=90))
+        self.assertIn(
+            "a line for each of its words would miss 90 times more",
+            self.todo(words[0], used("lock.other", 8, 90), useful=90),
+        )
 
     def test_an_object_that_no_access_touches_is_not_named(self):
-        head, near = "line observed 0x00002000 64 start 0 count 300 verdict false", "object symbol near 0x00001ff0 24"
-        for at, names in ((0x2008, ["memory at 0x00002000"]), (0x2004, ["near"]), (0x2000, ["near"])):
-            self.assertEqual([it.name for it in view_of([head, near, word(at, 5, 50, "hart 1")]).things], names)
+        head, near = (
+            "line observed 0x00002000 64 start 0 count 300 verdict false",
+            "object symbol near 0x00001ff0 24",
+        )
+        for at, names in (
+            (0x2008, ["memory at 0x00002000"]),
+            (0x2004, ["near"]),
+            (0x2000, ["near"]),
+        ):
+            self.assertEqual(
+                [it.name for it in view_of([head, near, word(at, 5, 50, "hart 1")]).things], names
+            )
         # (it is on the line before too, and there it is touched)
         other = "line observed 0x00001fc0 64 start 0 count 900 verdict false"
-        rows = [other, near, word(0x1FF0, 5, 50, "hart 1"), head, near, word(0x2008, 5, 50, "hart 1")]
+        rows = [
+            other,
+            near,
+            word(0x1FF0, 5, 50, "hart 1"),
+            head,
+            near,
+            word(0x2008, 5, 50, "hart 1"),
+        ]
         self.assertEqual([it.name for it in view_of(rows).things], ["near", "memory at 0x00002000"])
         # (a line whose words aren't told is what it lies on)
         self.assertEqual([it.name for it in view_of([head, near]).things], ["near"])
 
     def test_words_of_a_stack(self):
-        rows = ["line observed 0x0100ffc0 64 start 0 count 300 verdict true", word(0x100FFC0, 5, 50, "many")]
+        rows = [
+            "line observed 0x0100ffc0 64 start 0 count 300 verdict true",
+            word(0x100FFC0, 5, 50, "many"),
+        ]
         # (without debug information and with it)
         for program in (None, Program(built("odd.elf"))):
             view = view_of(rows, memory=Memory((0xF90000, 0x1010000), 8), program=program)
             (told,) = view.seen(view.things[0]).words
-            self.assertEqual((told.name, told.kind), ("0x0100ffc0, 64 below its top", WordKind(False, False)))
+            self.assertEqual(
+                (told.name, told.kind), ("0x0100ffc0, 64 below its top", WordKind(False, False))
+            )
             self.assertNotIn("several fields", view.seen(view.things[0]).todo)
 
     def test_all_groups_are_told(self):
         shared = [used(f"lock.{it}", 4 * at, 90) for at, it in enumerate("abcdefg")]
-        read = [used(name, at, 0)._replace(reads=900, writes=writes) for name, at, writes in (("lock.room", 28, 0), ("lock.size", 32, 3))]
+        read = [
+            used(name, at, 0)._replace(reads=900, writes=writes)
+            for name, at, writes in (("lock.room", 28, 0), ("lock.size", 32, 3))
+        ]
         told = self.todo(*shared, *read, useless=200, useful=90)
         self.assertIn("lock.f (shared); lock.g (shared); lock.size and lock.room (only read)", told)
         self.assertNotIn(" more;", told)
@@ -174,17 +250,29 @@ class Advised(unittest.TestCase):
         self.assertIn("begin lock on a line of its own", self.todo(*read, useless=200))
 
     def test_words_without_names_are_not_all_told(self):
-        told = self.todo(*[used(f"0x{4096 + 4 * at:08x}", 4 * at, 90) for at in range(9)], useless=200, useful=90)
+        told = self.todo(
+            *[used(f"0x{4096 + 4 * at:08x}", 4 * at, 90) for at in range(9)], useless=200, useful=90
+        )
         self.assertIn("0x0000100c (shared); and 5 more groups", told)
         self.assertNotIn("0x00001010", told.partition("belong apart")[2])
 
     def test_an_object_that_fights_with_itself_and_others(self):
-        words = [used("lock.a", 0, 90), used("lock.b", 4, 90), used("near", 8, 0, hart="1")._replace(key=OfSymbol("symbol", "near", 8))]
+        words = [
+            used("lock.a", 0, 90),
+            used("lock.b", 4, 90),
+            used("near", 8, 0, hart="1")._replace(key=OfSymbol("symbol", "near", 8)),
+        ]
         thing = self.thing(200, 90)
         told = advice.sentence(thing, words, {words[2].key: "near"}, 64, True, lambda _: "")
-        self.assertIn(f"lock and near share lines: put {ALIGNED} behind the name of each; and these belong apart", told)
+        self.assertIn(
+            f"lock and near share lines: put {ALIGNED} behind the name of each; and these belong apart",
+            told,
+        )
         self.assertIn("lock.a (shared); lock.b (shared)", told)
-        self.assertNotIn("belong apart", advice.sentence(thing, words[1:], {words[2].key: "near"}, 64, True, lambda _: ""))
+        self.assertNotIn(
+            "belong apart",
+            advice.sentence(thing, words[1:], {words[2].key: "near"}, 64, True, lambda _: ""),
+        )
 
 
 class Objects(unittest.TestCase):
@@ -196,8 +284,14 @@ class Objects(unittest.TestCase):
         ]
         view = view_of([*rows, word(0x1000, 1, 50, "hart 0"), word(0x1004, 9, 80, "hart 1")])
         (thing,) = view.things
-        self.assertEqual((thing.name, thing.count, [view.name_of(it) for it in thing.beside]), ("tail", 200, ["head"]))
-        self.assertEqual(view.seen(thing).todo, f"tail and head share lines: put {ALIGNED} behind the name of each")
+        self.assertEqual(
+            (thing.name, thing.count, [view.name_of(it) for it in thing.beside]),
+            ("tail", 200, ["head"]),
+        )
+        self.assertEqual(
+            view.seen(thing).todo,
+            f"tail and head share lines: put {ALIGNED} behind the name of each",
+        )
         self.assertIn("head", view.names_of(thing))
 
     def test_lines_that_only_have_misses_count(self):
@@ -210,7 +304,10 @@ class Objects(unittest.TestCase):
         counted += "line 0x00001040 cold 2 useful 1 useless 500\nobject symbol b 0x00001040 64\n"
         counted += "line 0x00001000 cold 2 useful 0 useless 300\nobject symbol a 0x00001000 64\n"
         view = view_of(rows, counted + "total cold 4 useful 1 useless 800\nend\n")
-        self.assertEqual([(it.name, it.useless, it.useful, it.count) for it in view.things], [("b", 500, 1, 0), ("a", 300, 0, 200)])
+        self.assertEqual(
+            [(it.name, it.useless, it.useful, it.count) for it in view.things],
+            [("b", 500, 1, 0), ("a", 300, 0, 200)],
+        )
 
     def test_what_a_repair_saves_stands_first(self):
         counted = "misses 64 0\naccesses 900\nlines 2\n"
@@ -222,29 +319,44 @@ class Objects(unittest.TestCase):
         words += "line 0x00001048 cold 1 useful 250 useless 0\nline 0x00001000 cold 1 useful 1 useless 0\n"
         words += "total cold 3 useful 501 useless 0\nend\n"
         view = view_of([], counted, by_word=words)
-        self.assertEqual([(it.name, it.saves, it.useless) for it in view.things], [("b", 300, 300), ("a", 9, 500)])
+        self.assertEqual(
+            [(it.name, it.saves, it.useless) for it in view.things],
+            [("b", 300, 300), ("a", 9, 500)],
+        )
         self.assertEqual([it.name for it in view_of([], counted).things], ["a", "b"])
 
     def test_what_the_c_library_has_is_one_row(self):
         rows = []
         for at, own in enumerate(("__malloc_lock", "queue", "_Impure", "_mine")):
             base = 0x1000 + 64 * at
-            rows += [f"line observed 0x{base:08x} 64 start 0 count {300 + at} verdict true", f"object symbol {own} 0x{base:08x} 4"]
+            rows += [
+                f"line observed 0x{base:08x} 64 start 0 count {300 + at} verdict true",
+                f"object symbol {own} 0x{base:08x} 4",
+            ]
             rows += [word(base, 5, 50, "many")]
         view = view_of(rows)
         self.assertEqual(view.folded(), [])
-        view.naming.program = SimpleNamespace(dwarf=1, variable=lambda _: None, declared=lambda _: None)
+        view.naming.program = SimpleNamespace(
+            dwarf=1, variable=lambda _: None, declared=lambda _: None
+        )
         view.rank()
         self.assertEqual([it.name for it in view.listed()], ["_mine", "queue"])
         (shown,) = [it for it in screen(view, Paint(io.StringIO())) if "library" in it]
-        self.assertEqual(shown.split(), "- - 602 2 2 objects of the C library: --library shows them".split())
+        self.assertEqual(
+            shown.split(), "- - 602 2 2 objects of the C library: --library shows them".split()
+        )
         for option in ({"library": ""}, {"object": "__malloc_lock"}):
             view.call.options.update(option)
             self.assertEqual(view.folded(), [])
             view.call.options = {"type": []}
 
     def test_files_of_the_c_library(self):
-        for path in ("/usr/lib/x86_64-linux-gnu/libc.so.6", "/lib64/ld-linux-x86-64.so.2", "[vdso]", "libpthread-2.36.so"):
+        for path in (
+            "/usr/lib/x86_64-linux-gnu/libc.so.6",
+            "/lib64/ld-linux-x86-64.so.2",
+            "[vdso]",
+            "libpthread-2.36.so",
+        ):
             self.assertTrue(library.LIBRARIES.search(path), path)
         for path in ("/usr/lib/libcap.so.2", "/home/me/libc/queue", "/usr/lib/libstdc++.so.6"):
             self.assertFalse(library.LIBRARIES.search(path), path)
@@ -272,14 +384,19 @@ class Objects(unittest.TestCase):
         view = view_of([], counted, each=each)
         (thing,) = view.things
         self.assertEqual((thing.name, thing.count, thing.useless), ("b", 0, 500))
-        self.assertEqual([(it.name, it.reads, it.writes, it.hart) for it in view.seen(thing).words], [("a", 9, 1, "0"), ("b", 30, 40, "1")])
+        self.assertEqual(
+            [(it.name, it.reads, it.writes, it.hart) for it in view.seen(thing).words],
+            [("a", 9, 1, "0"), ("b", 30, 40, "1")],
+        )
         told = f"b and a share lines: put {ALIGNED} behind the name of each; this saves up to 500 of 501 misses"
         self.assertEqual(view.seen(thing).todo, told)
 
     def test_one_row_for_a_call_site_that_makes_and_frees(self):
         rows = []
         for at in range(40):
-            rows += [f"line observed 0x{0x2000 + 64 * at:08x} 64 start 0 count {300 - at} verdict false"]
+            rows += [
+                f"line observed 0x{0x2000 + 64 * at:08x} 64 start 0 count {300 - at} verdict false"
+            ]
             for born in range(0, 900, 30):
                 rows += [
                     f"object block 0x{0x2000 + 64 * at:08x} 64 born {born} died {born + 29}",
@@ -289,7 +406,10 @@ class Objects(unittest.TestCase):
             rows += [word(0x2000 + 64 * at, 5, 50, "many")]
         view = view_of(rows)
         (thing,) = view.things
-        self.assertEqual((thing.name, len(thing.spots), len(thing.lives), thing.count), ("block made in make", 40, 1200, 40 * 300 - 780))
+        self.assertEqual(
+            (thing.name, len(thing.spots), len(thing.lives), thing.count),
+            ("block made in make", 40, 1200, 40 * 300 - 780),
+        )
         (shown,) = [it for it in screen(view, Paint(io.StringIO())) if "lives)" in it]
         self.assertEqual(shown.split(), "1 - - 11220 40 block made in make (1200 lives)".split())
 
@@ -302,46 +422,78 @@ class Objects(unittest.TestCase):
                 word(at, 5, 50, "many"),
             ]
         view = view_of(rows)
-        self.assertEqual([view.label(it) for it in view.things], ["lock, at 0x00001000", "lock, at 0x00002000"])
+        self.assertEqual(
+            [view.label(it) for it in view.things], ["lock, at 0x00001000", "lock, at 0x00002000"]
+        )
         self.assertEqual({it.name for it in view.things}, {"lock"})
 
     def test_blocks_of_one_name_are_told_apart_by_their_callers_lines(self):
         names = {0x100: ("give", 3), 0x200: ("stream", 10), 0x300: ("stream", 20)}
-        places = {at: [Place(function, f"/src/{function}.c", line)] for at, (function, line) in names.items()}
+        places = {
+            at: [Place(function, f"/src/{function}.c", line)]
+            for at, (function, line) in names.items()
+        }
         rows = []
         for at, caller in ((0x1000, 0x200), (0x2000, 0x300)):
-            rows += [f"line observed 0x{at:08x} 64 start 0 count 200 verdict true", f"object block 0x{at:08x} 64 born 0 live"]
+            rows += [
+                f"line observed 0x{at:08x} 64 start 0 count 200 verdict true",
+                f"object block 0x{at:08x} 64 born 0 live",
+            ]
             rows += ["site 0x00000100 give", f"site 0x{caller:08x} stream", word(at, 5, 50, "many")]
         report = report_of(rows)
-        sources = SimpleNamespace(frames=lambda at: places[at], place=lambda at: places[at][0], find=lambda _: None)
+        sources = SimpleNamespace(
+            frames=lambda at: places[at], place=lambda at: places[at][0], find=lambda _: None
+        )
         view = View(Call(["r"]), report, Naming(report, sources=sources))
         view.arrange()
         name = "block made at give.c:3 < stream"
-        self.assertEqual([view.label(it) for it in view.things], [f"{name}, by stream.c:10", f"{name}, by stream.c:20"])
+        self.assertEqual(
+            [view.label(it) for it in view.things],
+            [f"{name}, by stream.c:10", f"{name}, by stream.c:20"],
+        )
 
     def test_callers_that_lie_in_no_code(self):
         sites = [Site(0x100, "-"), Site(0x200, "-"), Site(0x300, "-")]
         naming = Naming(view_of([]).report)
         self.assertEqual(naming.in_code(sites), sites)
-        naming.program = SimpleNamespace(library=lambda at: "mold+0x100" if at != 0x200 else "", dwarf=None)
+        naming.program = SimpleNamespace(
+            library=lambda at: "mold+0x100" if at != 0x200 else "", dwarf=None
+        )
         self.assertEqual(naming.in_code(sites), sites[:1])
         self.assertEqual(naming.block(sites), "block made in mold+0x100")
         self.assertEqual(naming.in_code(sites[1:]), sites[1:2])
 
     def test_what_the_allocator_keeps(self):
-        for file, wanted in (("./malloc/malloc.c", HEAP), ("/src/my/malloc.c", "memory used at malloc.c:9 (give)")):
-            view = view_of(["line observed 0x00002000 64 start 0 count 300 verdict false", word(0x2000, 5, 50, "many")])
-            view.naming.sources = SimpleNamespace(frames=lambda _, file=file: [Place("give", file, 9)])
+        for file, wanted in (
+            ("./malloc/malloc.c", HEAP),
+            ("/src/my/malloc.c", "memory used at malloc.c:9 (give)"),
+        ):
+            view = view_of(
+                [
+                    "line observed 0x00002000 64 start 0 count 300 verdict false",
+                    word(0x2000, 5, 50, "many"),
+                ]
+            )
+            view.naming.sources = SimpleNamespace(
+                frames=lambda _, file=file: [Place("give", file, 9)]
+            )
             name(view.things[0], [0x100, 0x104], view.naming)
             self.assertEqual(view.things[0].name, wanted)
-            self.assertEqual("link another allocator" in view.advised(view.things[0], []), wanted == HEAP)
+            self.assertEqual(
+                "link another allocator" in view.advised(view.things[0], []), wanted == HEAP
+            )
 
     def test_what_is_folded_is_found_once(self):
-        rows = [f"line observed {it:#010x} 64 start 0 count 9 verdict false" for it in range(0x1000, 0x9000, 0x1000)]
+        rows = [
+            f"line observed {it:#010x} 64 start 0 count 9 verdict false"
+            for it in range(0x1000, 0x9000, 0x1000)
+        ]
         view, calls = view_of(rows), []
         view.runtime, folded = {view.things[1].key, view.things[4].key}, view.folded
         view.folded = lambda: calls.append(1) or folded()
-        self.assertEqual(view.listed(), [it for at, it in enumerate(view.things) if at not in (1, 4)])
+        self.assertEqual(
+            view.listed(), [it for at, it in enumerate(view.things) if at not in (1, 4)]
+        )
         self.assertEqual(len(calls), 1)
 
     def test_true_sharing_below_the_first_rows_is_told(self):
@@ -349,32 +501,58 @@ class Objects(unittest.TestCase):
             rows, lines = [], []
             for at, needed in zip(range(0x1000, 0x2000, 0x40), useful):
                 own = f"object symbol v{at:x} {at:#010x} 4"
-                rows += [f"line observed {at:#010x} 64 start 0 count {9000 - at} verdict false", own, word(at, 5, 50, "many")]
+                rows += [
+                    f"line observed {at:#010x} 64 start 0 count {9000 - at} verdict false",
+                    own,
+                    word(at, 5, 50, "many"),
+                ]
                 lines.append(f"line {at:#010x} cold 2 useful {needed} useless {9000 - at}\n{own}\n")
             useless = sum(9000 - 0x1000 - 0x40 * it for it in range(len(useful)))
             total = f"total cold {2 * len(useful)} useful {sum(useful)} useless {useless}"
-            misses = f"misses 64 0\naccesses 900\nlines {len(lines)}\n{''.join(lines)}{total}\nend\n"
+            misses = (
+                f"misses 64 0\naccesses 900\nlines {len(lines)}\n{''.join(lines)}{total}\nend\n"
+            )
             text = "\n".join(screen(view_of(rows, misses), Paint(io.StringIO())))
-            return [" ".join(it.split()) for it in text.split("note: ") if "true sharing of one object" in it]
+            return [
+                " ".join(it.split())
+                for it in text.split("note: ")
+                if "true sharing of one object" in it
+            ]
 
         four = 9000 * 4 - 0x1000 * 4 - 0x40 * 6
-        self.assertTrue(told(0, 0, 0, four + 1)[0].startswith(f"{four + 1} of the {2 * four + 1} misses that aren't cold are true sharing"))
+        self.assertTrue(
+            told(0, 0, 0, four + 1)[0].startswith(
+                f"{four + 1} of the {2 * four + 1} misses that aren't cold are true sharing"
+            )
+        )
         self.assertIn("in row 4: v10c0", told(0, 0, 0, four + 1)[0])
         self.assertEqual(told(0, 0, 0, four), [])
         self.assertEqual(told(0, 0, four + 1, 0), [])
         self.assertEqual(told(), [])
 
     def test_of_a_clean_trace_all_is_to_be_left(self):
-        rows = ["line observed 0x00001000 64 start 0 count 2 verdict false", "object symbol a 0x00001000 8", word(0x1000, 5, 50, "many")]
+        rows = [
+            "line observed 0x00001000 64 start 0 count 2 verdict false",
+            "object symbol a 0x00001000 8",
+            word(0x1000, 5, 50, "many"),
+        ]
         line = "line 0x00001000 cold 2 useful 0 useless 9\nobject symbol a 0x00001000 8\n"
         for accesses, is_clean in ((90_001, True), (90_000, False)):
             head = HEAD.replace("steps 9", "steps 0").replace("900", str(accesses))
             report = Report("\n".join([head + "lines 1", *rows, "end", ""]))
             view = View(Call(["replay", "t"]), report, Naming(report))
-            view.misses = Misses(f"misses 64 0\naccesses {accesses}\nlines 1\n{line}total cold 2 useful 0 useless 9\nend\n")
+            view.misses = Misses(
+                f"misses 64 0\naccesses {accesses}\nlines 1\n{line}total cold 2 useful 0 useless 9\nend\n"
+            )
             view.arrange()
-            self.assertEqual("nothing here is worth doing" in "\n".join(screen(view, Paint(io.StringIO()))), is_clean)
-            self.assertEqual(view.seen(view.things[0]).todo.startswith("leave it: it has 9 of the 9 misses"), is_clean)
+            self.assertEqual(
+                "nothing here is worth doing" in "\n".join(screen(view, Paint(io.StringIO()))),
+                is_clean,
+            )
+            self.assertEqual(
+                view.seen(view.things[0]).todo.startswith("leave it: it has 9 of the 9 misses"),
+                is_clean,
+            )
 
     def test_large_numbers_stand_apart(self):
         rows = [
@@ -387,21 +565,40 @@ class Objects(unittest.TestCase):
     def test_blocks_of_one_call_site_are_one_object(self):
         rows = ["line observed 0x00002000 64 start 0 count 300 verdict false"]
         for at in range(0x2000, 0x2040, 16):
-            rows += [f"object block 0x{at:08x} 16 born 1 live", "site 0x00000100 malloc", "site 0x00000200 make", "site 0x00000300 _start"]
+            rows += [
+                f"object block 0x{at:08x} 16 born 1 live",
+                "site 0x00000100 malloc",
+                "site 0x00000200 make",
+                "site 0x00000300 _start",
+            ]
         rows += [word(at, 5, 50, f"hart {at // 16 % 4}") for at in range(0x2000, 0x2040, 16)]
         (thing,) = view_of(rows).things
         self.assertEqual((thing.name, len(thing.lives)), ("block made in make", 4))
 
     def test_a_call_site_is_known_by_its_name_on_the_screen(self):
-        rows = ["line observed 0x00002000 64 start 0 count 300 verdict false", "object block 0x00002000 64 born 1 live"]
-        rows += ["site 0x00000100 _ZN4pool4giveEm", "site 0x00000200 main", word(0x2000, 5, 50, "hart 1")]
+        rows = [
+            "line observed 0x00002000 64 start 0 count 300 verdict false",
+            "object block 0x00002000 64 born 1 live",
+        ]
+        rows += [
+            "site 0x00000100 _ZN4pool4giveEm",
+            "site 0x00000200 main",
+            word(0x2000, 5, 50, "hart 1"),
+        ]
         view = view_of(rows)
         names = view.naming.names_of_site(view.things[0].example)
-        self.assertEqual(names, {"pool::give", "pool::give(unsigned long)", "_ZN4pool4giveEm", "0x00000100"})
+        self.assertEqual(
+            names, {"pool::give", "pool::give(unsigned long)", "_ZN4pool4giveEm", "0x00000100"}
+        )
         self.assertIn(" block made in pool::give", "\n".join(screen(view, Paint(io.StringIO()))))
         view.naming.types = [("pool::take", "node")]
         view.note_idle()
-        self.assertEqual(view.notes, ["`--type pool::take=..` matches nothing: blocks that are fought over are made at pool::give"])
+        self.assertEqual(
+            view.notes,
+            [
+                "`--type pool::take=..` matches nothing: blocks that are fought over are made at pool::give"
+            ],
+        )
 
     def test_the_small_and_the_long_lived_block_has_the_word(self):
         arena, node = Block(0x1000, 4096, 0, None, ()), Block(0x1010, 16, 5, 900, ())
@@ -414,36 +611,70 @@ class Objects(unittest.TestCase):
     def test_stacks_have_names(self):
         memory = Memory((0xF90000, 0x1010000), 8)
         self.assertEqual(
-            [memory.key(it) for it in (0x100FFFC, 0x1000000, 0xFFFFFC, 0xF90000)], [("stack", 0), ("stack", 0), ("stack", 1), ("stack", 7)]
+            [memory.key(it) for it in (0x100FFFC, 0x1000000, 0xFFFFFC, 0xF90000)],
+            [("stack", 0), ("stack", 0), ("stack", 1), ("stack", 7)],
         )
         self.assertEqual(memory.key(0x1010000), ("memory", 0x1010000))
-        rows = ["line observed 0x0100ffc0 64 start 0 count 300 verdict true", word(0x100FFC0, 5, 50, "many")]
+        rows = [
+            "line observed 0x0100ffc0 64 start 0 count 300 verdict true",
+            word(0x100FFC0, 5, 50, "many"),
+        ]
         self.assertEqual(view_of(rows, memory=memory).things[0].name, "stack of hart 0")
 
     def test_a_misaligned_access_has_advice(self):
         view = view_of(
-            ["line observed 0x00001000 64 start 0 count 300 verdict true", "object symbol a 0x00001000 4", word(0x1000, 5, 50, "many")]
+            [
+                "line observed 0x00001000 64 start 0 count 300 verdict true",
+                "object symbol a 0x00001000 4",
+                word(0x1000, 5, 50, "many"),
+            ]
         )
-        for cause, told in (("load-misaligned", "`memcpy`"), ("store-misaligned", "`memcpy`"), ("load-outside", "until then")):
+        for cause, told in (
+            ("load-misaligned", "`memcpy`"),
+            ("store-misaligned", "`memcpy`"),
+            ("load-outside", "until then"),
+        ):
             view.report.outcome = f"trap hart 0 pc 0x00010000 {cause}"
             self.assertIn(told, "\n".join(screen(view, Paint(io.StringIO()))))
 
     def test_a_trap_where_no_code_is(self):
         view = view_of([])
-        view.naming.sources = SimpleNamespace(code=[(0x10000, 0x11000)], place=lambda _: None, near=lambda _: None, frames=lambda _: [])
-        for pc, told in ((0, "to where no code is"), (0x10FF0, "until then"), (0x11000, "`--set stack=1048576`")):
+        view.naming.sources = SimpleNamespace(
+            code=[(0x10000, 0x11000)],
+            place=lambda _: None,
+            near=lambda _: None,
+            frames=lambda _: [],
+        )
+        for pc, told in (
+            (0, "to where no code is"),
+            (0x10FF0, "until then"),
+            (0x11000, "`--set stack=1048576`"),
+        ):
             view.report.outcome = f"trap hart 0 pc {pc:#010x} illegal"
             self.assertIn(told, "\n".join(screen(view, Paint(io.StringIO()))))
 
     def overflow(self, *accesses):
         """What is told of the stacks of harts that made some accesses."""
-        case = Case([Access(*it, 4) for it in accesses], [], Ending("exit 0", 9, (0, 0, 0, 0)), 8, 16, 64, 100, 64, None)
+        case = Case(
+            [Access(*it, 4) for it in accesses],
+            [],
+            Ending("exit 0", 9, (0, 0, 0, 0)),
+            8,
+            16,
+            64,
+            100,
+            64,
+            None,
+        )
         found = overflow(trace_of(case), Memory((0xF90000, 0x1010000), 8))
         return found and found.told()
 
     def test_a_stack_that_is_too_small(self):
         down = [(1, True, at) for at in range(0xFFFFF0, 0xFFFFF0 - 0x18000, -32)]
-        self.assertIn("hart 1 ran out of its stack of 65536 bytes, and wrote 98288 bytes below its top", self.overflow(*down))
+        self.assertIn(
+            "hart 1 ran out of its stack of 65536 bytes, and wrote 98288 bytes below its top",
+            self.overflow(*down),
+        )
         self.assertIn("`--set stack=131072` gives it more", self.overflow(*down))
         deep = [(7, True, at) for at in range(0xF9FFF0, 0xF9FFF0 - 0x200000, -1024)]
         self.assertIn("hart 7 ran out of its stack of 65536 bytes", self.overflow(*deep))
@@ -454,8 +685,15 @@ class Objects(unittest.TestCase):
         self.assertIsNone(self.overflow(*down[: 0x10000 // 32]))
 
     def test_thread_local_variables_have_names(self):
-        rows = ["line observed 0x0100ffc0 64 start 0 count 300 verdict true", "object block 0x0100ffe0 8 born 0 live"]
-        rows += ["site 0x00010080 thread_locals", "site 0x0001000c _start", word(0x100FFE0, 5, 50, "many")]
+        rows = [
+            "line observed 0x0100ffc0 64 start 0 count 300 verdict true",
+            "object block 0x0100ffe0 8 born 0 live",
+        ]
+        rows += [
+            "site 0x00010080 thread_locals",
+            "site 0x0001000c _start",
+            word(0x100FFE0, 5, 50, "many"),
+        ]
         memory = Memory((0xF90000, 0x1010000), 8)
         self.assertEqual(view_of(rows, memory=memory).things[0].name, "thread-local variables")
 
@@ -463,14 +701,23 @@ class Objects(unittest.TestCase):
         rows = []
         for base, site in ((0x2000, 0x204), (0x2040, 0x200), (0x2080, 0x300)):
             name = "make" if site < 0x300 else "other"
-            rows += [f"line observed 0x{base:08x} 64 start 0 count 300 verdict false", f"object block 0x{base:08x} 64 born 1 live"]
+            rows += [
+                f"line observed 0x{base:08x} 64 start 0 count 300 verdict false",
+                f"object block 0x{base:08x} 64 born 1 live",
+            ]
             rows += [f"site 0x{site:08x} {name}", word(base, 5, 50, "many")]
         view = view_of(rows)
         self.assertEqual(sorted(view.keys.values()), ["block make", "block make #2", "block other"])
 
     def test_predictions(self):
-        rows = ["line shifted 0x00001020 64 start 3 count 150 verdict false", "object symbol a 0x00001000 128"]
-        rows += ["line shifted 0x00001060 64 start 3 count 140 verdict false", "object symbol a 0x00001000 128"]
+        rows = [
+            "line shifted 0x00001020 64 start 3 count 150 verdict false",
+            "object symbol a 0x00001000 128",
+        ]
+        rows += [
+            "line shifted 0x00001060 64 start 3 count 140 verdict false",
+            "object symbol a 0x00001000 128",
+        ]
         view = view_of(rows)
         native = Misses(
             "misses 64 0\naccesses 9\nlines 1\nline 0x00001040 cold 2 useful 0 useless 9\ntotal cold 2 useful 0 useless 9\nend\n"
@@ -479,21 +726,29 @@ class Objects(unittest.TestCase):
         own = Misses(text + "total cold 4 useful 0 useless 19\nend\n")
         found = judged(view.report, native, {(64, 32): own}, view.naming)
         self.assertEqual(
-            [(it.line.base, it.useless, it.inside, it.is_shown) for it in found], [(0x1020, 10, 9, True), (0x1060, 9, 9, False)]
+            [(it.line.base, it.useless, it.inside, it.is_shown) for it in found],
+            [(0x1020, 10, 9, True), (0x1060, 9, 9, False)],
         )
         self.assertEqual(len(together(found)), 2)
         view.misses, view.all = native, {it: SimpleNamespace(name=f"o{it}") for it in range(5)}
-        self.assertIn("o0, o1, o2 and 2 more: with lines", prediction(view, [found[0]._replace(keys=tuple(range(5)))]))
+        self.assertIn(
+            "o0, o1, o2 and 2 more: with lines",
+            prediction(view, [found[0]._replace(keys=tuple(range(5)))]),
+        )
 
     def judge(self, kind, base, rows, native, own, naming=None):
         """Whether a predicted line is shown, by the misses of observed lines and its own, and why not."""
         size = 128 if kind == "doubled" else 64
         view = view_of([f"line {kind} 0x{base:08x} {size} start 3 count 150 verdict false", *rows])
         lines = "".join(f"line 0x{at:08x} cold 2 useful 0 useless {much}\n" for at, much in native)
-        observed = Misses(f"misses 64 0\naccesses 9\nlines {len(native)}\n{lines}total cold 2 useful 0 useless 0\nend\n")
+        observed = Misses(
+            f"misses 64 0\naccesses 9\nlines {len(native)}\n{lines}total cold 2 useful 0 useless 0\nend\n"
+        )
         text = f"misses {size} {base % size}\naccesses 9\nlines 1\nline 0x{base:08x} cold 2 useful 0 useless {own}\n"
         text += f"total cold 2 useful 0 useless {own}\nend\n"
-        (found,) = judged(view.report, observed, {(size, base % size): Misses(text)}, naming or view.naming)
+        (found,) = judged(
+            view.report, observed, {(size, base % size): Misses(text)}, naming or view.naming
+        )
         return found.is_shown, found.why
 
     def test_what_says_nothing_new_is_folded(self):
@@ -502,7 +757,9 @@ class Objects(unittest.TestCase):
         # A pad that was cleared once, beside words that are fought over anyway; a doubled line around one that is observed.
         self.assertEqual(self.judge("shifted", 0x1020, ring, [(0x1000, 300)], 300), no_more)
         self.assertEqual(self.judge("doubled", 0x1000, ring, [(0x1000, 300)], 300), no_more)
-        self.assertEqual(self.judge("doubled", 0x1000, ring, [(0x1000, 300), (0x1040, 9)], 309), no_more)
+        self.assertEqual(
+            self.judge("doubled", 0x1000, ring, [(0x1000, 300), (0x1040, 9)], 309), no_more
+        )
         # One more miss there is something new.
         self.assertEqual(self.judge("doubled", 0x1000, ring, [(0x1000, 300)], 301), (True, ""))
         self.assertEqual(self.judge("shifted", 0x1020, ring, [], 1), (True, ""))
@@ -518,12 +775,23 @@ class Objects(unittest.TestCase):
             variable = SimpleNamespace(alignment=lambda alignment=alignment: alignment, type=None)
             naming = Naming(view_of([]).report)
             naming.program = SimpleNamespace(variable=lambda _, it=variable: it)
-            self.assertEqual(self.judge("shifted", base, ["object symbol counters 0x00001000 512"], [], 900, naming), wanted)
+            self.assertEqual(
+                self.judge(
+                    "shifted", base, ["object symbol counters 0x00001000 512"], [], 900, naming
+                ),
+                wanted,
+            )
 
     def test_what_alignment_allows(self):
         block = "object block 0x00002010 64 born 0 live\n"
         for base, wanted in ((0x2020, True), (0x2018, False), (0x2010, True)):
-            line = Line(block, block, len(block), len(block), ("shifted", hex(base), 64, 0, 100, "false", block))
+            line = Line(
+                block,
+                block,
+                len(block),
+                len(block),
+                ("shifted", hex(base), 64, 0, 100, "false", block),
+            )
             self.assertEqual(can_lie(line, view_of([]).naming), wanted)
 
     def test_names_in_a_sentence(self):
@@ -552,14 +820,22 @@ class Objects(unittest.TestCase):
 
     def test_names_of_symbols(self):
         names = Names()
-        names.learn("object symbol _ZN2ru5SLOTS17h014a019cd835f220E 0x00001000 64\nsite 0x00002000 _RNvCs4mUmuLXSNC_2ru4main")
+        names.learn(
+            "object symbol _ZN2ru5SLOTS17h014a019cd835f220E 0x00001000 64\nsite 0x00002000 _RNvCs4mUmuLXSNC_2ru4main"
+        )
         self.assertEqual(names.readable("_ZN2ru5SLOTS17h014a019cd835f220E"), "ru::SLOTS")
         self.assertEqual(names.readable("_RNvCs4mUmuLXSNC_2ru4main"), "ru::main")
         self.assertEqual(names.readable("gopkg.in/yaml%2ev2.counts"), "gopkg.in/yaml.v2.counts")
         self.assertEqual(names.readable("plain"), "plain")
-        self.assertEqual([names.readable(it) for it in ("join@@GLIBC_2.34", "copy@GLIBC_2.2.5")], ["join", "copy"])
+        self.assertEqual(
+            [names.readable(it) for it in ("join@@GLIBC_2.34", "copy@GLIBC_2.2.5")],
+            ["join", "copy"],
+        )
         names.note("f(int)")
-        self.assertEqual(names.shortened("block made in f(int) < gopkg.in/yaml.v2.counts"), "block made in f < yaml.v2.counts")
+        self.assertEqual(
+            names.shortened("block made in f(int) < gopkg.in/yaml.v2.counts"),
+            "block made in f < yaml.v2.counts",
+        )
         self.assertEqual(names.lasting("_ZN2ru5SLOTS17h014a019cd835f220E"), "ru::SLOTS")
         self.assertEqual(names.lasting("_ZN4ring5firstE"), "_ZN4ring5firstE")
 

@@ -83,7 +83,11 @@ int main(int argc, char **words) {
     return bare[0] + one_file(sums, argc) + other_file(sums, argc) + two_files(sums, argc) + library(sums, argc) + nothing(sums, argc) & 1;
 }
 """
-LIST, NODE, SLICE = "/r/registry/src/index-0/own-1.0.0/src/list.rs", "src/node.rs", "/rustc/0123abc/library/core/src/slice/mod.rs"
+LIST, NODE, SLICE = (
+    "/r/registry/src/index-0/own-1.0.0/src/list.rs",
+    "src/node.rs",
+    "/rustc/0123abc/library/core/src/slice/mod.rs",
+)
 # How programs are linked: as one that is moved when it is loaded, the same with packed relocations, as one with a fixed place, and without
 # libraries, moved and not. (rustc has the table for unwinding always searchable, gcc not where it links statically.)
 WAYS = {
@@ -94,19 +98,33 @@ WAYS = {
     "static-pie": ["-fPIE", "-static-pie"],
 }
 # (parts of a function that seldom run would stand apart)
-FLAGS = ["-O1", "-w", "-fno-reorder-blocks-and-partition", "-fno-toplevel-reorder", "-foptimize-sibling-calls", "-fcf-protection=none"]
+FLAGS = [
+    "-O1",
+    "-w",
+    "-fno-reorder-blocks-and-partition",
+    "-fno-toplevel-reorder",
+    "-foptimize-sibling-calls",
+    "-fcf-protection=none",
+]
 
 
 def functions(path):
     """Where each function of a program begins and ends."""
     with open(path, "rb") as file:
         symbols = ELFFile(file).get_section_by_name(".symtab").iter_symbols()
-        return {it.name: (it["st_value"], it["st_value"] + it["st_size"]) for it in symbols if it["st_size"] or it.name == "bare"}
+        return {
+            it.name: (it["st_value"], it["st_value"] + it["st_size"])
+            for it in symbols
+            if it["st_size"] or it.name == "bare"
+        }
 
 
 def code(places):
     """All code of the source, as if it had run, but for a function that makes no access."""
-    return [*range(places["panic_at"][0], places["jumps"][0]), *range(places["jumps"][1], places["main"][1])]
+    return [
+        *range(places["panic_at"][0], places["jumps"][0]),
+        *range(places["jumps"][1], places["main"][1]),
+    ]
 
 
 @unittest.skipUnless(shutil.which("gcc") and shutil.which("strip"), "there is no gcc")
@@ -141,8 +159,19 @@ class Ways(unittest.TestCase):
             if way in ("fixed", "static"):
                 self.assertIsNone(near(name), name)
             else:
-                self.assertEqual(([it.file for it in near(name).places], near(name).is_called), ([LIST], True), name)
-        for name in ("called_by_two", "called_by_library", "taken", "in_table", "loaded", "jumped_to"):
+                self.assertEqual(
+                    ([it.file for it in near(name).places], near(name).is_called),
+                    ([LIST], True),
+                    name,
+                )
+        for name in (
+            "called_by_two",
+            "called_by_library",
+            "taken",
+            "in_table",
+            "loaded",
+            "jumped_to",
+        ):
             self.assertIsNone(near(name), name)
         for name in ("nothing", "plain", "bare", "main"):
             self.assertIsNone(near(name), name)
@@ -168,15 +197,21 @@ class Ways(unittest.TestCase):
             self.assertEqual(([it.file for it in near.places], near.is_called), ([file], True))
 
     def test_files_in_order(self):
-        source = SOURCE.replace("panic_at(&list9)", "panic_at(&node8)").replace('"src/node.rs", 8', '"src/a.rs", 8')
+        source = SOURCE.replace("panic_at(&list9)", "panic_at(&node8)").replace(
+            '"src/node.rs", 8', '"src/a.rs", 8'
+        )
         path, places = self.built("pie", source)
         panics = Panics(path, code(places))
         # (of as many places of each file the first by its name leads)
-        self.assertEqual([it.file for it in panics.near(places["two_files"][0]).places], [LIST, "src/a.rs"])
+        self.assertEqual(
+            [it.file for it in panics.near(places["two_files"][0]).places], [LIST, "src/a.rs"]
+        )
 
     def test_others_have_no_places(self):
         path, places = self.built("pie", SOURCE.replace(".rs", ".cc"))
-        self.assertEqual((Panics(path).places, Panics(path).near(places["one_file"][0])), ({}, None))
+        self.assertEqual(
+            (Panics(path).places, Panics(path).near(places["one_file"][0])), ({}, None)
+        )
         self.assertEqual(Panics("/bin/sh").places, {})
         guest = os.path.join(TOP, "guest", "built", "counters.elf")
         self.assertEqual(Panics(guest).places, {})
@@ -188,21 +223,40 @@ class Texts(unittest.TestCase):
             ("src/walk.rs", "src/walk.rs"),
             ("/home/me/prog/src/walk.rs", "/home/me/prog/src/walk.rs"),
             ("/usr/share/cargo/registry/regex-1.7.0/src/pool.rs", "regex-1.7.0/src/pool.rs"),
-            ("/root/.cargo/registry/src/index.crates.io-6f17d22bba15001f/regex-1.7.0/src/pool.rs", "regex-1.7.0/src/pool.rs"),
-            ("/root/.cargo/git/checkouts/regex-0123/4567/src/pool.rs", "regex-0123/4567/src/pool.rs"),
+            (
+                "/root/.cargo/registry/src/index.crates.io-6f17d22bba15001f/regex-1.7.0/src/pool.rs",
+                "regex-1.7.0/src/pool.rs",
+            ),
+            (
+                "/root/.cargo/git/checkouts/regex-0123/4567/src/pool.rs",
+                "regex-0123/4567/src/pool.rs",
+            ),
             ("/build/prog/vendor/regex/src/pool.rs", "vendor/regex/src/pool.rs"),
             ("library/std/src/thread/mod.rs", "library/std/src/thread/mod.rs"),
-            ("/rustc/4eb161250e340c8f48f66e2b929ef4a5bed7c181/library/std/src/io/mod.rs", "library/std/src/io/mod.rs"),
+            (
+                "/rustc/4eb161250e340c8f48f66e2b929ef4a5bed7c181/library/std/src/io/mod.rs",
+                "library/std/src/io/mod.rs",
+            ),
             ("/usr/src/rustc-1.63.0/library/alloc/src/string.rs", "library/alloc/src/string.rs"),
-            ("/usr/src/rustc-1.63.0/vendor/hashbrown/src/raw/mod.rs", "library/vendor/hashbrown/src/raw/mod.rs"),
+            (
+                "/usr/src/rustc-1.63.0/vendor/hashbrown/src/raw/mod.rs",
+                "library/vendor/hashbrown/src/raw/mod.rs",
+            ),
             ("/rust/deps/hashbrown-0.15.2/src/raw.rs", "library/deps/hashbrown-0.15.2/src/raw.rs"),
-            ("/root/.rustup/toolchains/stable/lib/rustlib/src/rust/library/core/src/str/mod.rs", "library/core/src/str/mod.rs"),
+            (
+                "/root/.rustup/toolchains/stable/lib/rustlib/src/rust/library/core/src/str/mod.rs",
+                "library/core/src/str/mod.rs",
+            ),
         ):
             self.assertEqual(Panic(file, 7).short(), f"{wanted}:7")
             self.assertEqual(Panic(file, 7).is_library(), wanted.startswith("library/"), file)
 
     def test_what_is_said(self):
-        own, other, library = Panic("src/a.rs", 1), Panic("src/b.rs", 2), Panic("library/core/src/str/mod.rs", 3)
+        own, other, library = (
+            Panic("src/a.rs", 1),
+            Panic("src/b.rs", 2),
+            Panic("library/core/src/str/mod.rs", 3),
+        )
         self.assertEqual(Near((own,)).told(), "near a panic at src/a.rs:1")
         self.assertEqual(Near((own, other)).told(), "near panics at src/a.rs:1 and src/b.rs:2")
         self.assertEqual(Near((own,), True).told(), "called near a panic at src/a.rs:1")
@@ -210,7 +264,9 @@ class Texts(unittest.TestCase):
 
     def test_packed_relocations(self):
         self.assertEqual(list(packed([0x1000, 0b1011, 0x3000])), [0x1000, 0x1008, 0x1018, 0x3000])
-        self.assertEqual(list(packed([0x1000, 1 << 63 | 1, 0b11])), [0x1000, 0x1008 + 8 * 62, 0x1008 + 8 * 63])
+        self.assertEqual(
+            list(packed([0x1000, 1 << 63 | 1, 0b11])), [0x1000, 0x1008 + 8 * 62, 0x1008 + 8 * 63]
+        )
 
 
 class Stripped:
@@ -228,14 +284,26 @@ class Stripped:
 
 class Names(unittest.TestCase):
     def test_instructions(self):
-        naming = Naming(None, Stripped(x10=Near((Panic("src/a.rs", 7),)), x20=Near((Panic("/rustc/0a/library/core/src/str/mod.rs", 8),))))
+        naming = Naming(
+            None,
+            Stripped(
+                x10=Near((Panic("src/a.rs", 7),)),
+                x20=Near((Panic("/rustc/0a/library/core/src/str/mod.rs", 8),)),
+            ),
+        )
         self.assertEqual(naming.instruction(0x10), "fd+0x10 (near a panic at src/a.rs:7)")
-        self.assertEqual(naming.instruction(0x20), "fd+0x20 (near a panic at library/core/src/str/mod.rs:8)")
+        self.assertEqual(
+            naming.instruction(0x20), "fd+0x20 (near a panic at library/core/src/str/mod.rs:8)"
+        )
         self.assertEqual(naming.instruction(0x30), "fd+0x30")
         self.assertEqual(Naming(None).instruction(0x10), "0x00000010")
 
     def test_blocks(self):
-        own, called, library = Near((Panic("src/a.rs", 7),)), Near((Panic("src/b.rs", 8),), True), Near((Panic("library/std/src/a.rs", 9),))
+        own, called, library = (
+            Near((Panic("src/a.rs", 7),)),
+            Near((Panic("src/b.rs", 8),), True),
+            Near((Panic("library/std/src/a.rs", 9),)),
+        )
         naming = Naming(None, Stripped(x10=own, x20=called, x30=library))
 
         def block(*sites):
@@ -255,10 +323,18 @@ class Names(unittest.TestCase):
             self.assertEqual(block(*((it, "-") for it in chain)), f"block made in {wanted}")
         # (a call site that has a name needs no other)
         self.assertEqual(block((0x10, "work"), (0x40, "-")), "block made in work < fd+0x40")
-        self.assertEqual(block((0x10, "work"), (0x20, "-"), (0x10, "-")), f"block made in work < fd+0x20 < fd+0x10{told}")
+        self.assertEqual(
+            block((0x10, "work"), (0x20, "-"), (0x10, "-")),
+            f"block made in work < fd+0x20 < fd+0x10{told}",
+        )
 
     def test_blocks_that_no_call_site_tells(self):
-        naming = Naming(None, Stripped(x10=Near((Panic("src/a.rs", 7),)), x30=Near((Panic("library/std/src/a.rs", 9),))))
+        naming = Naming(
+            None,
+            Stripped(
+                x10=Near((Panic("src/a.rs", 7),)), x30=Near((Panic("library/std/src/a.rs", 9),))
+            ),
+        )
         for sites, is_told in (
             ([(0x40, "-"), (0x10, "-")], True),
             ([(0x40, "-"), (0x50, "work")], True),
@@ -269,8 +345,17 @@ class Names(unittest.TestCase):
             block = Block(0x1000, 64, 0, None, tuple(Site(*it) for it in sites))
             thing = Thing(OfBlocks("block", ("0x40",)), block)
             thing.name = naming.block(block.sites)
-            own = "block used at" if not sites else thing.name if is_told else f"{thing.name}, used at"
-            self.assertEqual((naming.is_told(block.sites), unnamed.is_unnamed(thing, naming)), (is_told, not is_told))
+            own = (
+                "block used at"
+                if not sites
+                else thing.name
+                if is_told
+                else f"{thing.name}, used at"
+            )
+            self.assertEqual(
+                (naming.is_told(block.sites), unnamed.is_unnamed(thing, naming)),
+                (is_told, not is_told),
+            )
             unnamed.name(thing, [0x70, 0x10], naming)
             used = "" if is_told else " fd+0x70 and fd+0x10 (near a panic at src/a.rs:7)"
             self.assertEqual(thing.name, own + used)
@@ -283,8 +368,14 @@ class Names(unittest.TestCase):
             (f"{made} (near panics at src/a.rs:7 and src/b.rs:8) < fd+0x50", True),
             (f"{made} (called near a panic at src/a.rs:7)", True),
             (f"{made} (near a panic at library/core/src/str/mod.rs:8)", False),
-            ("memory used at fd+0x10 (near a panic at library/core/src/str/mod.rs:8) and fd+0x20", False),
-            ("memory used at fd+0x10 (near a panic at library/core/src/str/mod.rs:8) and a.c:7 (work)", True),
+            (
+                "memory used at fd+0x10 (near a panic at library/core/src/str/mod.rs:8) and fd+0x20",
+                False,
+            ),
+            (
+                "memory used at fd+0x10 (near a panic at library/core/src/str/mod.rs:8) and a.c:7 (work)",
+                True,
+            ),
             ("memory used at fd+0x10 and fd+0x20 (near a panic at src/a.rs:7)", True),
             ("memory used at a.c:7 (work < main) and fd+0x20", True),
             ("memory at 0x00010000", False),
@@ -305,14 +396,25 @@ class OfRust(unittest.TestCase):
         bump = next(at for at, it in enumerate(lines, 1) if it.startswith("fn bump"))
         with tempfile.TemporaryDirectory() as folder:
             path = os.path.join(folder, "panics")
-            words = ["-O", "-C", "codegen-units=1", f"--remap-path-prefix={os.path.dirname(source)}=/r/registry/own-1.0.0/src"]
-            subprocess.run(["rustc", *words, source, "-o", path], check=True, stderr=subprocess.DEVNULL)
+            words = [
+                "-O",
+                "-C",
+                "codegen-units=1",
+                f"--remap-path-prefix={os.path.dirname(source)}=/r/registry/own-1.0.0/src",
+            ]
+            subprocess.run(
+                ["rustc", *words, source, "-o", path], check=True, stderr=subprocess.DEVNULL
+            )
             places = {name: it for name, it in functions(path).items() if "6panics" in name}
             subprocess.run(["strip", path], check=True)
             panics = Panics(path, [at for it in places.values() for at in range(*it)])
         for part, is_called in (("4bump", False), ("3add", True), ("4made", False)):
-            near = panics.near(next(it for name, it in places.items() if f"6panics{part}" in name)[0])
-            self.assertEqual([it.file for it in near.places], ["/r/registry/own-1.0.0/src/panics.rs"], part)
+            near = panics.near(
+                next(it for name, it in places.items() if f"6panics{part}" in name)[0]
+            )
+            self.assertEqual(
+                [it.file for it in near.places], ["/r/registry/own-1.0.0/src/panics.rs"], part
+            )
             self.assertEqual(near.is_called, is_called, part)
             if part == "4bump":
                 self.assertIn(near.places[0].line - bump, (1, 2))

@@ -45,7 +45,9 @@ class Pictures(unittest.TestCase):
     def made(self, browser, *names):
         """The status or the message of a call with a browser, and what was printed and said."""
         out, said = io.StringIO(), io.StringIO()
-        with mock.patch("shutil.which", lambda _: browser), mock.patch.object(pictures, "TOP", self.top):
+        with mock.patch("shutil.which", lambda _: browser), mock.patch.object(
+            pictures, "TOP", self.top
+        ):
             with contextlib.redirect_stdout(out), contextlib.redirect_stderr(said):
                 try:
                     ended = pictures.main([*names])
@@ -58,14 +60,22 @@ class Pictures(unittest.TestCase):
             return file.read() == "as it was"
 
     def test_without_a_browser(self):
-        self.assertEqual(self.made(None), (77, "", "chromium isn't installed (Debian: apt-get install chromium)\n"))
+        self.assertEqual(
+            self.made(None),
+            (77, "", "chromium isn't installed (Debian: apt-get install chromium)\n"),
+        )
         self.assertTrue(self.is_kept())
 
     def test_a_picture_is_made_and_its_size_told(self):
         browser = self.script("draws", DRAWS.format(100_000))
-        self.assertEqual(self.made(browser, "sweep"), (0, "docs/pictures/sweep.png: 100000 bytes\n", ""))
+        self.assertEqual(
+            self.made(browser, "sweep"), (0, "docs/pictures/sweep.png: 100000 bytes\n", "")
+        )
         self.assertEqual(os.path.getsize(self.kept), 100_000)
-        self.assertEqual(self.made(browser, "none")[::2], (2, "there is no picture none: there are view, sweep\n"))
+        self.assertEqual(
+            self.made(browser, "none")[::2],
+            (2, "there is no picture none: there are view, sweep\n"),
+        )
 
     def test_what_fails_leaves_the_old_one(self):
         for text, told in (
@@ -76,7 +86,10 @@ class Pictures(unittest.TestCase):
             self.assertRegex(self.made(self.script("fails", text), "sweep")[0], told)
             self.assertTrue(self.is_kept())
         self.script("bin/predator", FAILS)
-        self.assertRegex(self.made(self.script("draws", DRAWS.format(9)), "sweep")[0], "(?s)bin/predator run .*: status 5\nno display\n$")
+        self.assertRegex(
+            self.made(self.script("draws", DRAWS.format(9)), "sweep")[0],
+            "(?s)bin/predator run .*: status 5\nno display\n$",
+        )
         self.assertTrue(self.is_kept())
 
     def test_those_of_the_documents(self):

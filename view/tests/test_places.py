@@ -30,33 +30,65 @@ class Places(unittest.TestCase):
         with tempfile.TemporaryDirectory() as folder:
             trace = os.path.join(folder, "t")
             with open(trace, "wb") as file:
-                file.write(trace_of(Case(accesses, list(records), Ending("exit 0", 9, (0, 0, 0, 0)), 2, 16, 64, 100, 64, None)))
+                file.write(
+                    trace_of(
+                        Case(
+                            accesses,
+                            list(records),
+                            Ending("exit 0", 9, (0, 0, 0, 0)),
+                            2,
+                            16,
+                            64,
+                            100,
+                            64,
+                            None,
+                        )
+                    )
+                )
             status, text, said = view("replay", trace, *options, program=self.program)
         self.assertEqual((status, said), (0, ""))
         told = [it.partition("  worst field")[0] for it in text.split("to do ")[1:]]
-        return [joined(it.partition("Predicted:")[0].partition(" predicted line")[0]) for it in told][:shows]
+        return [
+            joined(it.partition("Predicted:")[0].partition(" predicted line")[0]) for it in told
+        ][:shows]
 
     def test_apart_by_harts(self):
         (told,) = self.todo(fight(0x1000, 0x1004), named(b"queue", 0x1000, 8))
         self.assertIn(
-            "this saves up to 238 of 238 misses; `place` puts its words apart by their harts, queue (hart 0); queue+4 (hart 1): then", told
+            "this saves up to 238 of 238 misses; `place` puts its words apart by their harts, queue (hart 0); queue+4 (hart 1): then",
+            told,
         )
         self.assertIn("then lines are taken 0 times in all, and not 239", told)
 
     def test_words_of_many_harts(self):
         (told,) = self.todo(fight(0x1000, 0x1000), named(b"lock", 0x1000, 4))
         self.assertIn(
-            "`place` gains nothing: with its words put apart by their harts, lines are taken 239 times in all, and 239 as they lie", told
+            "`place` gains nothing: with its words put apart by their harts, lines are taken 239 times in all, and 239 as they lie",
+            told,
         )
-        (told,) = self.todo([*fight(0x1000, 0x1004), *fight(0x1008, 0x1008)], named(b"both", 0x1000, 12))
-        self.assertIn("both (hart 0); both+4 (hart 1); both+8 (many harts): then lines are taken 239 times in all, and not 479", told)
+        (told,) = self.todo(
+            [*fight(0x1000, 0x1004), *fight(0x1008, 0x1008)], named(b"both", 0x1000, 12)
+        )
+        self.assertIn(
+            "both (hart 0); both+4 (hart 1); both+8 (many harts): then lines are taken 239 times in all, and not 479",
+            told,
+        )
 
     def test_lines_of_another_size(self):
-        (told,) = self.todo(fight(0x1000, 0x1044), named(b"wide", 0x1000, 72), options=("--size", "128"))
-        self.assertIn("wide (hart 0); wide+68 (hart 1): then lines are taken 0 times in all, and not 239", told)
+        (told,) = self.todo(
+            fight(0x1000, 0x1044), named(b"wide", 0x1000, 72), options=("--size", "128")
+        )
+        self.assertIn(
+            "wide (hart 0); wide+68 (hart 1): then lines are taken 0 times in all, and not 239",
+            told,
+        )
 
     def test_names_as_they_are_spelled(self):
-        for name, printed in ((b"--size", "--size"), (b"two words\\", "two\\x20words\\x5c"), (b"\xc3\xa9\x1b[31m", "\\xc3\\xa9\\x1b[31m")):
+        for name, printed in (
+            (b"--size", "--size"),
+            (b"two words\\", "two\\x20words\\x5c"),
+            (b"\xc3\xa9\x1b[31m", "\\xc3\\xa9\\x1b[31m"),
+        ):
             (told,) = self.todo(fight(0x1000, 0x1004), named(name, 0x1000, 8))
             self.assertIn(f"{printed} (hart 0); {printed}+4 (hart 1): then", told)
         # (no word of a call may be so)
@@ -69,11 +101,16 @@ class Places(unittest.TestCase):
             (named(b"last", 0xFFFFFFC0, 64), (0xFFFFFFC0, 0xFFFFFFFC)),
         ):
             (told,) = self.todo(fight(*words), symbol)
-            self.assertRegex(told, "^(harts have|these belong|begin) .*this saves up to 238 of 238 misses$")
+            self.assertRegex(
+                told, "^(harts have|these belong|begin) .*this saves up to 238 of 238 misses$"
+            )
 
     def test_the_first_of_one_name(self):
         first, second = self.todo(
-            [*fight(0x1000, 0x1004), *fight(0x2000, 0x2004, turns=90)], named(b"own", 0x1000, 8), named(b"own", 0x2000, 8), shows=2
+            [*fight(0x1000, 0x1004), *fight(0x2000, 0x2004, turns=90)],
+            named(b"own", 0x1000, 8),
+            named(b"own", 0x2000, 8),
+            shows=2,
         )
         self.assertIn("`place` puts its words apart", first)
         self.assertNotIn("place", second)
@@ -81,7 +118,10 @@ class Places(unittest.TestCase):
     def test_a_block_by_its_address(self):
         made = (0, Alloc(0x2000, 16, (0x104, 0, 0, 0)))
         (told,) = self.todo(fight(0x2000, 0x2004), made)
-        self.assertIn("`place` puts its words apart by their harts, +0 (hart 0); +4 (hart 1): then lines are taken 0 times in all", told)
+        self.assertIn(
+            "`place` puts its words apart by their harts, +0 (hart 0); +4 (hart 1): then lines are taken 0 times in all",
+            told,
+        )
         # (of several that were made there none is meant)
         earlier = [(0, Alloc(0x2000, 16, (0x200, 0, 0, 0))), (0, Free(0x2000))]
         (told,) = self.todo(fight(0x2000, 0x2004), *earlier, made)

@@ -13,7 +13,9 @@ from calling import HERE, PROGRAM, TOP, has, view
 KNOWN = os.path.join(HERE, "programs", "known")
 LACKS = [it for it in ("clang", "ld.lld", "patch") if shutil.which(it) is None]
 COUNTED = re.compile(r"useless (\d+) before, (\d+) after; useful (\d+), (\d+)")
-OTHERWISE = re.compile(r"; or give neighbouring elements to one thread, which leaves (\d+) useless and (\d+) useful")
+OTHERWISE = re.compile(
+    r"; or give neighbouring elements to one thread, which leaves (\d+) useless and (\d+) useful"
+)
 
 
 class Following(unittest.TestCase):
@@ -35,7 +37,9 @@ class Following(unittest.TestCase):
 
     def build(self, name, *flags):
         out = name + self.suffix
-        ran = subprocess.run(self.compiler(out, f"{name}.c", flags), cwd=self.folder, capture_output=True, text=True)
+        ran = subprocess.run(
+            self.compiler(out, f"{name}.c", flags), cwd=self.folder, capture_output=True, text=True
+        )
         self.assertEqual((ran.returncode, ran.stderr), (0, ""), name)
         return out
 
@@ -56,7 +60,9 @@ class Following(unittest.TestCase):
         """What the misses come to once all is done that is to do."""
         together = [it for it in found["notes"] if it.startswith("all that is to do")]
         (told,) = COUNTED.findall(together[0] if together else self.todo(found))
-        self.assertEqual((int(told[0]), int(told[2])), (found["total"]["useless"], found["total"]["useful"]))
+        self.assertEqual(
+            (int(told[0]), int(told[2])), (found["total"]["useless"], found["total"]["useful"])
+        )
         return int(told[1]) + int(told[3])
 
     def comes_to(self, name, found, after):
@@ -64,7 +70,11 @@ class Following(unittest.TestCase):
 
     def is_near(self, name, found, foretold, after):
         before = self.missed(found)
-        self.assertLess(abs(foretold - after), before / 10, f"{name}: {before} before, {foretold} foretold, {after} counted")
+        self.assertLess(
+            abs(foretold - after),
+            before / 10,
+            f"{name}: {before} before, {foretold} foretold, {after} counted",
+        )
         self.assertLess(after, before, name)
 
     def start(self, name, turns=None):
@@ -80,7 +90,9 @@ class Following(unittest.TestCase):
         found = self.start(name, turns)
         for it in parts:
             self.assertIn(it, self.todo(found))
-        ran = subprocess.run(["patch", "-p1"], cwd=self.folder, input=self.text(), capture_output=True, text=True)
+        ran = subprocess.run(
+            ["patch", "-p1"], cwd=self.folder, input=self.text(), capture_output=True, text=True
+        )
         self.assertEqual(ran.returncode, 0, ran.stdout)
         self.comes_to(name, found, self.missed(self.look(self.build(name), turns=turns)))
 
@@ -97,7 +109,12 @@ class Following(unittest.TestCase):
         """Follows both of what is said of the rows of a grid."""
         found = self.told("grid", "own_line { int32_t value[21]; };`")
         ((useless, useful),) = OTHERWISE.findall(self.todo(found))
-        self.is_near("neighbouring rows", found, int(useless) + int(useful), self.missed(self.look(self.build("grid", "-DNEIGHBOURS"))))
+        self.is_near(
+            "neighbouring rows",
+            found,
+            int(useless) + int(useful),
+            self.missed(self.look(self.build("grid", "-DNEIGHBOURS"))),
+        )
 
     def bytes(self, *turns):
         """Follows what is said of bytes, of which nothing is foretold."""
@@ -110,7 +127,10 @@ class Following(unittest.TestCase):
             found = self.look(f"bytes{self.suffix}", turns=it) if it else found
             (todo,) = [it["todo"] for it in found["objects"] if it["name"] == "marks"]
             self.assertRegex(todo, f"words can't tell: harts use different bytes of {self.marks}")
-            self.assertIn("struct __attribute__((aligned(64))) own_line { unsigned char value; };`, and look again", todo)
+            self.assertIn(
+                "struct __attribute__((aligned(64))) own_line { unsigned char value; };`, and look again",
+                todo,
+            )
             self.assertNotIn("padding", todo)
 
 
@@ -118,34 +138,58 @@ class Following(unittest.TestCase):
 @unittest.skipUnless(has(PROGRAM, "misses", "move"), "the program isn't built, or has no move")
 class Known(Following):
     def test_statistics_of_workers(self):
-        self.patched("workers", "`struct __attribute__((aligned(64))) worker` (workers.c:7): 12 bytes become 64 each, and 48 become 256")
+        self.patched(
+            "workers",
+            "`struct __attribute__((aligned(64))) worker` (workers.c:7): 12 bytes become 64 each, and 48 become 256",
+        )
 
     def test_a_deque_of_work(self):
         self.patched("deque", "put the fields of `struct deque` (deque.c:9) in this order")
 
     def test_a_ring_with_cached_indices(self):
-        self.patched("cached", "head, cached_tail, put, slots (written by hart 1); tail, cached_head, taken (written by hart 2)")
+        self.patched(
+            "cached",
+            "head, cached_tail, put, slots (written by hart 1); tail, cached_head, taken (written by hart 2)",
+        )
 
     def test_a_setting_beside_a_counter(self):
-        self.patched("setting", "give setting (setting.c:7) and counter (setting.c:8) lines of their own")
+        self.patched(
+            "setting", "give setting (setting.c:7) and counter (setting.c:8) lines of their own"
+        )
 
     def test_a_flag_beside_an_array(self):
-        self.patched("stop", "give each element of done lines of its own by `struct __attribute__((aligned(64))) done`")
+        self.patched(
+            "stop",
+            "give each element of done lines of its own by `struct __attribute__((aligned(64))) done`",
+        )
 
     def test_a_slab(self):
-        self.told("slab", "give each thread an arena of its own", "`struct __attribute__((aligned(64))) list` (slab.c:15)")
+        self.told(
+            "slab",
+            "give each thread an arena of its own",
+            "`struct __attribute__((aligned(64))) list` (slab.c:15)",
+        )
 
     def test_striped_mutexes(self):
-        self.told("table", "`struct __attribute__((aligned(64))) own_line { pthread_mutex_t value; };`")
+        self.told(
+            "table", "`struct __attribute__((aligned(64))) own_line { pthread_mutex_t value; };`"
+        )
 
     def test_an_array_of_mutexes(self):
-        self.told("mutexes", "`struct __attribute__((aligned(64))) own_line { pthread_mutex_t value; };`")
+        self.told(
+            "mutexes", "`struct __attribute__((aligned(64))) own_line { pthread_mutex_t value; };`"
+        )
 
     def test_rows_of_a_grid(self):
         self.rows()
 
     def test_several_arrays_of_one_struct(self):
-        self.told("sums", "each element of table.counts", "each element of table.sums", "each, and 64 become 576 in all")
+        self.told(
+            "sums",
+            "each element of table.counts",
+            "each element of table.sums",
+            "each, and 64 become 576 in all",
+        )
 
     def test_bytes_of_a_word(self):
         self.bytes(None, 1, 100)
@@ -169,7 +213,10 @@ RECORDER = os.path.join(TOP, "native", "out", "predator-amd64-linux")
 
 
 @unittest.skipUnless(shutil.which("gcc") and shutil.which("patch"), "gcc or patch is missing")
-@unittest.skipUnless(os.path.exists(RECORDER) and has(PROGRAM, "misses", "move"), "the recorder of native/ or the program isn't built")
+@unittest.skipUnless(
+    os.path.exists(RECORDER) and has(PROGRAM, "misses", "move"),
+    "the recorder of native/ or the program isn't built",
+)
 class OfThisMachine(Following):
     suffix = ""
     marks = r"marks\[\d\.\.\d\]"
@@ -181,14 +228,20 @@ class OfThisMachine(Following):
         return ["native", f"./{program}", "--quantum", str(turns or 10)]
 
     def test_patches(self):
-        self.patched("workers", "`struct __attribute__((aligned(64))) worker` (workers.c:7): 16 bytes become 64 each, and 64 become 256")
+        self.patched(
+            "workers",
+            "`struct __attribute__((aligned(64))) worker` (workers.c:7): 16 bytes become 64 each, and 64 become 256",
+        )
         for name in ("cached", "setting", "stop"):
             self.patched(name)
         # (in longer turns thieves find the deque empty, and harts only hand it to each other)
         self.patched("deque", "put the fields of `struct deque` (deque.c:9) in this order", turns=1)
 
     def test_sentences(self):
-        self.told("mutexes", "own_line { pthread_mutex_t value; };`: 40 bytes become 64 each, and 160 become 256 in all")
+        self.told(
+            "mutexes",
+            "own_line { pthread_mutex_t value; };`: 40 bytes become 64 each, and 160 become 256 in all",
+        )
         for name in ("slab", "table", "sums"):
             self.told(name)
 

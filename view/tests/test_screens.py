@@ -26,8 +26,14 @@ class Screens(Shown):
         status, text, said = view("run", built("ring.elf"), *TURNS)
         self.assertEqual((status, said), (0, ""))
         self.shows(text, "1 298 0 284 1 stats", "worst field stats[2].seen[0].high")
-        self.shows(text, "give each element of stats lines of its own by `struct __attribute__((aligned(64))) stats` (ring.c:24)")
-        self.shows(text, "ring.c:34 (note < consumer) takes the line from ring.c:34 (note < producer), 142 times, never for the same word")
+        self.shows(
+            text,
+            "give each element of stats lines of its own by `struct __attribute__((aligned(64))) stats` (ring.c:24)",
+        )
+        self.shows(
+            text,
+            "ring.c:34 (note < consumer) takes the line from ring.c:34 (note < producer), 142 times, never for the same word",
+        )
         self.shows(text, "2 44 314 331 2 ring", "314 of 358 misses bring what another hart wrote")
 
     def test_options_that_match_nothing(self):
@@ -36,19 +42,33 @@ class Screens(Shown):
             status, text, said = view("run", built("arena.elf"), *TURNS, "--explain", "0", *words)
             self.assertEqual((status, said), (0, ""))
             first, second = json.loads(text)["notes"]
-            self.assertEqual(first, "`--type arena.c:18=..` matches nothing: blocks that are fought over are made at arena.c:17")
+            self.assertEqual(
+                first,
+                "`--type arena.c:18=..` matches nothing: blocks that are fought over are made at arena.c:17",
+            )
             self.assertIn(f"`--sources {folder}` has none of the program's sources: ", second)
             self.assertIn("arena.c", second)
 
     def test_arena(self):
         _, text, _ = view("run", built("arena.elf"), *TURNS, "--type", "arena.c:17=node", "--words")
-        self.shows(text, "1 1187 1 794 1 block made at arena.c:17 < main (4 lives)", "64 bytes more for each, and its start rounded up")
+        self.shows(
+            text,
+            "1 1187 1 794 1 block made at arena.c:17 < main (4 lives)",
+            "64 bytes more for each, and its start rounded up",
+        )
         self.shows(text, "let no two of these blocks share a line: `aligned_alloc(64, ..)`")
         self.shows(text, "0x00011014 199 200 0 2 .count")
 
     def test_a_trap_is_loud(self):
-        _, text, _ = view("run", built("odd.elf"), *TURNS, "--explain=0", "--object", "stack of hart 0")
-        self.shows(text, "!! THE RUN DIDN'T END BY EXIT 0: trap hart 0", "store-outside, at odd.c:48 (main)", "1 77 0 0 1 stack of hart 0")
+        _, text, _ = view(
+            "run", built("odd.elf"), *TURNS, "--explain=0", "--object", "stack of hart 0"
+        )
+        self.shows(
+            text,
+            "!! THE RUN DIDN'T END BY EXIT 0: trap hart 0",
+            "store-outside, at odd.c:48 (main)",
+            "1 77 0 0 1 stack of hart 0",
+        )
         self.assertNotIn("flags", text)
 
     def test_a_fight_in_a_stack(self):
@@ -57,19 +77,37 @@ class Screens(Shown):
         for program in (STAND_IN, PROGRAM) if has(PROGRAM, "misses", "move") else (STAND_IN,):
             status, text, _ = view(*words, "stack of hart 0", program=program)
             self.assertEqual(status, 0)
-            self.shows(text, f"to do {OF_STACK}; this saves up to 77 of 77 misses word ", "60 61 0 many 0x0100fff8, 8 below its top")
-            for it in ("several fields", "apart", "padding", "behind", "in this order", "memory at"):
+            self.shows(
+                text,
+                f"to do {OF_STACK}; this saves up to 77 of 77 misses word ",
+                "60 61 0 many 0x0100fff8, 8 below its top",
+            )
+            for it in (
+                "several fields",
+                "apart",
+                "padding",
+                "behind",
+                "in this order",
+                "memory at",
+            ):
                 self.assertNotIn(it, joined(text), program)
             # (what is said of a variable whose words are fields)
-            self.assertRegex(joined(view(*words, "flags", program=program)[1]), "to do give each element of flags lines of its own")
+            self.assertRegex(
+                joined(view(*words, "flags", program=program)[1]),
+                "to do give each element of flags lines of its own",
+            )
 
     def test_statuses(self):
         words = ("run", built("ring.elf"), *TURNS, "--explain", "0", "--fail-above")
         self.assertEqual(view(*words, "298")[0], 0)
         status, _, said = view(*words, "297")
-        self.assertEqual((status, said), (1, "predator view: stats has 298 useless misses, more than 297\n"))
+        self.assertEqual(
+            (status, said), (1, "predator view: stats has 298 useless misses, more than 297\n")
+        )
         self.assertEqual(view(*words, "297", "--object", "ring")[0], 0)
-        self.assertEqual(view("run", built("odd.elf"), *TURNS, "--explain", "0", "--fail-above", "9999")[0], 3)
+        self.assertEqual(
+            view("run", built("odd.elf"), *TURNS, "--explain", "0", "--fail-above", "9999")[0], 3
+        )
 
     def test_a_thread_for_which_no_hart_was_free(self):
         says = "predator: no hart was free for the last thread that was to start: `harts` is 8, and in the settings it may be up to 256\n"
@@ -77,27 +115,44 @@ class Screens(Shown):
         for lacks in ("", "pipes"):
             status, text, _ = view(*words, STAND_IN_SAYS=says, lacks=lacks)
             self.assertEqual(status, 0)
-            self.shows(text, "note: no hart was free for the last thread that was to start, and what that shares isn't seen")
+            self.shows(
+                text,
+                "note: no hart was free for the last thread that was to start, and what that shares isn't seen",
+            )
             self.shows(text, "`--set harts=16` gives more")
             status, _, said = view(*words, "--fail-above", "9999", STAND_IN_SAYS=says, lacks=lacks)
             self.assertEqual((status, "predator view: no hart was free" in said), (3, True))
 
     def test_all_that_fight(self):
         _, text, _ = view("run", built("ring.elf"), *TURNS, "--explain", "1", "--words")
-        self.shows(text, "fighting ring.c:34 (note < consumer) takes the line from ring.c:34 (note < producer), 142 times")
-        self.shows(text, "fighting ring.c:34 (note < producer) takes the line from ring.c:34 (note < consumer), 142 times")
+        self.shows(
+            text,
+            "fighting ring.c:34 (note < consumer) takes the line from ring.c:34 (note < producer), 142 times",
+        )
+        self.shows(
+            text,
+            "fighting ring.c:34 (note < producer) takes the line from ring.c:34 (note < consumer), 142 times",
+        )
 
     def test_without_misses_and_explain(self):
         status, text, _ = view("run", built("ring.elf"), *TURNS, lacks="misses explain")
         self.assertEqual(status, 0)
-        self.shows(text, "note: this program has no command `misses`", "note: this program has no command `explain`", "1 - - 331 1 ring")
+        self.shows(
+            text,
+            "note: this program has no command `misses`",
+            "note: this program has no command `explain`",
+            "1 - - 331 1 ring",
+        )
         words = ("run", built("ring.elf"), *TURNS, "--fail-above", "300")
         self.assertEqual(view(*words, lacks="misses explain")[0], 2)
         self.assertEqual(view(*words, "--by", "count", lacks="misses explain")[0], 1)
 
     def test_what_the_program_puts_out_is_shown_once(self):
         for lacks in ("", "pipes"):
-            self.assertEqual(view("run", built("ring.elf"), *TURNS, lacks=lacks, STAND_IN_PUTS="put out")[2], "put out\n")
+            self.assertEqual(
+                view("run", built("ring.elf"), *TURNS, lacks=lacks, STAND_IN_PUTS="put out")[2],
+                "put out\n",
+            )
 
     def test_without_pipes_it_is_the_same(self):
         words = ("run", built("ring.elf"), *TURNS, "--explain", "0")
@@ -106,21 +161,48 @@ class Screens(Shown):
     def test_a_trace_and_its_program(self):
         with tempfile.TemporaryDirectory() as folder:
             trace, report = os.path.join(folder, "t"), os.path.join(folder, "r")
-            subprocess.run([STAND_IN, "run", built("ring.elf"), *TURNS, "--trace", trace], check=True, stdout=subprocess.DEVNULL)
+            subprocess.run(
+                [STAND_IN, "run", built("ring.elf"), *TURNS, "--trace", trace],
+                check=True,
+                stdout=subprocess.DEVNULL,
+            )
             _, text, said = view("replay", trace, "--program", built("ring.elf"), *TURNS)
-            self.shows(text, "1 298 0 284 1 stats", "stats[2].seen[0].high", "ring.c:34 (note < consumer)")
-            self.shows(text, "`place` puts its words apart by their harts, stats[1].seen[0].high and stats[1].seen[1].high (hart 1);")
-            self.shows(text, "then lines are taken 359 times in all, and not 658", "`place` gains nothing")
+            self.shows(
+                text, "1 298 0 284 1 stats", "stats[2].seen[0].high", "ring.c:34 (note < consumer)"
+            )
+            self.shows(
+                text,
+                "`place` puts its words apart by their harts, stats[1].seen[0].high and stats[1].seen[1].high (hart 1);",
+            )
+            self.shows(
+                text, "then lines are taken 359 times in all, and not 658", "`place` gains nothing"
+            )
             self.assertEqual(said, "")
-            _, text, said = view("replay", trace, "--program", built("ring.elf"), *TURNS, "--explain=0", lacks="place")
+            _, text, said = view(
+                "replay",
+                trace,
+                "--program",
+                built("ring.elf"),
+                *TURNS,
+                "--explain=0",
+                lacks="place",
+            )
             self.assertEqual(("place" in text, said), (False, ""))
             _, text, _ = view("replay", trace, "--program", built("ring.elf"))
             self.shows(text, "doesn't make this trace, so `explain` says nothing of 0x00011200")
             _, text, said = view("replay", trace, "--program", built("odd.elf"))
-            self.shows(said, "odd.elf isn't the program of this report: it has no symbol", "it is left aside")
+            self.shows(
+                said,
+                "odd.elf isn't the program of this report: it has no symbol",
+                "it is left aside",
+            )
             self.shows(text, "1 298 0 284 1 stats worst field stats+")
             with open(report, "wb") as file:
-                file.write(subprocess.run([STAND_IN, "replay", trace], check=True, capture_output=True).stdout)
+                file.write(
+                    subprocess.run(
+                        [STAND_IN, "replay", trace], check=True, capture_output=True
+                    ).stdout
+                )
             _, text, _ = view(report, "--program", built("ring.elf"), "--object", "sum")
             self.shows(text, "nothing is fought over on sum")
             status, _, said = view(report, "--program", built("ring.elf"), "--object", "stat")
@@ -138,9 +220,15 @@ class Screens(Shown):
         with tempfile.TemporaryDirectory() as folder:
             trace = os.path.join(folder, "t")
             words = [os.path.join(TOP, "tools", "to_trace.py"), "-", trace]
-            subprocess.run(words, input="\n".join(rows), text=True, check=True, stdout=subprocess.DEVNULL)
+            subprocess.run(
+                words, input="\n".join(rows), text=True, check=True, stdout=subprocess.DEVNULL
+            )
             _, text, _ = view("replay", trace)
-            self.shows(text, "2 1 0 0 1 memory at 0x00012000", "leave it: it has 1 of the 239 misses that aren't cold")
+            self.shows(
+                text,
+                "2 1 0 0 1 memory at 0x00012000",
+                "leave it: it has 1 of the 239 misses that aren't cold",
+            )
             _, text, _ = view("replay", trace, "--object", "memory at 0x00012000")
             self.assertNotIn("leave it", text)
 
@@ -150,9 +238,15 @@ class Screens(Shown):
         with tempfile.TemporaryDirectory() as folder:
             report = os.path.join(folder, "r")
             with open(report, "w", encoding="utf-8") as file:
-                file.write(f"{text}{rows}word 0x00001008 reads 1 writes 9 hart 3\nend\nwhere 0x000100b0 /home/me/kinds.c:59\n")
+                file.write(
+                    f"{text}{rows}word 0x00001008 reads 1 writes 9 hart 3\nend\nwhere 0x000100b0 /home/me/kinds.c:59\n"
+                )
             _, text, _ = view(report, "--object", "kinds.c:59")
-            self.shows(text, "1 - - 200 1 block made at kinds.c:59 (work)", "worst field +8: 9 writes and 1 read by hart 3")
+            self.shows(
+                text,
+                "1 - - 200 1 block made at kinds.c:59 (work)",
+                "worst field +8: 9 writes and 1 read by hart 3",
+            )
 
     def test_refusals(self):
         for words, said in (
@@ -163,15 +257,30 @@ class Screens(Shown):
             (("run", built("ring.elf"), "--object", "stat"), "ring.elf; did you mean `stats`?"),
             (("run", built("ring.elf"), "--json", "-", "--html", "-"), "can be one output alone"),
             ((__file__,), "it is no report"),
-            (("run", built("ring.elf"), "--html", "/no/where"), "/no/where: No such file or directory"),
-            (("run", built("ring.elf"), "--html", built("../programs/ring.elf")), "the same file is in use under another name"),
-            (("run", built("ring.elf"), "--html", "/tmp/a", "--json", "/tmp/a"), "the same file is in use under another name"),
-            (("run", built("ring.elf"), "--settings=/etc/hosts", "--sarif", "/etc/hosts"), "the same file is in use under another name"),
+            (
+                ("run", built("ring.elf"), "--html", "/no/where"),
+                "/no/where: No such file or directory",
+            ),
+            (
+                ("run", built("ring.elf"), "--html", built("../programs/ring.elf")),
+                "the same file is in use under another name",
+            ),
+            (
+                ("run", built("ring.elf"), "--html", "/tmp/a", "--json", "/tmp/a"),
+                "the same file is in use under another name",
+            ),
+            (
+                ("run", built("ring.elf"), "--settings=/etc/hosts", "--sarif", "/etc/hosts"),
+                "the same file is in use under another name",
+            ),
             (
                 ("run", built("ring.elf"), "--trace", "/tmp/none", "--sarif", "/tmp/../tmp/none"),
                 "the same file is in use under another name",
             ),
-            (("run", built("ring.elf"), "--against", "/etc/hosts", "--html", "/etc/hosts"), "the same file is in use under another name"),
+            (
+                ("run", built("ring.elf"), "--against", "/etc/hosts", "--html", "/etc/hosts"),
+                "the same file is in use under another name",
+            ),
         ):
             status, _, told = view(*words, *(TURNS if words[0] == "run" else ()))
             self.assertEqual(status, 2)
@@ -179,43 +288,81 @@ class Screens(Shown):
 
     def test_no_room_for_the_screen(self):
         env = {**os.environ, "PREDATOR_BUILD": "no"}
-        with tempfile.TemporaryDirectory() as folder, open("/dev/full", "w", encoding="utf-8") as full:
+        with tempfile.TemporaryDirectory() as folder, open(
+            "/dev/full", "w", encoding="utf-8"
+        ) as full:
             report = os.path.join(folder, "r")
             with open(report, "w", encoding="utf-8") as file:
-                file.write("predator report 1\noutcome budget\nsteps 0\naccesses 0\nlayout 64 0\nthresholds 16 64 100\nlines 0\nend\n")
+                file.write(
+                    "predator report 1\noutcome budget\nsteps 0\naccesses 0\nlayout 64 0\nthresholds 16 64 100\nlines 0\nend\n"
+                )
             command = [os.path.join(TOP, "bin", "predator"), "view", report]
             ran = subprocess.run(command, stdout=full, stderr=subprocess.PIPE, text=True, env=env)
-            self.assertEqual((ran.returncode, ran.stderr), (2, "predator view: standard output: No space left on device\n"))
+            self.assertEqual(
+                (ran.returncode, ran.stderr),
+                (2, "predator view: standard output: No space left on device\n"),
+            )
 
     def test_missing_packages(self):
         with tempfile.TemporaryDirectory() as folder:
             for name in ("elftools", "jinja2"):
                 with open(os.path.join(folder, f"{name}.py"), "w", encoding="utf-8") as file:
                     file.write("raise ImportError\n")
-            status, _, said = view("run", built("ring.elf"), *TURNS, PYTHONPATH=folder, lacks="misses explain")
+            status, _, said = view(
+                "run", built("ring.elf"), *TURNS, PYTHONPATH=folder, lacks="misses explain"
+            )
             self.assertEqual(status, 127)
-            self.assertRegex(said, r"^predator view: python3-pyelftools isn't installed: apt-get install .*\n$")
+            self.assertRegex(
+                said, r"^predator view: python3-pyelftools isn't installed: apt-get install .*\n$"
+            )
             report = os.path.join(folder, "r")
             with open(report, "w", encoding="utf-8") as file:
-                file.write("predator report 1\noutcome exit 0\nsteps 0\naccesses 0\nlayout 64 0\nthresholds 16 64 100\nlines 0\nend\n")
+                file.write(
+                    "predator report 1\noutcome exit 0\nsteps 0\naccesses 0\nlayout 64 0\nthresholds 16 64 100\nlines 0\nend\n"
+                )
             status, text, _ = view(report, PYTHONPATH=folder)
             self.assertEqual(status, 0)
-            self.shows(text, "outcome exit 0, 0 steps, 0 accesses, lines of 64 bytes note: a report alone", "no line is fought over")
-            self.assertEqual(view(report, "--html", os.path.join(folder, "h"), PYTHONPATH=folder)[0], 127)
+            self.shows(
+                text,
+                "outcome exit 0, 0 steps, 0 accesses, lines of 64 bytes note: a report alone",
+                "no line is fought over",
+            )
+            self.assertEqual(
+                view(report, "--html", os.path.join(folder, "h"), PYTHONPATH=folder)[0], 127
+            )
 
     def test_help(self):
         for words in (["view", "--help"], ["help", "view"], ["view", "run", "-h"]):
             env = {**os.environ, "PREDATOR_BUILD": "no"}
-            ran = subprocess.run([os.path.join(TOP, "bin", "predator"), *words], capture_output=True, text=True, env=env)
+            ran = subprocess.run(
+                [os.path.join(TOP, "bin", "predator"), *words],
+                capture_output=True,
+                text=True,
+                env=env,
+            )
             self.assertEqual(ran.returncode, 0)
             self.assertIn("--fail-above", ran.stdout)
 
     def test_colours_on_a_terminal_only(self):
-        command = [os.path.join(TOP, "bin", "predator"), "view", "run", built("odd.elf"), *TURNS, "--explain", "0"]
+        command = [
+            os.path.join(TOP, "bin", "predator"),
+            "view",
+            "run",
+            built("odd.elf"),
+            *TURNS,
+            "--explain",
+            "0",
+        ]
         texts = []
         for more in ({}, {"NO_COLOR": "1"}):
             main, end = pty.openpty()
-            env = {**os.environ, "TERM": "xterm", "PREDATOR_PROGRAM": STAND_IN, "STAND_IN_LACKS": "misses explain", **more}
+            env = {
+                **os.environ,
+                "TERM": "xterm",
+                "PREDATOR_PROGRAM": STAND_IN,
+                "STAND_IN_LACKS": "misses explain",
+                **more,
+            }
             child = subprocess.Popen(command, stdout=end, stdin=subprocess.DEVNULL, env=env)
             os.close(end)
             text = b""
@@ -239,16 +386,30 @@ class Pipes(Shown):
 
     def call(self, command, trace):
         """What a command in bash prints, in which $view is view, and $1 the trace."""
-        own = {"PREDATOR_PROGRAM": self.program, "PREDATOR_BUILD": "no", "view": os.path.join(TOP, "bin", "predator") + " view"}
+        own = {
+            "PREDATOR_PROGRAM": self.program,
+            "PREDATOR_BUILD": "no",
+            "view": os.path.join(TOP, "bin", "predator") + " view",
+        }
         env = {**os.environ, **own}
-        ran = subprocess.run(["bash", "-c", command, "bash", trace], capture_output=True, encoding="utf-8", env=env, timeout=HANGS)
+        ran = subprocess.run(
+            ["bash", "-c", command, "bash", trace],
+            capture_output=True,
+            encoding="utf-8",
+            env=env,
+            timeout=HANGS,
+        )
         self.assertEqual((ran.returncode, ran.stderr), (0, ""), command)
         return ran.stdout
 
     def test_a_trace_from_a_pipe(self):
         with tempfile.TemporaryDirectory() as folder:
             trace, fifo = os.path.join(folder, "t"), os.path.join(folder, "fifo")
-            subprocess.run([self.program, "run", built("ring.elf"), *TURNS, "--trace", trace], check=True, stdout=subprocess.DEVNULL)
+            subprocess.run(
+                [self.program, "run", built("ring.elf"), *TURNS, "--trace", trace],
+                check=True,
+                stdout=subprocess.DEVNULL,
+            )
             os.mkfifo(fifo)
             texts = {
                 self.call(it, trace)
@@ -261,12 +422,22 @@ class Pipes(Shown):
                 )
             }
             self.assertEqual(len(texts), 1)
-            self.shows(texts.pop(), "note: a trace from a pipe can be read once, so its misses, and places", "1 - - 331 1 ring")
+            self.shows(
+                texts.pop(),
+                "note: a trace from a pipe can be read once, so its misses, and places",
+                "1 - - 331 1 ring",
+            )
             _, whole, _ = view("replay", trace, program=self.program)
             self.shows(whole, "1 298 0 284 1 stats")
             # (settings and schedules that are pipes serve each run)
-            text = self.call(f"$view run {built('ring.elf')} --settings <(echo quantum = 3) --explain 1 --latency=0", trace)
-            self.assertEqual(text, view("run", built("ring.elf"), *TURNS, "--explain", "1", program=self.program)[1])
+            text = self.call(
+                f"$view run {built('ring.elf')} --settings <(echo quantum = 3) --explain 1 --latency=0",
+                trace,
+            )
+            self.assertEqual(
+                text,
+                view("run", built("ring.elf"), *TURNS, "--explain", "1", program=self.program)[1],
+            )
 
 
 @unittest.skipUnless(has(PROGRAM, "misses"), "the program isn't built, or has no misses")
@@ -277,18 +448,33 @@ class PipesOfTheProgram(Pipes):
 RECORDER = os.path.join(TOP, "native", "out", "predator-amd64-linux")
 
 
-@unittest.skipUnless(os.path.exists(RECORDER) and has(PROGRAM, "misses"), "the recorder of native/ or the program isn't built")
+@unittest.skipUnless(
+    os.path.exists(RECORDER) and has(PROGRAM, "misses"),
+    "the recorder of native/ or the program isn't built",
+)
 class OfThisMachine(Shown):
     def test_a_program_is_recorded(self):
         with tempfile.TemporaryDirectory() as folder:
             source = os.path.join(TOP, "native", "tries", "counters.c")
-            subprocess.run(["gcc", "-g", "-O1", "-pthread", source, "-o", "counters"], cwd=folder, check=True)
-            for words in (("--top=1", "counters"), ("native", "--top=1", "--quantum", "10", "--", "./counters")):
+            subprocess.run(
+                ["gcc", "-g", "-O1", "-pthread", source, "-o", "counters"], cwd=folder, check=True
+            )
+            for words in (
+                ("--top=1", "counters"),
+                ("native", "--top=1", "--quantum", "10", "--", "./counters"),
+            ):
                 status, text, said = view(*words, program=PROGRAM, cwd=folder)
                 self.assertEqual((status, said), (0, "sum 80000\n"))
-                self.shows(text, "outcome exit 0, 0 steps", "counters worst field counters[1].count", "each element of counters")
+                self.shows(
+                    text,
+                    "outcome exit 0, 0 steps",
+                    "counters worst field counters[1].count",
+                    "each element of counters",
+                )
                 self.assertRegex(text, r"[1-9] objects? of the C library: --library shows them")
-            status, _, said = view("native", "./counters", "--quantum", "0", program=PROGRAM, cwd=folder)
+            status, _, said = view(
+                "native", "./counters", "--quantum", "0", program=PROGRAM, cwd=folder
+            )
             self.assertEqual((status, "'--quantum' is 1 to 100000" in said), (2, True))
 
 
@@ -301,9 +487,16 @@ class Repairs(Shown):
             "this saves up to 2147 of 2147 misses",
         )
         _, text, _ = view("run", built("anderson.elf"), *TURNS, "--explain", "0")
-        self.shows(text, "1 478 98 184 1 lock", "give each element of lock.slots lines of its own", "the sharing of guarded is true")
+        self.shows(
+            text,
+            "1 478 98 184 1 lock",
+            "give each element of lock.slots lines of its own",
+            "the sharing of guarded is true",
+        )
         # (a line that the report doesn't list)
-        self.shows(text, "2 0 97 0 1 guarded worst field guarded: 100 writes and 100 reads by many harts")
+        self.shows(
+            text, "2 0 97 0 1 guarded worst field guarded: 100 writes and 100 reads by many harts"
+        )
 
     def test_a_byte_for_each_slot(self):
         _, text, _ = view("run", built("flags.elf"), *TURNS, "--explain", "0")
@@ -314,7 +507,8 @@ class Repairs(Shown):
             "each element of lock.slots (shared; by `struct __attribute__((aligned(64))) slot`",
         )
         self.shows(
-            text, "this saves up to 408 of 866 misses, or more: several fields or elements lie in a word of lock.slots[4..7].is_free"
+            text,
+            "this saves up to 408 of 866 misses, or more: several fields or elements lie in a word of lock.slots[4..7].is_free",
         )
         _, text, _ = view("run", built("flags.elf"), "--explain", "0")
         self.shows(
@@ -324,7 +518,8 @@ class Repairs(Shown):
             "give each a line of its own and look again",
         )
         self.shows(
-            text, "harts took turns of 100 steps, which hides what they do at the same time: look with `quantum = 1` in the settings too"
+            text,
+            "harts took turns of 100 steps, which hides what they do at the same time: look with `quantum = 1` in the settings too",
         )
 
     def test_pieces_of_one_block(self):
@@ -340,15 +535,27 @@ class Repairs(Shown):
             "(`--type pieces.c:41=TYPE` names its fields)",
         )
         # (an instruction that the compiler made of two lines)
-        self.shows(text, "near pieces.c:28 (work) takes the line from near pieces.c:28 (work), 380 times, never for the same word")
+        self.shows(
+            text,
+            "near pieces.c:28 (work) takes the line from near pieces.c:28 (work), 380 times, never for the same word",
+        )
 
     def test_what_a_guest_says_is_handed_on_once(self):
-        words, says = ("run", built("ring.elf"), *TURNS, "--explain", "1"), "predator: exit 7\nworker 3 of 4"
+        words, says = (
+            "run",
+            built("ring.elf"),
+            *TURNS,
+            "--explain",
+            "1",
+        ), "predator: exit 7\nworker 3 of 4"
         for lacks in ("", "pipes", "misses"):
             status, text, _ = view(*words, lacks=lacks)
             self.assertEqual(view(*words, lacks=lacks, STAND_IN_SAYS=says), (status, text, says))
         status, _, said = view(*words, "--fail-above", "297", STAND_IN_SAYS=says + "\n")
-        self.assertEqual((status, said), (1, says + "\npredator view: stats has 298 useless misses, more than 297\n"))
+        self.assertEqual(
+            (status, said),
+            (1, says + "\npredator view: stats has 298 useless misses, more than 297\n"),
+        )
 
     def test_what_the_screen_says_mends_it(self):
         for name, thing in (
@@ -363,7 +570,11 @@ class Repairs(Shown):
                 path = os.path.join(folder, "json")
                 view("run", built(f"{name}-repaired.elf"), *TURNS, "--explain", "0", "--json", path)
                 with open(path, encoding="utf-8") as file:
-                    left = [it["useless"] for it in json.load(file)["objects"] if it["name"].startswith(thing)]
+                    left = [
+                        it["useless"]
+                        for it in json.load(file)["objects"]
+                        if it["name"].startswith(thing)
+                    ]
                 self.assertEqual(sum(left), 0, name)
 
 
@@ -376,16 +587,31 @@ class Against(unittest.TestCase):
             with open(old, encoding="utf-8") as file:
                 before = {it["name"]: it["useless"] for it in json.load(file)["objects"]}
             told = joined(text.partition("by useless misses:")[2])
-            self.assertRegex(told, "^all misses but cold ones: better: [0-9]+ before, 656 now useless: less: [0-9]+ before, 342 now")
+            self.assertRegex(
+                told,
+                "^all misses but cold ones: better: [0-9]+ before, 656 now useless: less: [0-9]+ before, 342 now",
+            )
             self.assertIn("stats: the same", told)
             self.assertIn(f"ring: less: {before['ring']} before, 44 now", told)
-            _, text, _ = view("run", built("shards.elf"), *TURNS, "--explain", "0", "--against", old)
+            _, text, _ = view(
+                "run", built("shards.elf"), *TURNS, "--explain", "0", "--against", old
+            )
             told = joined(text.partition("by useless misses:")[2])
             self.assertRegex(told, "^all misses but cold ones: worse: [0-9]+ before, 2147 now")
             self.assertNotIn(": 0", told)
             self.assertIn("shards: new: 2147", told)
             self.assertIn(f"stats: gone: {before['stats']} before", told)
-            status, text, _ = view("run", built("shards.elf"), *TURNS, "--explain", "0", "--against", old, "--json", old)
+            status, text, _ = view(
+                "run",
+                built("shards.elf"),
+                *TURNS,
+                "--explain",
+                "0",
+                "--against",
+                old,
+                "--json",
+                old,
+            )
             self.assertEqual((status, "stats: gone" in text), (0, True))
             head = '{"format": "predator view 1", "outcome": "exit 0", "total": null, "objects": '
             things = (
@@ -394,11 +620,30 @@ class Against(unittest.TestCase):
                 '[{"key": "symbol a"}]',
                 '[{"key": [], "name": "a", "useless": 1, "count": 1, "beside": [], "words": []}]',
             )
-            for bad in ("{}", "[", "{" * 99999, '{"format": "predator view 2"}', '{"a":' * 99999, *(f"{head}{it}}}" for it in things)):
+            for bad in (
+                "{}",
+                "[",
+                "{" * 99999,
+                '{"format": "predator view 2"}',
+                '{"a":' * 99999,
+                *(f"{head}{it}}}" for it in things),
+            ):
                 with open(old, "w", encoding="utf-8") as file:
                     file.write(bad)
-                status, _, said = view("run", built("shards.elf"), "--explain", "0", "--against", old, lacks="misses explain")
-                self.assertEqual((status, said.count("\n"), said.startswith("predator view: ")), (2, 1, True), bad[:99])
+                status, _, said = view(
+                    "run",
+                    built("shards.elf"),
+                    "--explain",
+                    "0",
+                    "--against",
+                    old,
+                    lacks="misses explain",
+                )
+                self.assertEqual(
+                    (status, said.count("\n"), said.startswith("predator view: ")),
+                    (2, 1, True),
+                    bad[:99],
+                )
 
 
 if __name__ == "__main__":

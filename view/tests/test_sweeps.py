@@ -27,7 +27,9 @@ TEXT = "sweep 8\naccesses 9\nshift 0 total {} lines 1\nshift 4 total {} lines 1\
 
 def cells_of(text):
     """The cells of each row of a page's tables that names no shift first."""
-    rows = [re.findall(r"<td[^>]*>(.*?)</td>", it) for it in re.findall(r"(?s)<tr>(.*?)</tr>", text)]
+    rows = [
+        re.findall(r"<td[^>]*>(.*?)</td>", it) for it in re.findall(r"(?s)<tr>(.*?)</tr>", text)
+    ]
     return [it for it in rows if it and not it[0].isdigit()]
 
 
@@ -48,7 +50,21 @@ class Sweeps(unittest.TestCase):
     def write(self, accesses, symbols=()):
         records = [(0, Symbol(1, addr, size, name.encode())) for name, addr, size in symbols]
         with open(self.trace, "wb") as file:
-            file.write(trace_of(Case(accesses, records, Ending("exit 0", 9, (0, 0, 0, 0)), 8, 16, 64, 100, 64, None)))
+            file.write(
+                trace_of(
+                    Case(
+                        accesses,
+                        records,
+                        Ending("exit 0", 9, (0, 0, 0, 0)),
+                        8,
+                        16,
+                        64,
+                        100,
+                        64,
+                        None,
+                    )
+                )
+            )
 
     def told(self, *words):
         status, text, said = view("sweep", self.trace, "--size", "8", *words, program=self.program)
@@ -60,12 +76,22 @@ class Sweeps(unittest.TestCase):
         self.assertEqual((status, said), (0, ""))
         rows = text.split("\n")
         self.assertEqual(rows[0], f"{TITLE} (40 accesses)")
-        self.assertEqual(rows[2:4], ["       0       39      1  as data lies, the most", "       4        0      0  the least"])
+        self.assertEqual(
+            rows[2:4],
+            [
+                "       0       39      1  as data lies, the most",
+                "       4        0      0  the least",
+            ],
+        )
         self.assertEqual(rows[4].split("  ")[-1], "object, and its worst line with the shift 0")
-        self.assertEqual(rows[5:], ["         39          0  memory at 0x00001000 (0x00001000)", ""])
+        self.assertEqual(
+            rows[5:], ["         39          0  memory at 0x00001000 (0x00001000)", ""]
+        )
 
     def test_the_page(self):
-        status, text, said = view("sweep", self.trace, "--size=8", "--html", "-", program=self.program)
+        status, text, said = view(
+            "sweep", self.trace, "--size=8", "--html", "-", program=self.program
+        )
         self.assertEqual((status, said), (0, ""))
         self.assertTrue(text.startswith("<!DOCTYPE html>"))
         for it in (r"<script", r"https?:", r"""(src|href)=""", "<i>"):
@@ -75,19 +101,34 @@ class Sweeps(unittest.TestCase):
         self.assertEqual(told, [("as data lies: 39", "least, shift 4: 0")])
         # Each mark is beside its text, and in the picture on the line.
         self.assertEqual(re.findall(r'<rect x="(\S+)" y="(\S+)"', text), [("-5", "-5"), ("7", "7")])
-        self.assertEqual(re.findall(r'<circle cx="(\S+)" cy="(\S+)"', text), [("0", "0"), ("628", "188")])
+        self.assertEqual(
+            re.findall(r'<circle cx="(\S+)" cy="(\S+)"', text), [("0", "0"), ("628", "188")]
+        )
         self.assertIn('points="12,12 628,188"', text)
         self.assertEqual(cells_of(text)[0], ["memory at 0x00001000", "39", "0", "0x00001000"])
-        self.assertIn('<th class="n">shift 0 (as data lies, the most)</th><th class="n">shift 4 (the least)</th>', text)
+        self.assertIn(
+            '<th class="n">shift 0 (as data lies, the most)</th><th class="n">shift 4 (the least)</th>',
+            text,
+        )
         # Each shift has a tick with its name, and a row with what `sweep` prints of it.
-        self.assertEqual(re.findall(r'v4"/><text x="(\S+)" y="\S+" text-anchor="middle">(.*?)</text>', text), [("12", "0"), ("628", "4")])
+        self.assertEqual(
+            re.findall(r'v4"/><text x="(\S+)" y="\S+" text-anchor="middle">(.*?)</text>', text),
+            [("12", "0"), ("628", "4")],
+        )
         words = [self.program, "sweep", self.trace, "--size", "8"]
         told = subprocess.run(words, capture_output=True, text=True).stdout
-        wanted = [list(it) for it in re.findall(r"^shift (\d+) total (\d+) lines (\d+)$", told, re.MULTILINE)]
-        rows = [re.findall(r"<td[^>]*>(.*?)</td>", it) for it in re.findall(r"<tr>(.*?)</tr>", text)]
+        wanted = [
+            list(it)
+            for it in re.findall(r"^shift (\d+) total (\d+) lines (\d+)$", told, re.MULTILINE)
+        ]
+        rows = [
+            re.findall(r"<td[^>]*>(.*?)</td>", it) for it in re.findall(r"<tr>(.*?)</tr>", text)
+        ]
         self.assertEqual([it[:3] for it in rows if it and it[0].isdigit()], wanted)
         # The file has the same.
-        self.assertEqual(view("sweep", self.trace, "--size=8", "--html", self.html, program=self.program)[0], 0)
+        self.assertEqual(
+            view("sweep", self.trace, "--size=8", "--html", self.html, program=self.program)[0], 0
+        )
         with open(self.html, encoding="utf-8") as file:
             self.assertEqual(file.read(), text)
 
@@ -96,7 +137,9 @@ class Sweeps(unittest.TestCase):
         with open(self.trace, "rb") as file:
             command = [os.path.join(TOP, "bin", "predator"), "view", "sweep", "-", "--size", "8"]
             ran = subprocess.run(command, input=file.read(), capture_output=True, env=env)
-        self.assertEqual(ran.stdout.decode(), view("sweep", self.trace, "--size", "8", program=self.program)[1])
+        self.assertEqual(
+            ran.stdout.decode(), view("sweep", self.trace, "--size", "8", program=self.program)[1]
+        )
 
     def test_the_object_whose_border_makes_the_peak(self):
         # (`far` fights with itself under any shift, and the words of `near` meet under the shift 4 alone)
@@ -105,20 +148,48 @@ class Sweeps(unittest.TestCase):
             [("<b>near", 0x1000, 12), ("far", 0x2000, 4), ("next&", 0x100C, 4)],
         )
         rows = self.told().split("\n")
-        self.assertTrue(rows[0].endswith("the most, with the shift 4; most of the difference is in <b>near (80 accesses)"), rows[0])
-        self.assertEqual([it.split()[:3] for it in rows[5:7]], [["0", "39", "<b>near"], ["39", "39", "far"]])
+        self.assertTrue(
+            rows[0].endswith(
+                "the most, with the shift 4; most of the difference is in <b>near (80 accesses)"
+            ),
+            rows[0],
+        )
+        self.assertEqual(
+            [it.split()[:3] for it in rows[5:7]], [["0", "39", "<b>near"], ["39", "39", "far"]]
+        )
         self.assertIn("<b>near (0x00001004: bytes 4 to 11 of <b>near)", rows[5])
         page = self.told("--html", "-")
         near = ["&lt;b&gt;near", "0", "39", "0x00001004: bytes 4 to 11 of &lt;b&gt;near"]
-        self.assertEqual(cells_of(page), [near, ["far", "39", "39", "0x00001ffc: bytes 0 to 3 of far"]])
+        self.assertEqual(
+            cells_of(page), [near, ["far", "39", "39", "0x00001ffc: bytes 0 to 3 of far"]]
+        )
         # Each number is that of the reports under the shift.
         for at, shift in enumerate((0, 4)):
-            words = [self.program, "replay", self.trace, "--set", "tracking=1,report=1", "--size", "8", "--shift", str(shift)]
+            words = [
+                self.program,
+                "replay",
+                self.trace,
+                "--set",
+                "tracking=1,report=1",
+                "--size",
+                "8",
+                "--shift",
+                str(shift),
+            ]
             report = subprocess.run(words, capture_output=True, text=True).stdout
-            counts = [int(it) for it in re.findall(r"^line observed .* count (\d+) ", report, re.MULTILINE)]
-            self.assertEqual(sorted(counts), sorted(int(it[1 + at]) for it in cells_of(page) if it[1 + at] != "0"))
+            counts = [
+                int(it)
+                for it in re.findall(r"^line observed .* count (\d+) ", report, re.MULTILINE)
+            ]
+            self.assertEqual(
+                sorted(counts),
+                sorted(int(it[1 + at]) for it in cells_of(page) if it[1 + at] != "0"),
+            )
         self.assertIn("1 more object: --top 2 shows all", self.told("--top", "1"))
-        self.assertIn("1 more object isn&#39;t shown: --top 2 shows all", self.told("--top", "1", "--html", "-"))
+        self.assertIn(
+            "1 more object isn&#39;t shown: --top 2 shows all",
+            self.told("--top", "1", "--html", "-"),
+        )
 
     def test_nothing_is_taken(self):
         self.write(in_turn(0x1000))
@@ -142,10 +213,17 @@ class Sweeps(unittest.TestCase):
         self.assertIn("2 more objects: --top 4 shows all", self.told("--top=2"))
 
     def test_refused(self):
-        status, _, said = view("sweep", self.trace, "--size", "8", "--html", self.trace, program=self.program)
+        status, _, said = view(
+            "sweep", self.trace, "--size", "8", "--html", self.trace, program=self.program
+        )
         self.assertEqual((status, "the same file is in use" in said), (2, True))
-        for path, why in ((os.path.dirname(self.trace), "Is a directory"), ("/dev/full", "No space left on device")):
-            status, _, said = view("sweep", self.trace, "--size", "8", "--html", path, program=self.program)
+        for path, why in (
+            (os.path.dirname(self.trace), "Is a directory"),
+            ("/dev/full", "No space left on device"),
+        ):
+            status, _, said = view(
+                "sweep", self.trace, "--size", "8", "--html", path, program=self.program
+            )
             self.assertEqual((status, said), (2, f"predator view: {path}: {why}\n"))
         status, _, said = view("sweep", __file__, "--size", "8", program=self.program)
         self.assertEqual((status, "`predator sweep` was refused" in said), (2, True))
@@ -159,19 +237,35 @@ class SweepsOfTheProgram(Sweeps):
 class Texts(unittest.TestCase):
     def test_what_is_the_least(self):
         told = Sweep(TEXT.format(7, 9, 0, 7)).title()
-        self.assertTrue(told.endswith("7 times as data lies, and under no shift less often; 9 times, the most, with the shift 4"), told)
+        self.assertTrue(
+            told.endswith(
+                "7 times as data lies, and under no shift less often; 9 times, the most, with the shift 4"
+            ),
+            told,
+        )
         own = page(Sweep(TEXT.format(7, 9, 0, 7)), "t")
-        self.assertEqual((own.count("<rect"), own.count("<circle"), own.count("l-6 -11z")), (2, 0, 2))
+        self.assertEqual(
+            (own.count("<rect"), own.count("<circle"), own.count("l-6 -11z")), (2, 0, 2)
+        )
         self.assertIn("as data lies, the least", own)
         same = page(Sweep(TEXT.format(7, 7, 0, 7)), "t")
-        self.assertEqual((same.count("<rect"), same.count("<circle"), same.count("l-6 -11z")), (2, 0, 0))
+        self.assertEqual(
+            (same.count("<rect"), same.count("<circle"), same.count("l-6 -11z")), (2, 0, 0)
+        )
         self.assertIn("7 times as data lies, and as often under every shift", same)
-        for bad in ("", TEXT, TEXT.format(7, 9, 0, 7)[:-4], "sweep 8\naccesses 9\nleast 0 total 0\nend\n"):
+        for bad in (
+            "",
+            TEXT,
+            TEXT.format(7, 9, 0, 7)[:-4],
+            "sweep 8\naccesses 9\nleast 0 total 0\nend\n",
+        ):
             with self.assertRaises(Fault):
                 Sweep(bad)
 
     def test_which_object_differs_most(self):
-        one, two = Under({1: 5, 2: 90}, {1: "a", 2: "b"}, {1: "x"}), Under({1: 1, 2: 89, 3: 4}, {1: "a", 2: "b", 3: "c"}, {})
+        one, two = Under({1: 5, 2: 90}, {1: "a", 2: "b"}, {1: "x"}), Under(
+            {1: 1, 2: 89, 3: 4}, {1: "a", 2: "b", 3: "c"}, {}
+        )
         told = [(it.name, it.counts, it.border) for it in ordered([one, two], 0, 1)]
         self.assertEqual(told, [("a", [5, 1], "x"), ("b", [90, 89], ""), ("c", [0, 4], "")])
 
@@ -179,7 +273,10 @@ class Texts(unittest.TestCase):
         told = curve([0, 50, 100, 25], [(2, "most")], [0, 4, 8, 12])
         self.assertEqual(told["points"], "12,188 217,100 422,12 628,144")
         self.assertEqual(told["marks"], [{"x": 422, "y": 12, "text": "most"}])
-        self.assertEqual([(it["x"], it["text"]) for it in told["ticks"]], [(12, 0), (217, 4), (422, 8), (628, 12)])
+        self.assertEqual(
+            [(it["x"], it["text"]) for it in told["ticks"]],
+            [(12, 0), (217, 4), (422, 8), (628, 12)],
+        )
         self.assertEqual(curve([0], [], [0])["points"], "12,188")
         # (of many, at most eight have a name)
         names = [it["text"] for it in curve([1] * 64, [], range(0, 256, 4))["ticks"]]

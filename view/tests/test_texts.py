@@ -59,16 +59,24 @@ class Texts(unittest.TestCase):
     def test_report(self):
         report = Report(WHOLE)
         first, second = report.lines
-        self.assertEqual((first.kind, first.base, first.count, first.verdict), ("observed", 0x1000, 2, "false"))
+        self.assertEqual(
+            (first.kind, first.base, first.count, first.verdict), ("observed", 0x1000, 2, "false")
+        )
         self.assertEqual((second.kind, second.base, second.words()), ("shifted", -0x1C, []))
         symbol, block, other = first.objects()
         self.assertEqual((symbol.name, symbol.size), ("a\\x20b", 8))
         self.assertEqual((block.died, [it.name for it in block.sites]), (2, ["worker", "-"]))
         self.assertEqual((other.died, other.sites), (None, ()))
-        self.assertEqual([(it.addr, it.reads, it.writes, it.hart) for it in first.words()], [(0x1000, 0, 2, "0"), (0x1008, 1, 1, "many")])
+        self.assertEqual(
+            [(it.addr, it.reads, it.writes, it.hart) for it in first.words()],
+            [(0x1000, 0, 2, "0"), (0x1008, 1, 1, "many")],
+        )
 
     def test_report_behind_which_sites_are_told(self):
-        self.assertEqual(Report(WHOLE + "where 0x000100b0 /home/me/kinds.c:59\n").where, {0x100B0: "/home/me/kinds.c:59"})
+        self.assertEqual(
+            Report(WHOLE + "where 0x000100b0 /home/me/kinds.c:59\n").where,
+            {0x100B0: "/home/me/kinds.c:59"},
+        )
 
     def test_report_without_lines(self):
         self.assertEqual(Report(HEAD + "lines 0\nend\n").lines, [])
@@ -90,7 +98,9 @@ class Texts(unittest.TestCase):
         self.fault(WHOLE.replace("layout 64 0", "layout 63 0"), "no layout")
         self.fault(WHOLE.replace("layout 64 0", "layout 64 64"), "no layout")
         self.fault(WHOLE.replace("steps 3", "steps \xb2"), "no line `steps N`")
-        self.fault(WHOLE.replace("0x00001000 64 start", "0x00001000 32 start"), "lines of another size")
+        self.fault(
+            WHOLE.replace("0x00001000 64 start", "0x00001000 32 start"), "lines of another size"
+        )
         for row, bad in (
             (9, "object symbol a 0x00001000"),
             (11, "site 0x000100b0"),
@@ -108,12 +118,20 @@ class Texts(unittest.TestCase):
             ("word 0x00001000 reads 0 writes 2 many\n", 0),
             ("", 0),
         ):
-            line = Report(f"{HEAD}lines 1\nline observed 0x00001000 64 start 0 count 2 verdict false\n{row}end\n").lines[0]
-            self.assertEqual((len(line.objects()), len(line.words())), (wanted, row.count("\nword ") or row.count("word 0")))
+            line = Report(
+                f"{HEAD}lines 1\nline observed 0x00001000 64 start 0 count 2 verdict false\n{row}end\n"
+            ).lines[0]
+            self.assertEqual(
+                (len(line.objects()), len(line.words())),
+                (wanted, row.count("\nword ") or row.count("word 0")),
+            )
 
     def test_misses(self):
         misses = Misses(MISSES)
-        self.assertEqual((misses.size, misses.accesses, misses.total), (64, 4, {"cold": 5, "useful": 0, "useless": 2}))
+        self.assertEqual(
+            (misses.size, misses.accesses, misses.total),
+            (64, 4, {"cold": 5, "useful": 0, "useless": 2}),
+        )
         self.assertEqual(misses.lines[0x1000].useless, 2)
         self.assertEqual([it.name for it in misses.lines[0x1000].objects()], ["a"])
         for bad in ("", MISSES[:-5], MISSES.replace("lines 1", "lines 2")):
@@ -141,30 +159,67 @@ class Words(unittest.TestCase):
         return str(it.exception)
 
     def test_run(self):
-        call = Call(["run", "p.elf", "--settings", "s", "--top", "3", "--trace=t", "--set", "quantum=1", "--words"])
+        call = Call(
+            [
+                "run",
+                "p.elf",
+                "--settings",
+                "s",
+                "--top",
+                "3",
+                "--trace=t",
+                "--set",
+                "quantum=1",
+                "--words",
+            ]
+        )
         self.assertEqual((call.how, call.subject, call.program), ("run", "p.elf", "p.elf"))
-        self.assertEqual(call.words, ["p.elf", "--settings", "s", "--trace=t", "--set", "quantum=1"])
+        self.assertEqual(
+            call.words, ["p.elf", "--settings", "s", "--trace=t", "--set", "quantum=1"]
+        )
         self.assertEqual(call.settings_words(), ["--settings", "s", "--set", "quantum=1"])
-        self.assertEqual(call.words_to_run(), ["run", "p.elf", "--settings", "s", "--set", "quantum=1"])
-        self.assertEqual((call.number("top", 10), call.value_of("--trace"), "words" in call.options), (3, "t", True))
+        self.assertEqual(
+            call.words_to_run(), ["run", "p.elf", "--settings", "s", "--set", "quantum=1"]
+        )
+        self.assertEqual(
+            (call.number("top", 10), call.value_of("--trace"), "words" in call.options),
+            (3, "t", True),
+        )
 
     def test_words_of_the_guest(self):
         call = Call(["run", "--top=3", "p.elf", "--settings", "s", "--", "--words", "a"])
-        self.assertEqual((call.subject, call.words, call.own), ("p.elf", ["p.elf", "--settings", "s"], ["--", "--words", "a"]))
-        self.assertEqual((call.words_to_run(), "words" in call.options), (["run", "p.elf", "--settings", "s"], False))
+        self.assertEqual(
+            (call.subject, call.words, call.own),
+            ("p.elf", ["p.elf", "--settings", "s"], ["--", "--words", "a"]),
+        )
+        self.assertEqual(
+            (call.words_to_run(), "words" in call.options),
+            (["run", "p.elf", "--settings", "s"], False),
+        )
 
     def test_others(self):
         self.assertEqual(Call(["replay", "t", "--program", "p"]).program, "p")
         self.assertEqual(Call(["r.report"]).how, "file")
         self.assertEqual(Call(["run", "--", "-p.elf"]).subject, "-p.elf")
-        self.assertEqual(Call(["run", "p", "--type", "a.c:7=node", "--type=b=c"]).options["type"], ["a.c:7=node", "b=c"])
+        self.assertEqual(
+            Call(["run", "p", "--type", "a.c:7=node", "--type=b=c"]).options["type"],
+            ["a.c:7=node", "b=c"],
+        )
 
     def test_sweeps(self):
         call = Call(["sweep", "t", "--size", "64", "--html=f"])
-        self.assertEqual((call.how, call.subject, call.words), ("sweep", "t", ["t", "--size", "64"]))
+        self.assertEqual(
+            (call.how, call.subject, call.words), ("sweep", "t", ["t", "--size", "64"])
+        )
         self.assertIn("a sweep is of lines of a size", self.refused("sweep", "t"))
-        self.assertIn("'--json' isn't for `view sweep`, which takes --html", self.refused("sweep", "t", "--size=64", "--json=f"))
-        self.assertIn("'--shift' is no option of view sweep", self.refused("sweep", "t", "--size=64", "--shift", "4"))
+        self.assertIn(
+            "'--json' isn't for `view sweep`, which takes --html",
+            self.refused("sweep", "t", "--size=64", "--json=f"),
+        )
+        self.assertIn(
+            "'--shift' is no option of view sweep",
+            self.refused("sweep", "t", "--size=64", "--shift", "4"),
+        )
 
     def test_what_a_file_is(self):
         with tempfile.TemporaryDirectory() as folder:
@@ -174,26 +229,52 @@ class Words(unittest.TestCase):
                 with open(at(name), "wb") as file:
                     file.write(head)
             call = Call([at("guest"), "--set", "quantum=3", "--top", "2", "--", "--words"])
-            self.assertEqual((call.how, call.program, call.own, call.options["top"]), ("run", at("guest"), ["--", "--words"], "2"))
+            self.assertEqual(
+                (call.how, call.program, call.own, call.options["top"]),
+                ("run", at("guest"), ["--", "--words"], "2"),
+            )
             self.assertEqual(call.words, [at("guest"), "--set", "quantum=3"])
             self.assertEqual(Call([at("trace"), "--size=32"]).how, "replay")
             call = Call(["--quantum", "10", "--all", at("own"), "--size", "32", "--", "a"])
-            self.assertEqual((call.how, call.named, call.own, call.marks), ("native", at("own"), ["--", "a"], ["--all"]))
+            self.assertEqual(
+                (call.how, call.named, call.own, call.marks),
+                ("native", at("own"), ["--", "a"], ["--all"]),
+            )
             self.assertEqual(parted(call.words, at("own")), (["--quantum", "10"], ["--size", "32"]))
             call = Call(["native", "--all", "--", at("own"), "a", "--b"])
-            self.assertEqual((call.subject, call.own, call.marks), (at("own"), ["--", "a", "--b"], ["--all"]))
-            strange = ("run", "trace", "a trace"), ("run", "own", "a program of this machine"), ("replay", "guest", "a program")
+            self.assertEqual(
+                (call.subject, call.own, call.marks), (at("own"), ["--", "a", "--b"], ["--all"])
+            )
+            strange = (
+                ("run", "trace", "a trace"),
+                ("run", "own", "a program of this machine"),
+                ("replay", "guest", "a program"),
+            )
             for how, name, said in strange:
-                self.assertIn(f"{at(name)} is {said}: `predator view {at(name)}`", self.refused(how, at(name)))
-            self.assertIn("'--quantum' is no option of view run", self.refused(at("guest"), "--quantum", "10"))
-            self.assertIn("'--all' is for a program of this machine", self.refused(at("guest"), "--all"))
-            self.assertIn("'--sources' is a folder", self.refused(at("guest"), "--sources", at("trace")))
+                self.assertIn(
+                    f"{at(name)} is {said}: `predator view {at(name)}`", self.refused(how, at(name))
+                )
+            self.assertIn(
+                "'--quantum' is no option of view run", self.refused(at("guest"), "--quantum", "10")
+            )
+            self.assertIn(
+                "'--all' is for a program of this machine", self.refused(at("guest"), "--all")
+            )
+            self.assertIn(
+                "'--sources' is a folder", self.refused(at("guest"), "--sources", at("trace"))
+            )
 
     def test_refusals(self):
-        self.assertIn("'--saves=1' is no option of view replay; did you mean `--save`?", self.refused("replay", "t", "--saves=1"))
+        self.assertIn(
+            "'--saves=1' is no option of view replay; did you mean `--save`?",
+            self.refused("replay", "t", "--saves=1"),
+        )
         near = "names no key of the settings; did you mean `quantum`? the keys are: harts"
         self.assertIn(near, self.refused("run", "p", "--set=quantom=3"))
-        self.assertIn("'x=3' in --set names no key of the settings; the keys are", self.refused("run", "p", "--set", "quantum=1,x=3"))
+        self.assertIn(
+            "'x=3' in --set names no key of the settings; the keys are",
+            self.refused("run", "p", "--set", "quantum=1,x=3"),
+        )
         self.assertIn("a report is wanted", self.refused())
         self.assertIn("a program is wanted", self.refused("run", "--top", "3"))
         self.assertIn("'b' is one word more", self.refused("a", "b"))
@@ -213,7 +294,11 @@ class Words(unittest.TestCase):
         self.assertEqual(visible("a\tb\n\x1b[1m\u202e\x00é"), "a\tb\n\\x1b[1m\\u202e\\x00é")
         self.assertEqual([visible(it) for it in (None, 3, ["\x00"])], [None, 3, ["\x00"]])
         # (a cell says where a word of a stack is without its address)
-        for name, told in (("0x006479c8, 1592 below its top", "1592 below its top"), ("0x00001000", "0x00001000"), ("a, b", "a, b")):
+        for name, told in (
+            ("0x006479c8, 1592 below its top", "1592 below its top"),
+            ("0x00001000", "0x00001000"),
+            ("a, b", "a, b"),
+        ):
             self.assertEqual(PLACE.sub("", name), told)
 
 

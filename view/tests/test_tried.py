@@ -21,7 +21,16 @@ import patches  # noqa: E402
 from cutting import accesses_of, cut  # noqa: E402
 from fields import Program  # noqa: E402
 from judge_report import Access, Case, Ending, trace_of  # noqa: E402
-from layouts import Change, Part, Shape, Unmovable, arrays_in, in_words, laid, members_of  # noqa: E402
+from layouts import (
+    Change,
+    Part,
+    Shape,
+    Unmovable,
+    arrays_in,
+    in_words,
+    laid,
+    members_of,
+)  # noqa: E402
 from repairs import Repair, groupings  # noqa: E402
 from spelled import Uses  # noqa: E402
 from subjects import UNUSED, Whose, whose  # noqa: E402
@@ -44,7 +53,17 @@ class Folder(unittest.TestCase):
         return path
 
     def uses(self, *accesses, others=()):
-        case = Case([Access(*it) for it in accesses], list(others), Ending("exit 0", 9, (0, 0, 0, 0)), 8, 16, 64, 100, 64, None)
+        case = Case(
+            [Access(*it) for it in accesses],
+            list(others),
+            Ending("exit 0", 9, (0, 0, 0, 0)),
+            8,
+            16,
+            64,
+            100,
+            64,
+            None,
+        )
         return Uses(self.path("trace", trace_of(case)))
 
 
@@ -54,7 +73,14 @@ W, R = True, False
 class Used(Folder):
     def test_only_what_is_done_while_threads_run_counts(self):
         before, after = [(0, W, 0x1000, 4)] * 50, [(0, R, 0x1000, 4)] * 50
-        uses = self.uses(*before, (1, W, 0x1000, 4), (1, R, 0x1000, 4), (0, W, 0x2000, 4), (1, W, 0x1000, 4), *after)
+        uses = self.uses(
+            *before,
+            (1, W, 0x1000, 4),
+            (1, R, 0x1000, 4),
+            (0, W, 0x2000, 4),
+            (1, W, 0x1000, 4),
+            *after,
+        )
         self.assertEqual({hart: tuple(it) for hart, it in uses.of(0x1000).items()}, {1: (1, 2, 15)})
         self.assertEqual(list(uses.of(0x2000)), [0])
         self.assertEqual(whose(uses, 0x1000, 4), Whose("own", frozenset({1})))
@@ -65,7 +91,11 @@ class Used(Folder):
 
     def test_other_records_lie_between(self):
         sites = (0x100, 0, 0, 0)
-        others = [(0, Symbol(1, 0x1000, 64, b"name")), (2, Alloc(0x2000, 16, sites)), (70, Alloc(0x3000, 16, sites))]
+        others = [
+            (0, Symbol(1, 0x1000, 64, b"name")),
+            (2, Alloc(0x2000, 16, sites)),
+            (70, Alloc(0x3000, 16, sites)),
+        ]
         uses = self.uses(*([(0, W, 0x1000, 4), (1, R, 0x1004, 4)] * 100), others=others)
         self.assertEqual((uses.of(0x1000)[0].writes, uses.of(0x1004)[1].reads), (99, 100))
 
@@ -82,26 +112,46 @@ class Used(Folder):
             self.assertEqual(self.uses(*accesses[:40]).front, b"")
         self.assertEqual(self.uses(*accesses).front, b"")
         own = list(records(front))
-        self.assertEqual(own, [(hart, addr, writes) for hart, writes, addr, _ in accesses[: len(own)]])
+        self.assertEqual(
+            own, [(hart, addr, writes) for hart, writes, addr, _ in accesses[: len(own)]]
+        )
         self.assertTrue(25 <= len(own) < 40)
-        self.assertEqual((front[-25], front[-24], int.from_bytes(front[-8:], "little")), (6, 4, len(own)))
+        self.assertEqual(
+            (front[-25], front[-24], int.from_bytes(front[-8:], "little")), (6, 4, len(own))
+        )
 
     def test_bytes_of_a_word(self):
-        uses = self.uses(*[(1, W, 0x1000, 1), (2, W, 0x1001, 1), (1, W, 0x1004, 4), (2, W, 0x1004, 4)] * 9)
+        uses = self.uses(
+            *[(1, W, 0x1000, 1), (2, W, 0x1001, 1), (1, W, 0x1004, 4), (2, W, 0x1004, 4)] * 9
+        )
         self.assertEqual([uses.is_mixed(it) for it in (0x1000, 0x1004)], [True, False])
 
     def test_free_places(self):
-        self.assertEqual(list(free([0x1000, 0x12FFC], 64)), [0xC0000000, 0x80000000, 0x40000000, 0x13000, 0])
-        self.assertEqual(list(free([0, 0x5000, 0x40000FFC, 0x80000000, 0xC0001000, 0xFFFFFFFC], 0x4000)), [0x1000])
+        self.assertEqual(
+            list(free([0x1000, 0x12FFC], 64)), [0xC0000000, 0x80000000, 0x40000000, 0x13000, 0]
+        )
+        self.assertEqual(
+            list(free([0, 0x5000, 0x40000FFC, 0x80000000, 0xC0001000, 0xFFFFFFFC], 0x4000)),
+            [0x1000],
+        )
         self.assertEqual(list(free(range(0, 1 << 32, 4096), 4096)), [])
-        self.assertEqual(table([Part(8, 4, 64), Part(4, 4, 0)], 0x1000), "0x4 4 0x1000\n0x8 4 0x1040\n")
+        self.assertEqual(
+            table([Part(8, 4, 64), Part(4, 4, 0)], 0x1000), "0x4 4 0x1000\n0x8 4 0x1040\n"
+        )
 
 
 class Cut(Folder):
     def test_the_first_part_of_a_trace(self):
-        accesses = [Access(it % 3, bool(it % 2), 0x1000 + 4 * (it * it % 999), 4) for it in range(5000)]
-        others = [(0, Symbol(1, 0x1000, 64, b"n\x11\x24")), *((at, Alloc(at * 16, 16, (at, 0, 0, 0))) for at in (0x811, 0xF21))]
-        first = trace_of(Case(accesses, others, Ending("exit 0", 9, (0, 0, 0, 0)), 8, 16, 64, 100, 64, None))
+        accesses = [
+            Access(it % 3, bool(it % 2), 0x1000 + 4 * (it * it % 999), 4) for it in range(5000)
+        ]
+        others = [
+            (0, Symbol(1, 0x1000, 64, b"n\x11\x24")),
+            *((at, Alloc(at * 16, 16, (at, 0, 0, 0))) for at in (0x811, 0xF21)),
+        ]
+        first = trace_of(
+            Case(accesses, others, Ending("exit 0", 9, (0, 0, 0, 0)), 8, 16, 64, 100, 64, None)
+        )
         third = with_pcs(first, lambda access, before: (before * 5 + access.addr) % 2**32)
         for trace in (first, third):
             path, out = self.path("whole", trace), self.path("part")
@@ -122,18 +172,36 @@ class Cut(Folder):
     def test_a_screen_of_a_long_trace(self):
         """Of the first part of a trace that is taken for a long one the misses before and after are those that the program counts."""
         trace, part = self.path("trace"), self.path("part")
-        subprocess.run([PROGRAM, "run", built("ring.elf"), *TURNS, "--trace", trace], capture_output=True, check=True)
+        subprocess.run(
+            [PROGRAM, "run", built("ring.elf"), *TURNS, "--trace", trace],
+            capture_output=True,
+            check=True,
+        )
         text = io.StringIO()
-        words = ["replay", trace, "--program", built("ring.elf"), "--sources", os.path.join(HERE, "programs")]
+        words = [
+            "replay",
+            trace,
+            "--program",
+            built("ring.elf"),
+            "--sources",
+            os.path.join(HERE, "programs"),
+        ]
         own = {"PREDATOR_PROGRAM": PROGRAM, "PREDATOR_BUILD": "no"}
-        with mock.patch("passes.LONG", 1000), mock.patch.multiple("trying", PART=900, FRONT=500), mock.patch.dict(os.environ, own):
+        with mock.patch("passes.LONG", 1000), mock.patch.multiple(
+            "trying", PART=900, FRONT=500
+        ), mock.patch.dict(os.environ, own):
             with contextlib.redirect_stdout(text):
                 self.assertEqual(main.main(words), 0)
         shown = joined(text.getvalue())
-        found = re.search(r"counted so in the first (\d+(?:,\d+)?) accesses: useless (\d+) before, (\d+) after; useful (\d+), \d+;", shown)
+        found = re.search(
+            r"counted so in the first (\d+(?:,\d+)?) accesses: useless (\d+) before, (\d+) after; useful (\d+), \d+;",
+            shown,
+        )
         accesses, useless, after, useful = (int(it.replace(",", "")) for it in found.groups())
         self.assertEqual(cut(trace, accesses, part), accesses)
-        total = subprocess.run([PROGRAM, "misses", part], capture_output=True, text=True, check=True).stdout
+        total = subprocess.run(
+            [PROGRAM, "misses", part], capture_output=True, text=True, check=True
+        ).stdout
         self.assertIn(f" useful {useful} useless {useless}\n", total)
         self.assertTrue(1000 < accesses < 2111 and after < useless / 5, shown)
         said = "note: of a long trace repairs are counted in its first part, and predicted lines left out, unless `--words` asks for all "
@@ -162,7 +230,9 @@ int main(void) { return all[0].first + grid[0][0] + odd.a; }
 """
 
 
-@unittest.skipUnless(shutil.which("clang") and shutil.which("llvm-dwarfdump"), "clang or llvm isn't installed")
+@unittest.skipUnless(
+    shutil.which("clang") and shutil.which("llvm-dwarfdump"), "clang or llvm isn't installed"
+)
 class LaidOut(Folder):
     def program(self, text):
         source, out = self.path("all.c", text), self.path("all")
@@ -175,7 +245,10 @@ class LaidOut(Folder):
         members = {it.name: it for it in members_of(record)}
         # (a number of eight bytes is one field, and so is a union)
         self.assertEqual([*members], ["first", "value", "sum", "inner", "next", "marks", "last"])
-        groups = [[members[it] for it in own] for own in (("sum", "first"), ("inner", "value", "marks"), ("next", "last"))]
+        groups = [
+            [members[it] for it in own]
+            for own in (("sum", "first"), ("inner", "value", "marks"), ("next", "last"))
+        ]
         change = Change(64)
         change.parted[record.offset] = groups
         found = laid(shape, change)
@@ -195,7 +268,12 @@ class LaidOut(Folder):
         change.aligned.add(Shape(program.type_named("struct all")).record().offset)
         found = laid(Shape(variable.type), change)
         text = SOURCE.replace("struct all {", "struct __attribute__((aligned(64))) all {")
-        self.assertEqual(found.size, Shape(next(it for it in self.variables(self.program(text)) if it.name == "all").type).size())
+        self.assertEqual(
+            found.size,
+            Shape(
+                next(it for it in self.variables(self.program(text)) if it.name == "all").type
+            ).size(),
+        )
 
     def variables(self, program):
         program.scan()
@@ -205,20 +283,37 @@ class LaidOut(Folder):
         program = self.program(SOURCE)
         grid = Shape(next(it for it in self.variables(program) if it.name == "grid").type)
         first = next(arrays_in(grid, [0]))
-        self.assertEqual((first.path, first.shape.size(), first.begins[:3]), ("[]", 84, [0, 84, 168]))
+        self.assertEqual(
+            (first.path, first.shape.size(), first.begins[:3]), ("[]", 84, [0, 84, 168])
+        )
         change = Change(64)
         change.wrapped.add("[]")
         self.assertEqual(laid(grid, change).size, 6 * 128)
         self.assertIsNone(members_of(Shape(program.type_named("struct odd")).record()))
 
     def test_words(self):
-        self.assertEqual(in_words([Part(0, 4, 64), Part(4, 2, 68), Part(8, 4, 0)]), [Part(0, 8, 64), Part(8, 4, 0)])
-        for parts in ([Part(0, 1, 0), Part(1, 1, 64)], [Part(0, 4, 2)], [Part(0, 2, 0), Part(2, 2, 66)]):
+        self.assertEqual(
+            in_words([Part(0, 4, 64), Part(4, 2, 68), Part(8, 4, 0)]),
+            [Part(0, 8, 64), Part(8, 4, 0)],
+        )
+        for parts in (
+            [Part(0, 1, 0), Part(1, 1, 64)],
+            [Part(0, 4, 2)],
+            [Part(0, 2, 0), Part(2, 2, 66)],
+        ):
             self.assertRaises(Unmovable, in_words, parts)
 
     def test_several_repairs(self):
-        first, second = Repair([], [Part(8, 8, 0), Part(32, 4, 64)], 128, None), Repair([], [Part(0, 36, 0), Part(40, 4, 64)], 128, None)
-        parts = [Part(0, 8, 128), Part(8, 8, 0), Part(16, 16, 144), Part(32, 4, 64), Part(40, 4, 192)]
+        first, second = Repair([], [Part(8, 8, 0), Part(32, 4, 64)], 128, None), Repair(
+            [], [Part(0, 36, 0), Part(40, 4, 64)], 128, None
+        )
+        parts = [
+            Part(0, 8, 128),
+            Part(8, 8, 0),
+            Part(16, 16, 144),
+            Part(32, 4, 64),
+            Part(40, 4, 192),
+        ]
         self.assertEqual(together_of([first, second], 64), Repair([], parts, 256, None))
         self.assertEqual(together_of([first, first], 64).parts, first.parts)
 
@@ -226,25 +321,39 @@ class LaidOut(Folder):
 class Grouped(unittest.TestCase):
     def ways(self, **found):
         members = [SimpleNamespace(name=it) for it in found]
-        return [[[it.name for it in own] for own in way] for way in groupings(members, {it: (own,) for it, own in found.items()})]
+        return [
+            [[it.name for it in own] for own in way]
+            for way in groupings(members, {it: (own,) for it, own in found.items()})
+        ]
 
     def test_groups_of_fields(self):
         def shared(*harts):
             return Whose("shared", frozenset(harts))
 
-        own, other, read = Whose("own", frozenset({1})), Whose("own", frozenset({2})), Whose("read", frozenset())
-        ways = self.ways(head=shared(1), tail=shared(2), seen_tail=own, seen_head=other, room=read, name=UNUSED)
+        own, other, read = (
+            Whose("own", frozenset({1})),
+            Whose("own", frozenset({2})),
+            Whose("read", frozenset()),
+        )
+        ways = self.ways(
+            head=shared(1), tail=shared(2), seen_tail=own, seen_head=other, room=read, name=UNUSED
+        )
         self.assertIn([["head", "seen_tail"], ["tail", "seen_head"], ["room", "name"]], ways)
         self.assertIn([["head", "tail"], ["seen_tail"], ["seen_head"], ["room", "name"]], ways)
         self.assertIn([["head"], ["tail"], ["seen_tail"], ["seen_head"], ["room", "name"]], ways)
         self.assertEqual(self.ways(a=own, b=own, c=UNUSED), [])
-        self.assertEqual(self.ways(setting=read, counter=shared(1, 2)), [[["setting"], ["counter"]]])
+        self.assertEqual(
+            self.ways(setting=read, counter=shared(1, 2)), [[["setting"], ["counter"]]]
+        )
 
 
 class Patched(Folder):
     def patch(self, text, *edits):
         path = self.path("a.c", text)
-        return patches.applied([it._replace(place=SimpleNamespace(file=path, line=it.place)) for it in edits], patches.text_of)[path][1]
+        return patches.applied(
+            [it._replace(place=SimpleNamespace(file=path, line=it.place)) for it in edits],
+            patches.text_of,
+        )[path][1]
 
     def test_records(self):
         for text, name, wanted in (
@@ -252,13 +361,19 @@ class Patched(Folder):
             ("struct a // of one\n{\n", "a", "struct ATTRIBUTE a // of one\n{\n"),
             ("typedef struct {\n", "a", "typedef struct ATTRIBUTE {\n"),
             ("typedef struct a { int b; } a;\n", "a", "typedef struct ATTRIBUTE a { int b; } a;\n"),
-            ("static struct a { int b; } c[4];\n", "a", "static struct ATTRIBUTE a { int b; } c[4];\n"),
+            (
+                "static struct a { int b; } c[4];\n",
+                "a",
+                "static struct ATTRIBUTE a { int b; } c[4];\n",
+            ),
             ("struct a final : b {\n", "a", "struct ATTRIBUTE a final : b {\n"),
         ):
             found = self.patch(text, patches.AlignRecord(1, "struct", name, 64))
             self.assertEqual(found, wanted.replace("ATTRIBUTE", "__attribute__((aligned(64)))"))
         for text in ("A_STRUCT(a)\n", "struct __attribute__((packed)) a {\n", "struct b {\n"):
-            self.assertRaises(patches.Unpatchable, self.patch, text, patches.AlignRecord(1, "struct", "a", 64))
+            self.assertRaises(
+                patches.Unpatchable, self.patch, text, patches.AlignRecord(1, "struct", "a", 64)
+            )
 
     def test_variables(self):
         for text, wanted in (
@@ -269,7 +384,9 @@ class Patched(Folder):
             found = self.patch(text, patches.AlignVariable(1, "a", 64))
             self.assertEqual(found, wanted.replace("ATTRIBUTE", "__attribute__((aligned(64)))"))
         for text in ("int (*a)(void);", "MAKE(a)", "int b;"):
-            self.assertRaises(patches.Unpatchable, self.patch, text, patches.AlignVariable(1, "a", 64))
+            self.assertRaises(
+                patches.Unpatchable, self.patch, text, patches.AlignVariable(1, "a", 64)
+            )
 
     def test_values_by_their_order(self):
         for text, wanted in (
@@ -280,11 +397,15 @@ class Patched(Folder):
             ("struct a x = {};", False),
             ("struct a *f(int b);\nstruct c x = {1};", False),
         ):
-            self.assertEqual(patches.OrderFields(None, "a", [], 64).by_position(text.split("\n")), wanted, text)
+            self.assertEqual(
+                patches.OrderFields(None, "a", [], 64).by_position(text.split("\n")), wanted, text
+            )
 
     def test_the_last_line_may_have_no_end(self):
         end = "\n\\ No newline at end of file\n"
-        self.assertTrue(patches.difference("a.c", "int a;", "int b;").endswith(f"-int a;{end}+int b;{end}"))
+        self.assertTrue(
+            patches.difference("a.c", "int a;", "int b;").endswith(f"-int a;{end}+int b;{end}")
+        )
 
     @unittest.skipUnless(shutil.which("clang"), "clang isn't installed")
     def test_what_is_said_is_c_and_c_plus_plus(self):
@@ -292,14 +413,25 @@ class Patched(Folder):
         text += "struct c { int d; int e[3] __attribute__((aligned(64))); };\nstatic int f __attribute__((aligned(64))) = 3;\n"
         text += "int g(void);\nint g(void) { return f; }\n"
         for language in ("c", "c++"):
-            words = ["clang", "-Wall", "-Wextra", "-Werror", "-fsyntax-only", "-x", language, self.path("a", text)]
+            words = [
+                "clang",
+                "-Wall",
+                "-Wextra",
+                "-Werror",
+                "-fsyntax-only",
+                "-x",
+                language,
+                self.path("a", text),
+            ]
             subprocess.run(words, check=True)
 
 
 class Sentences(unittest.TestCase):
     def tried(self, useless, useful, accesses, after=None, many=1, own_there=None):
         before = Counted({"useless": useless, "useful": useful}, 9)
-        found = Tried(SimpleNamespace(useless=useless, useful=useful), before, accesses, own_there=own_there)
+        found = Tried(
+            SimpleNamespace(useless=useless, useful=useful), before, accesses, own_there=own_there
+        )
         if after:
             found.repair, found.many = Repair(["do it"], [], 64, None), many
             found.after = Counted(dict(zip(("useless", "useful"), after)), 2)
@@ -316,24 +448,48 @@ class Sentences(unittest.TestCase):
         self.assertIn(told, self.tried(2188, 2457, 90000, (2185, 2457), own_there=4000))
 
     def test_nothing_to_do(self):
-        self.assertEqual(self.tried(100, 41, 22_900_000), "nothing to do: 141 of 22,900,000 accesses miss")
-        self.assertIn("the one repair that was counted saves 3 of 4645 misses", self.tried(2188, 2457, 90000, (2185, 2457)))
+        self.assertEqual(
+            self.tried(100, 41, 22_900_000), "nothing to do: 141 of 22,900,000 accesses miss"
+        )
+        self.assertIn(
+            "the one repair that was counted saves 3 of 4645 misses",
+            self.tried(2188, 2457, 90000, (2185, 2457)),
+        )
         told = self.tried(0, 900, 9000, (0, 990), 4)
-        self.assertIn("nothing by putting words elsewhere: the best of 4 repairs that were counted saves 0 of 900 misses", told)
-        self.assertIn("what harts hand to each other in queue costs less where it is written less often", told)
+        self.assertIn(
+            "nothing by putting words elsewhere: the best of 4 repairs that were counted saves 0 of 900 misses",
+            told,
+        )
+        self.assertIn(
+            "what harts hand to each other in queue costs less where it is written less often", told
+        )
         self.assertIsNone(self.tried(900, 0, 9000))
 
 
 class Screens(unittest.TestCase):
     def test_a_ring_with_statistics(self):
         with tempfile.TemporaryDirectory() as folder:
-            words = ("run", built("ring.elf"), *TURNS, "--explain", "0", "--sources", os.path.join(HERE, "programs"))
+            words = (
+                "run",
+                built("ring.elf"),
+                *TURNS,
+                "--explain",
+                "0",
+                "--sources",
+                os.path.join(HERE, "programs"),
+            )
             patch = os.path.join(folder, "patch")
             status, text, said = view(*words, "--patch", patch, STAND_IN_HAS="move")
             self.assertEqual((status, said), (0, ""))
             text = joined(text)
-            self.assertIn("give each element of stats lines of its own by `struct __attribute__((aligned(64))) stats` (ring.c:24)", text)
-            self.assertIn("counted so: useless 342 before, 44 after; useful 314, 314; by the report's rule 658, 359", text)
+            self.assertIn(
+                "give each element of stats lines of its own by `struct __attribute__((aligned(64))) stats` (ring.c:24)",
+                text,
+            )
+            self.assertIn(
+                "counted so: useless 342 before, 44 after; useful 314, 314; by the report's rule 658, 359",
+                text,
+            )
             # (what it says where nothing is moved is what it says else)
             self.assertNotIn("place", text)
             self.assertNotIn("counted so", view(*words)[1])
@@ -351,10 +507,16 @@ class Screens(unittest.TestCase):
     def test_a_trace_is_read_as_a_run_is(self):
         with tempfile.TemporaryDirectory() as folder:
             trace = os.path.join(folder, "t")
-            subprocess.run([STAND_IN, "run", built("shards.elf"), *TURNS, "--trace", trace], check=True, stdout=subprocess.DEVNULL)
+            subprocess.run(
+                [STAND_IN, "run", built("shards.elf"), *TURNS, "--trace", trace],
+                check=True,
+                stdout=subprocess.DEVNULL,
+            )
             words = ("--explain", "0")
             _, run, _ = view("run", built("shards.elf"), *TURNS, *words, STAND_IN_HAS="move")
-            _, replay, _ = view("replay", trace, "--program", built("shards.elf"), *words, STAND_IN_HAS="move")
+            _, replay, _ = view(
+                "replay", trace, "--program", built("shards.elf"), *words, STAND_IN_HAS="move"
+            )
             (one, other) = (re.search("to do .*", joined(it))[0] for it in (run, replay))
             self.assertEqual(one, other)
             self.assertIn("useless 2147 before, 0 after; useful 0, 0", one)

@@ -63,7 +63,9 @@ class Last(unittest.TestCase):
 
     def test_instructions(self):
         accesses = [Access(it % 3, bool(it % 2), 0x1000 + 4 * it, 4) for it in range(99)]
-        trace = trace_of(Case(accesses, [], Ending("exit 0", 9, (0, 0, 0, 0)), 8, 16, 64, 9, 64, None))
+        trace = trace_of(
+            Case(accesses, [], Ending("exit 0", 9, (0, 0, 0, 0)), 8, 16, 64, 9, 64, None)
+        )
         own = traces.with_pcs(trace, lambda access, before: (before * 5 + access.addr) % 2**32)
         wanted = [(it.hart, it.pc) for it in traces.sited(own)]
         self.assertEqual(list(instructions(own)), wanted)
@@ -75,7 +77,10 @@ class Last(unittest.TestCase):
         self.assertEqual(last_ones(path), {0: 96, 1: 97, 2: 98})
 
     def test_names(self):
-        self.assertEqual([named([1]), named([1, 2]), named([0, 4, 7])], ["hart 1", "harts 1 and 2", "harts 0, 4 and 7"])
+        self.assertEqual(
+            [named([1]), named([1, 2]), named([0, 4, 7])],
+            ["hart 1", "harts 1 and 2", "harts 0, 4 and 7"],
+        )
 
     def test_the_kit_has_its_ends(self):
         with open(os.path.join(TOP, "guest", "pthread.c"), encoding="utf-8") as file:
@@ -88,16 +93,44 @@ class Last(unittest.TestCase):
         with open(source, "w", encoding="utf-8") as file:
             file.write(SOURCE)
         for flags, outcome, wanted in (
-            ([], "deadlock", (r"after waits\.c:[789] \(first\)", r"after waits\.c:15 \(second\)", r"after waits\.c:34 \(main\)")),
-            (["-DSPINS"], "budget", (r"at waits\.c:1[78] \(second\)", r"after waits\.c:[789] \(first\)", r"after waits\.c:34 \(main\)")),
+            (
+                [],
+                "deadlock",
+                (
+                    r"after waits\.c:[789] \(first\)",
+                    r"after waits\.c:15 \(second\)",
+                    r"after waits\.c:34 \(main\)",
+                ),
+            ),
+            (
+                ["-DSPINS"],
+                "budget",
+                (
+                    r"at waits\.c:1[78] \(second\)",
+                    r"after waits\.c:[789] \(first\)",
+                    r"after waits\.c:34 \(main\)",
+                ),
+            ),
         ):
             out = os.path.join(self.folder, outcome)
-            subprocess.run([os.path.join(TOP, "guest", "build.sh"), out, source, "--", *flags], check=True)
-            words = ("run", out, "--set", "quantum=3,budget=300000", "--explain", "0", "--no-predicted")
+            subprocess.run(
+                [os.path.join(TOP, "guest", "build.sh"), out, source, "--", *flags], check=True
+            )
+            words = (
+                "run",
+                out,
+                "--set",
+                "quantum=3,budget=300000",
+                "--explain",
+                "0",
+                "--no-predicted",
+            )
             status, text, _ = view(*words, program=PROGRAM)
             self.assertEqual(status, 0)
             text = joined(text)
-            said = f"note: where each hart {'waits' if outcome == 'deadlock' else 'was'}: hart 0 at "
+            said = (
+                f"note: where each hart {'waits' if outcome == 'deadlock' else 'was'}: hart 0 at "
+            )
             self.assertIn(said, text)
             for it in wanted:
                 self.assertRegex(text, it)

@@ -17,7 +17,16 @@ import instructions  # noqa: E402
 import worth  # noqa: E402
 from bands import BANDS, at_most, band_of  # noqa: E402
 from calls import Call  # noqa: E402
-from instructions import ATOMIC, LOAD, STORE, UNKNOWN, all_that_do, kind_of, kinds_of, told  # noqa: E402
+from instructions import (
+    ATOMIC,
+    LOAD,
+    STORE,
+    UNKNOWN,
+    all_that_do,
+    kind_of,
+    kinds_of,
+    told,
+)  # noqa: E402
 from model import View  # noqa: E402
 from naming import Naming  # noqa: E402
 from reports import Misses, Pair, Report, Takings, Word  # noqa: E402
@@ -62,7 +71,9 @@ a:	file format elf64-x86-64
 
 def misses_of(*lines):
     """A count of lines, each by its place, useful and useless misses, and its object."""
-    rows = "".join(LINE.format(at, useful, useless, name, at) for at, useful, useless, name in lines)
+    rows = "".join(
+        LINE.format(at, useful, useless, name, at) for at, useful, useless, name in lines
+    )
     total = f"total cold {2 * len(lines)} useful {sum(it[1] for it in lines)} useless {sum(it[2] for it in lines)}\n"
     return Misses(f"misses 64 0\naccesses 2000\nlines {len(lines)}\n{rows}{total}end\n")
 
@@ -75,7 +86,9 @@ def view_of(*lines, steps=1000, words=("run", "p"), alternating=None):
     made.arrange()
     made.worth = worth.Worth(made, None)
     if alternating:
-        made.worth.known, made.worth.alternating = True, worth.Alternating(alternating[0], misses_of(*alternating[1:]))
+        made.worth.known, made.worth.alternating = True, worth.Alternating(
+            alternating[0], misses_of(*alternating[1:])
+        )
         made.worth.of = made.worth.alternating.useless_of(made.naming)
     return made
 
@@ -83,35 +96,68 @@ def view_of(*lines, steps=1000, words=("run", "p"), alternating=None):
 def vars_of(words):
     """A call without its file."""
     call = Call.__new__(Call)
-    call.how, call.options, call.own, call.marks, call.given, call.spare = words[0], {"type": [], "shape": []}, [], [], [], None
+    call.how, call.options, call.own, call.marks, call.given, call.spare = (
+        words[0],
+        {"type": [], "shape": []},
+        [],
+        [],
+        [],
+        None,
+    )
     call.words, call.subject, call.named, call.program = [*words[1:]], words[1], words[1], None
-    own = {it: getattr(call, it) for it in ("how", "options", "own", "words", "subject", "named", "program", "spare")}
-    return own | {it: getattr(call, it) for it in ("number", "settings_words", "value_of", "words_to_run", "trace", "reads_once")}
+    own = {
+        it: getattr(call, it)
+        for it in ("how", "options", "own", "words", "subject", "named", "program", "spare")
+    }
+    return own | {
+        it: getattr(call, it)
+        for it in ("number", "settings_words", "value_of", "words_to_run", "trace", "reads_once")
+    }
 
 
 class InTime(unittest.TestCase):
     def test_bands(self):
-        self.assertEqual([band_of(it) for it in (0, 0.049, 0.05, 2.99, 3, 7.99, 8, 500)], [0, 0, 1, 1, 2, 2, 3, 3])
+        self.assertEqual(
+            [band_of(it) for it in (0, 0.049, 0.05, 2.99, 3, 7.99, 8, 500)],
+            [0, 0, 1, 1, 2, 2, 3, 3],
+        )
         self.assertEqual(BANDS[0].least, 0)
         self.assertEqual(len({it.told for it in BANDS}), len(BANDS))
 
     def test_bound(self):
         self.assertEqual(at_most(0, 140, 0.4), 0)
         self.assertAlmostEqual(at_most(10, 40, 0.4), 0.5)
-        self.assertEqual([worth.percent(it) for it in (0, 0.001, 0.014, 0.5, 1)], ["0%", "less than 1%", "1%", "50%", "100%"])
+        self.assertEqual(
+            [worth.percent(it) for it in (0, 0.001, 0.014, 0.5, 1)],
+            ["0%", "less than 1%", "1%", "50%", "100%"],
+        )
 
     def test_a_run(self):
-        own = view_of(("1000", 1, 7, "many"), ("1040", 5, 2, "few"), alternating=(4000, ("1000", 1, 100, "many")))
+        own = view_of(
+            ("1000", 1, 7, "many"),
+            ("1040", 5, 2, "few"),
+            alternating=(4000, ("1000", 1, 100, "many")),
+        )
         self.assertEqual((own.worth.rate(9), own.worth.unit()), (9.0, "steps"))
         most = at_most(100 / 4, 140, 0.4)
         how = "by 140 ns for each in turns of one step, 0.4 ns for a step: a bound and no estimate"
         bound = f"at most {100 * most:.0f}% of the time, {how}"
-        self.assertEqual(own.worth.total(), f"9.00 useless misses by 1000 steps: fought over in every turn; {bound}")
+        self.assertEqual(
+            own.worth.total(),
+            f"9.00 useless misses by 1000 steps: fought over in every turn; {bound}",
+        )
         many, few = own.things
-        self.assertTrue(own.worth.told(many).startswith("7.00 useless misses by 1000 steps: padding often pays: measure; at most 90%"))
+        self.assertTrue(
+            own.worth.told(many).startswith(
+                "7.00 useless misses by 1000 steps: padding often pays: measure; at most 90%"
+            )
+        )
         # (what is seen is more than in turns of one step)
         self.assertAlmostEqual(own.worth.at_most(few), at_most(2, 140, 0.4))
-        self.assertIn("; most misses of its worst line are useful, so a pad may cost time", own.worth.told(few))
+        self.assertIn(
+            "; most misses of its worst line are useful, so a pad may cost time",
+            own.worth.told(few),
+        )
         self.assertNotIn("a pad may cost time", own.worth.told(many))
 
     def test_turns_that_the_study_has_not(self):
@@ -120,7 +166,10 @@ class InTime(unittest.TestCase):
             self.assertIsNone(own.worth.band(7), words)
             self.assertEqual(own.worth.total(), "7.00 useless misses by 1000 steps")
         own = view_of(("1000", 1, 7, "many"), words=("replay", "t"))
-        self.assertEqual(own.worth.total(), "7.00 useless misses by 1000 steps: padding often pays: measure, if turns had 100 steps")
+        self.assertEqual(
+            own.worth.total(),
+            "7.00 useless misses by 1000 steps: padding often pays: measure, if turns had 100 steps",
+        )
         own = view_of(("1000", 1, 7, "many"), steps=0, words=("replay", "t"))
         self.assertEqual(own.worth.total(), "3.50 useless misses by 1000 accesses")
         own.misses = None
@@ -132,10 +181,35 @@ class InTime(unittest.TestCase):
 
         self.assertEqual(words_of("p"), ["run", "--set", "quantum=1,seed=0", "p"])
         self.assertEqual(
-            words_of("p", "--set", "harts=4,quantum=9", "--schedule", "f", "--settings", "s", "--trace", "t", "--", "--set", "a"),
-            ["run", "--set", "harts=4,quantum=1,seed=0", "p", "--settings", "s", "--", "--set", "a"],
+            words_of(
+                "p",
+                "--set",
+                "harts=4,quantum=9",
+                "--schedule",
+                "f",
+                "--settings",
+                "s",
+                "--trace",
+                "t",
+                "--",
+                "--set",
+                "a",
+            ),
+            [
+                "run",
+                "--set",
+                "harts=4,quantum=1,seed=0",
+                "p",
+                "--settings",
+                "s",
+                "--",
+                "--set",
+                "a",
+            ],
         )
-        self.assertEqual(words_of("p", "--set=seed=4", "--schedule=f"), ["run", "--set", "quantum=1,seed=0", "p"])
+        self.assertEqual(
+            words_of("p", "--set=seed=4", "--schedule=f"), ["run", "--set", "quantum=1,seed=0", "p"]
+        )
 
     def test_refused(self):
         with tempfile.NamedTemporaryFile("w", suffix=".report") as file:
@@ -159,9 +233,16 @@ class OnTheScreen(unittest.TestCase):
             with open(path, encoding="utf-8") as file:
                 found = json.load(file)
         time, first = found["time"], found["objects"][0]
-        self.assertEqual((time["by"], time["latency"], time["alternating"]["steps"]), ("steps", 70, 6107))
-        self.assertEqual(time["most"], round(at_most(1000 * time["alternating"]["useless"] / 6107, 70, 0.4), 4))
-        self.assertIn(f"time: {time['rate']:.2f} useless misses by 1000 steps: fought over in every turn; at most", joined(text))
+        self.assertEqual(
+            (time["by"], time["latency"], time["alternating"]["steps"]), ("steps", 70, 6107)
+        )
+        self.assertEqual(
+            time["most"], round(at_most(1000 * time["alternating"]["useless"] / 6107, 70, 0.4), 4)
+        )
+        self.assertIn(
+            f"time: {time['rate']:.2f} useless misses by 1000 steps: fought over in every turn; at most",
+            joined(text),
+        )
         self.assertEqual(first["takings"], {"atomic": 0, "load": 0, "store": 61, "unknown": 0})
         self.assertEqual({it["kind"] for it in first["fights"]}, {"store"})
         self.assertIn("takings 61 by stores over stores: the line is hardly read", joined(text))
@@ -179,13 +260,22 @@ class Kinds(unittest.TestCase):
         self.assertNotIn(0x10340, found)
         self.assertNotIn(0x10358, found)
         self.assertEqual([at for at, it in found.items() if it.is_atomic], [0x1034C, 0x10354])
-        self.assertEqual([at for at, it in found.items() if it.reads and not it.is_atomic], [0x10348, 0x10350, 0x10360])
+        self.assertEqual(
+            [at for at, it in found.items() if it.reads and not it.is_atomic],
+            [0x10348, 0x10350, 0x10360],
+        )
         self.assertEqual([at for at, it in found.items() if not it.reads], [0x10344, 0x1035C])
 
     def test_x86(self):
         found = all_that_do(X86, range(0x1129, 0x1170))
-        self.assertEqual([at for at, it in found.items() if it.is_atomic], [0x1129, 0x1144, *range(0x115E, 0x1163)])
-        self.assertEqual([at for at, it in found.items() if it.is_update and not it.is_atomic], [0x112A, 0x1130, 0x1163])
+        self.assertEqual(
+            [at for at, it in found.items() if it.is_atomic],
+            [0x1129, 0x1144, *range(0x115E, 0x1163)],
+        )
+        self.assertEqual(
+            [at for at, it in found.items() if it.is_update and not it.is_atomic],
+            [0x112A, 0x1130, 0x1163],
+        )
         loads = [at for at, it in found.items() if it.reads and not it.is_update]
         self.assertEqual(loads, [0x113C, 0x114A, *range(0x1159, 0x115E)])
         stores = [at for at, it in found.items() if not it.reads]
@@ -195,7 +285,13 @@ class Kinds(unittest.TestCase):
         known = all_that_do(RISCV, range(0x10340, 0x10368, 4))
         store, load, amo = 0x10344, 0x10348, 0x1034C
         for victim, taker, kind in (
-            *((store, store, STORE), (load, store, LOAD), (amo, store, STORE), (store, amo, ATOMIC), (load, amo, ATOMIC)),
+            *(
+                (store, store, STORE),
+                (load, store, LOAD),
+                (amo, store, STORE),
+                (store, amo, ATOMIC),
+                (load, amo, ATOMIC),
+            ),
             *((0, amo, ATOMIC), (0, store, UNKNOWN), (store, 0, UNKNOWN), (0x10350, store, LOAD)),
         ):
             self.assertEqual(kind_of(Pair(victim, taker, 1, 0), known), kind, (victim, taker))
@@ -205,7 +301,9 @@ class Kinds(unittest.TestCase):
         self.assertIn("a store buffer hides most of that", told(own, is_read=False))
         self.assertEqual((told({}), told(kinds_of([Pair(0, 0, 1, 0)], known))), ("", ""))
         # (an instruction that loads and stores waits for the line itself)
-        self.assertEqual(kind_of(Pair(0x1136, 0x1163, 1, 0), all_that_do(X86, range(0x1129, 0x1170))), LOAD)
+        self.assertEqual(
+            kind_of(Pair(0x1136, 0x1163, 1, 0), all_that_do(X86, range(0x1129, 0x1170))), LOAD
+        )
 
     def test_the_order_of_objects(self):
         own = view_of(("1000", 0, 9, "stored"), ("1040", 0, 7, "loaded"), ("1080", 0, 1, "other"))
@@ -213,8 +311,15 @@ class Kinds(unittest.TestCase):
         for it in own.things:
             it.saves = it.useless
         own.is_read = lambda thing: thing.name != "stored"
-        takings = {"stored": [Pair(0x10344, 0x10344, 9, 0)], "loaded": [Pair(0x10348, 0x10344, 9, 0)]}
-        own.explained = {it.worst().base: Takings(it.worst().base, takings[it.name], {}) for it in own.things if it.name in takings}
+        takings = {
+            "stored": [Pair(0x10344, 0x10344, 9, 0)],
+            "loaded": [Pair(0x10348, 0x10344, 9, 0)],
+        }
+        own.explained = {
+            it.worst().base: Takings(it.worst().base, takings[it.name], {})
+            for it in own.things
+            if it.name in takings
+        }
         own.put_dear_first()
         self.assertEqual([it.name for it in own.things], ["loaded", "stored", "other"])
         self.assertTrue(instructions.is_read([Word(0, 2, 10, "1")]))
@@ -222,9 +327,13 @@ class Kinds(unittest.TestCase):
 
     @unittest.skipUnless(shutil.which("llvm-objdump"), "llvm-objdump isn't installed")
     def test_a_guest(self):
-        found = instructions.of_file(built("shards.elf"), built("shards.elf"), range(0x10000, 0x10400, 4))
+        found = instructions.of_file(
+            built("shards.elf"), built("shards.elf"), range(0x10000, 0x10400, 4)
+        )
         self.assertTrue(any(it.is_atomic for it in found.values()))
-        self.assertEqual(instructions.of_file(built("missing.elf"), built("missing.elf"), [0x10000]), {})
+        self.assertEqual(
+            instructions.of_file(built("missing.elf"), built("missing.elf"), [0x10000]), {}
+        )
         words = ["explain", built("shards.elf"), "0x00011000", "64", "0"]
         text = subprocess.run([STAND_IN, *words], capture_output=True, text=True, check=True).stdout
         for row in (it.split() for it in text.splitlines() if it.startswith("site ")):
@@ -232,16 +341,31 @@ class Kinds(unittest.TestCase):
             is_load = does.reads and not does.is_atomic
             self.assertEqual((writes > 0, reads > 0 and writes == 0), (not is_load, is_load))
 
-    @unittest.skipUnless(shutil.which("llvm-objdump") and shutil.which("gcc"), "llvm-objdump or gcc isn't installed")
+    @unittest.skipUnless(
+        shutil.which("llvm-objdump") and shutil.which("gcc"), "llvm-objdump or gcc isn't installed"
+    )
     def test_a_program_of_this_machine(self):
         source = "int a, b; int f(void) { __sync_fetch_and_add(&a, 1); b = 2; return a; } int main(void) { return f(); }"
         with tempfile.TemporaryDirectory() as folder:
             path = os.path.join(folder, "p")
-            subprocess.run(["gcc", "-O1", "-xc", "-", "-o", path], input=source, text=True, check=True)
-            begin = int(subprocess.run(["nm", path], capture_output=True, text=True, check=True).stdout.partition(" T f\n")[0][-16:], 16)
+            subprocess.run(
+                ["gcc", "-O1", "-xc", "-", "-o", path], input=source, text=True, check=True
+            )
+            begin = int(
+                subprocess.run(
+                    ["nm", path], capture_output=True, text=True, check=True
+                ).stdout.partition(" T f\n")[0][-16:],
+                16,
+            )
             found = instructions.of_file(path, path, range(begin, begin + 32))
         if os.uname().machine == "x86_64":
-            self.assertEqual((sum(it.is_atomic for it in found.values()), any(not it.reads for it in found.values())), (1, True))
+            self.assertEqual(
+                (
+                    sum(it.is_atomic for it in found.values()),
+                    any(not it.reads for it in found.values()),
+                ),
+                (1, True),
+            )
 
 
 if __name__ == "__main__":

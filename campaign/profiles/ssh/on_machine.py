@@ -28,7 +28,9 @@ def places():
             if not words:
                 continue
             if len(words) > 2 or not words[-1].isdigit() and len(words) == 2:
-                sys.exit(f"machines:{number}: a line is a machine and how many jobs it takes, as `node1 8`")
+                sys.exit(
+                    f"machines:{number}: a line is a machine and how many jobs it takes, as `node1 8`"
+                )
             found += [(at, words[0]) for at in range(int(words[1]) if len(words) == 2 else 1)]
     return sorted(found)
 
@@ -56,10 +58,14 @@ def main(script):
         if machine is None:
             print(f"no machine could be reached: {', '.join(sorted(left_out))}", file=sys.stderr)
             return 1
-        command = f"cd {shlex.quote(os.getcwd())} && exec bash {shlex.quote(os.path.abspath(script))}"
+        command = (
+            f"cd {shlex.quote(os.getcwd())} && exec bash {shlex.quote(os.path.abspath(script))}"
+        )
         with open(f"places/{machine}-{place}.log", "ab") as log:
             words = [*SSH.split(), *(f"-o{it}" for it in OPTIONS), machine, command]
-            status = subprocess.run(words, stdin=subprocess.DEVNULL, stdout=log, stderr=log).returncode
+            status = subprocess.run(
+                words, stdin=subprocess.DEVNULL, stdout=log, stderr=log
+            ).returncode
         os.close(lock)
         if status != LOST:
             return status

@@ -55,7 +55,10 @@ def holds(what, seen, numbers):
         return any(waits(it, numbers) for it in seen)
     addr, words = numbers
     area = range(addr, addr + 4 * words, 4)
-    read, written = ({it for it, is_write in seen[0] if is_write == kind and it in area} for kind in (False, True))
+    read, written = (
+        {it for it, is_write in seen[0] if is_write == kind and it in area}
+        for kind in (False, True)
+    )
     return read == {*area} and written == {*area[1::2]}
 
 
