@@ -252,18 +252,18 @@ def wrong_references(crates: dict[str, Crate], text: str) -> Iterator[str]:
 # What to replace, by what, and what is then said.
 MISTAKES = [
     (
-        "- law `trace_format::what_is_read_was_spelled`: `no_prefix`",
-        "- law `trace_format::where_the_first_fault_stands`: `no_prefix`",
+        "- law `trace_format::where_the_first_fault_stands`: `stands`, `only`",
+        "- law `trace_format::where_the_first_fault_stands`: `stands`, `no_prefix`",
         "trace_format::where_the_first_fault_stands has no clause no_prefix that it ensures",
     ),
     (
         "- `command_line/specs`: `trace_of`, `trace_read`",
-        "- `command_files/specs`: `trace_of`, `trace_read`",
+        "- `command_files/specs`: `words_in`, `trace_read`",
         "crate command_files has no definition trace_read",
     ),
     (
-        "- `misses/specs`: `misses_of_records`",
-        "- `sightings/specs`: `misses_of_records`",
+        "- `misses/specs`: `missed`, `HasMissed`, `misses_of_records`",
+        "- `sightings/specs`: `HasSeen`, `misses_of_records`",
         "crate sightings has no definition misses_of_records",
     ),
     (
@@ -305,6 +305,11 @@ MISTAKES = [
         "- `predator_cli::predator`: `complete`\n",
         "",
         "the promise names no function",
+    ),
+    (
+        "- `line_tracks::Tracks::mark`, `restore`: `undoes`",
+        "- `line_tracks::Track::mark`, `restore`: `undoes`",
+        "line_tracks::Track::mark is private",
     ),
     (
         "`EndsWith.done`",
