@@ -104,9 +104,13 @@ def words_of_sources():
 
 
 def headings(text):
+    """The names that a link may end with: those of headings, and older ones that a line `<a id="NAME"></a>` keeps."""
     return {
-        re.sub(r"[^\w\- ]", "", it.lower()).replace(" ", "-")
-        for it in re.findall(r"^#+ (.*)$", text, re.MULTILINE)
+        *(
+            re.sub(r"[^\w\- ]", "", it.lower()).replace(" ", "-")
+            for it in re.findall(r"^#+ (.*)$", text, re.MULTILINE)
+        ),
+        *re.findall(r'^<a id="([\w-]+)"></a>$', text, re.MULTILINE),
     }
 
 
