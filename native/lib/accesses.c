@@ -46,8 +46,10 @@ static inline void both(void *addr, unsigned size, Addr caller)
 BOTH(1)
 BOTH(2)
 BOTH(4)
-BOTH(8) BOTH(16) static void range(const volatile void *addr, unsigned long size, int writes,
-                                   Addr caller)
+BOTH(8)
+BOTH(16)
+
+static void range(const volatile void *addr, unsigned long size, int writes, Addr caller)
 {
     ready();
     while (size > 0) {

@@ -152,9 +152,7 @@ static void look_at_holder(int me, Look *last)
                         now.left == last->left
                     ? last->since
                     : now.ran;
-    if (it < 0 && harts[me].state == WANTS)
-        give(me);
-    else if (is_silent(&now, last) && is_taken(it, &now))
+    if ((it < 0 && harts[me].state == WANTS) || (is_silent(&now, last) && is_taken(it, &now)))
         give(me);
     *last = now;
     leave();

@@ -28,8 +28,6 @@ static Bool instruments;              /* code that is translated now notes its a
 static UInt live, started; /* threads, and calls of PREDATOR_START without one of PREDATOR_STOP */
 static Int exit_code = -1;
 static Bool has_preload, had_threads;
-static UChar cpus[128]; /* the processors that the program may use, before it was put on one */
-static Int cpus_size;
 
 /* ---- Instructions, by their numbers from 1 on ---- */
 
@@ -103,14 +101,12 @@ static void translate_with_notes(Bool notes)
     VG_(discard_translations)(4096, ~0UL - 8191, "predator");
 }
 
-static void take_one_processor(void);
-
 /* Whether this is the process that is recorded, from now on. */
 static Bool is_taken(void)
 {
     if (!child_takes())
         return False;
-    take_one_processor();
+    processor_take();
     return True;
 }
 
@@ -428,60 +424,10 @@ static void on_map(Addr addr, SizeT size, Bool reads, Bool writes, Bool runs, UL
     }
 }
 
-static Int pinned_to = -1, first_policy;
-
-static void set_policy(Int policy)
-{
-    Int priority = 0;
-    CALL(__NR_sched_setscheduler, 0, policy, &priority, 0);
-}
-
-static void pin(void)
-{
-    UChar one[sizeof cpus] = {0};
-    one[pinned_to / 8] = 1 << pinned_to % 8;
-    CALL(__NR_sched_setaffinity, 0, sizeof one, one, 0);
-    set_policy(SCHED_BATCH);
-}
-
-static UInt first_cpu(void)
-{
-    UInt it = 0;
-    while (it + 1 < 8 * sizeof cpus && !(cpus[it / 8] >> it % 8 & 1))
-        it++;
-    return it;
-}
-
-/* As it was before the tool. */
-static void unpin(void)
-{
-    CALL(__NR_sched_setaffinity, 0, cpus_size, cpus, 0);
-    set_policy(first_policy);
-}
-
-/* One processor for all threads: two never run at a time, and what a thread wakes waits until that
- * thread has done what it does. */
-static void take_one_processor(void)
-{
-    UInt cpu = 0;
-    SysRes got = CALL(__NR_sched_getaffinity, 0, sizeof cpus, cpus, 0);
-    if (sr_isError(got))
-        return;
-    cpus_size = sr_Res(got);
-    if (sr_isError(CALL(__NR_getcpu, &cpu, 0, 0, 0)) || cpu >= 8 * sizeof cpus)
-        return;
-    pinned_to = cpu;
-    got = CALL(__NR_sched_getscheduler, 0, 0, 0, 0);
-    first_policy = sr_isError(got) ? 0 : sr_Res(got);
-    pin();
-}
-
 static void on_fork_child(ThreadId tid)
 {
     noted = buffer;
-    if (pinned_to >= 0)
-        unpin();
-    pinned_to = -1;
+    processor_give_back();
     if (!child_follows()) {
         trace_leave();
         return;
@@ -504,8 +450,7 @@ static void before_call(ThreadId tid, UInt call, UWord *words, UInt count)
         child_becomes(True);
         if (!child_waits())
             trace_flush();
-        if (pinned_to >= 0)
-            unpin();
+        processor_leave();
     }
 }
 
@@ -515,19 +460,7 @@ static void after_call(ThreadId tid, UInt call, UWord *words, UInt count, SysRes
     ticks_pass(call);
     if (call == __NR_execve || call == __NR_execveat)
         child_becomes(False); /* it failed */
-    if (pinned_to < 0)
-        return;
-    if (call == __NR_execve || call == __NR_execveat)
-        pin(); /* it failed */
-    if (sr_isError(result))
-        return;
-    if (call == __NR_sched_getaffinity) /* as if it weren't on one processor */
-        VG_(memcpy)
-    ((void *)words[2], cpus, sr_Res(result) < cpus_size ? sr_Res(result) : cpus_size);
-    if (call == __NR_getcpu && words[0]) /* which one it is differs from run to run */
-        *(UInt *)words[0] = first_cpu();
-    if (call == __NR_sched_setaffinity)
-        pin();
+    processor_after_call(call, words, result);
 }
 
 static Bool on_option(const HChar *word)
@@ -541,17 +474,25 @@ static Bool on_option(const HChar *word)
         child_token = number;
     else if (VG_BINT_CLO(word, "--root", number, 1, 1L << 30))
         child_root = number;
-    else if (VG_STR_CLO(word, "--trace", trace_path)) {
-    } else if (VG_STR_CLO(word, "--table", table_path)) {
-    } else if (VG_BOOL_CLO(word, "--all", records_all)) {
-    } else if (VG_BOOL_CLO(word, "--marked", marked_only)) {
-    } else if (VG_BOOL_CLO(word, "--pcs", trace_pcs)) {
-    } else
-        return False;
+    else
+        return VG_STR_CLO(word, "--trace", trace_path) || VG_STR_CLO(word, "--table", table_path) ||
+               VG_BOOL_CLO(word, "--all", records_all) ||
+               VG_BOOL_CLO(word, "--marked", marked_only) || VG_BOOL_CLO(word, "--pcs", trace_pcs);
     return True;
 }
 
-static void print_usage(void) { VG_(printf)("    see docs/NATIVE.md of predator\n"); }
+static void print_usage(void)
+{
+    VG_(printf)
+    ("    --trace=FILE        the trace is written there\n"
+     "    --table=FILE        its address map is written there [FILE.table]\n"
+     "    --quantum=N         a thread's turn is N accesses, from 1 to 100000 [100]\n"
+     "    --most=N            the trace ends after N accesses\n"
+     "    --all=yes|no        accesses are recorded while one thread lives, too [no]\n"
+     "    --marked=yes|no     only between PREDATOR_START and PREDATOR_STOP [no]\n"
+     "    --pcs=yes|no        each access has its instruction [no]\n"
+     "    --child=FD --root=PID   a descendant is recorded (set by predator native)\n");
+}
 
 static void after_options(void)
 {
@@ -576,8 +517,8 @@ static void after_options(void)
         VG_(exit)(125);
     instruments = records_all && !child_waits();
     judge_recording();
-    if (!child_waits() && pinned_to < 0)
-        take_one_processor();
+    if (!child_waits())
+        processor_take();
 }
 
 static void at_end(Int code)

@@ -97,6 +97,12 @@ void calls_forked(ThreadId tid); /* no other thread is there any more */
 void calls_before(ThreadId tid, UInt call, const UWord *words);
 void calls_after(ThreadId tid, UInt call, const UWord *words, SysRes result);
 
+/* processor.c: the one processor that all threads share. */
+void processor_take(void);      /* from now on, if not already */
+void processor_leave(void);     /* the program may use all it had, until a call fails */
+void processor_give_back(void); /* the same for good, in a child that was forked */
+void processor_after_call(UInt call, const UWord *words, SysRes result);
+
 /* ticks.c: the processor's counter of time. */
 IRStmt *ticks_instead(
     IRStmt *it); /* a statement that reads the counter reads one of ours; any other stays */
