@@ -41,7 +41,7 @@ declare_parts() {
     part program daily 1 1 12 "program python3" guest/try.sh program
     part install daily 1 1 2 program guest/try.sh install
     part cases quick 1 1 6 "program python3" guest/cases/on_disk.py
-    part examples quick 1 2 20 "program python3" tools/examples.sh
+    part examples quick 2 2 20 program tools/examples.sh
     part documents daily 1 2 18 "program python3" guest/check_docs.py
     part meter daily all 2 14 "program python3" python3 tools/meter.py "$program"
     part memory daily 1 1 20 "program python3 cc" guest/refuse_memory.py

@@ -5,8 +5,9 @@
 # shellcheck disable=SC2154 # (parts.bash and who reads this in set the others)
 
 passed=0 failed=0 skipped=0
-# What is told at the end: why parts were skipped, as lines.
-skip_lines=()
+# Why parts were skipped, in the order in which that was found, and which parts for each reason. bin/test tells it at the end, and bin/try at once.
+skip_reasons=()
+declare -A skipped_for=()
 # The part of each process that is waited for, when it began, and which try it is.
 declare -A running=() began=() try_numbers=()
 # Parts that failed at first, to be tried once more.
@@ -103,7 +104,7 @@ start_part() {
     shift 2
     mkdir -p "$work/$name"
     # (bash has a job in the background ignore Ctrl-C, and parts try what a program does then)
-    PREDATOR_PART=$work/$name TMPDIR=$work/$name env --default-signal=INT,QUIT timeout -k 10 "$seconds" "$@" \
+    PREDATOR_PART=$work/$name TMPDIR=$work/$name XDG_CACHE_HOME=$work/$name/cache env --default-signal=INT,QUIT timeout -k 10 "$seconds" "$@" \
         >"$work/$name.log" 2>&1 </dev/null 9<&- &
     running[$!]=$name began[$name]=$SECONDS
 }
@@ -122,8 +123,19 @@ lack() {
 
 skip_part() { # NAME WHY
     skipped=$((skipped + 1))
-    echo "skipped: $1: $2"
-    skip_lines+=("$1: $2")
+    note_skip "$@"
+    [ -n "${tells_skips:-}" ] || echo "skipped: $1: $2"
+}
+
+note_skip() { # NAME WHY
+    if [ -z "${skipped_for[$2]:-}" ]; then skip_reasons+=("$2"); fi
+    skipped_for[$2]+=${skipped_for[$2]:+, }$1
+}
+
+tell_skips() {
+    local it
+    ((${#skip_reasons[@]} == 0)) || echo "Skipped:"
+    for it in ${skip_reasons[@]+"${skip_reasons[@]}"}; do echo "    ${skipped_for[$it]}: $it"; done
 }
 
 # finish_part NAME STATUS: counts a part that has ended, and tells of it.
@@ -135,7 +147,7 @@ finish_part() {
             passed=$((passed + 1))
             echo "passed: $name ($took s$([ "$number" = 1 ] || echo ", at the second try"))"
             # (of what a part skipped by itself)
-            while IFS= read -r it; do skip_lines+=("$name, in part: $it"); done < <(sed -n -E 's/^skipped[,:]? *//p' "$log" | grep -v '^$' | sort -u)
+            while IFS= read -r it; do note_skip "$name (in part)" "$it"; done < <(sed -n -E 's/^skipped[,:]? *//p' "$log" | grep -v '^$' | sort -u)
             ;;
         77) skip_part "$name" "$(tail -n 1 "$log")" ;;
         *)
