@@ -24,11 +24,11 @@ part() {
     part_commands[$name]=$(printf '%q ' "$@")
 }
 
-# either SHORT LONG: the words of a form.
-either() { if [ -n "${is_long:-}" ]; then echo "$2"; else echo "$1"; fi; }
-
 declare_parts() {
     local kit="program clang ld.lld llvm-readelf llvm-objcopy" picolibc=/usr/lib/picolibc/riscv64-unknown-elf
+    # The forms of some parts: the everyday ones, and those of the long run.
+    local long=() all=() reports=300 judges=200 seeds=3 studies=(histogram bounded_queue)
+    if [ -n "${is_long:-}" ]; then long=(--long) all=(--all) reports=2000 judges=1000 seeds=20 studies=(); fi
     part shell daily 1 1 9 shellcheck tools/lint.sh shell
     part python daily 1 1 5 python3 tools/lint.sh python
     part types daily 1 1 14 "python3 mypy" tools/lint.sh types
@@ -45,18 +45,18 @@ declare_parts() {
     part documents daily 1 2 18 "program python3" guest/check_docs.py
     part meter daily all 2 14 "program python3" python3 tools/meter.py "$program"
     part memory daily 1 1 20 "program python3 cc" guest/refuse_memory.py
-    part sizes daily 4 1 20 "program python3" tools/sizes.py "$program"
-    part edges daily 4 2 60 "program python3 cc" python3 tools/edges/main.py "$program" --planted
+    part sizes daily 4 1 20 "program python3" tools/sizes.py "$program" "${long[@]}"
+    part edges daily 4 2 60 "program python3 cc" python3 tools/edges/main.py "$program" --planted "${long[@]}"
     part messages quick 4 1 30 "program python3" tools/messages.py "$program" --planted
     part costs daily 4 1 30 "program python3 valgrind" tools/costs.py "$program"
-    part reports daily 1 1 20 "program python3" tools/judge_report.py "$program" 300
-    part judges daily 1 1 60 "program python3" tools/judge_traces.py "$program" 200
-    part growth daily 4 1 60 "program python3" python3 tools/growth.py "$program"
+    part reports daily 1 1 20 "program python3" tools/judge_report.py "$program" "$reports"
+    part judges daily 1 1 60 "program python3" tools/judge_traces.py "$program" "$judges"
+    part growth daily 4 1 60 "program python3" python3 tools/growth.py "$program" "${all[@]}"
     part kit daily 1 1 30 "$kit" guest/try.sh kit
     part builds daily 1 1 60 "python3 clang ld.lld llvm-readelf llvm-objcopy $picolibc" env PREDATOR="$program" guest/kit.sh
     part c_library daily 1 1 30 "$kit cc $picolibc" guest/try.sh c_library
-    part threads daily 1 1 60 "$kit $picolibc" guest/threads.sh --seeds 3
-    part studies daily 1 1 30 "program python3 guest/built/studies" guest/studies/run.py histogram bounded_queue
+    part threads daily 1 1 60 "$kit $picolibc" guest/threads.sh --seeds "$seeds"
+    part studies daily 1 1 30 "program python3 guest/built/studies" guest/studies/run.py "${studies[@]}"
     part clock daily 1 1 30 "python3 gcc" bench/clock/run.py --check
     part campaign daily all 2 60 "" campaign/try.sh
     part dist daily 1 2 20 "" dist/try.sh

@@ -104,7 +104,8 @@ start_part() {
     shift 2
     mkdir -p "$work/$name"
     # (bash has a job in the background ignore Ctrl-C, and parts try what a program does then)
-    PREDATOR_PART=$work/$name TMPDIR=$work/$name XDG_CACHE_HOME=$work/$name/cache env --default-signal=INT,QUIT timeout -k 10 "$seconds" "$@" \
+    PREDATOR_PART=$work/$name TMPDIR=$work/$name XDG_CACHE_HOME=$work/$name/cache PYTHONDONTWRITEBYTECODE=1 \
+        env --default-signal=INT,QUIT timeout -k 10 "$seconds" "$@" \
         >"$work/$name.log" 2>&1 </dev/null 9<&- &
     running[$!]=$name began[$name]=$SECONDS
 }
