@@ -75,7 +75,7 @@ try_view() {
 }
 
 try_native() {
-    command -v gcc >/dev/null && [ -x "$top/native/out/predator-amd64-linux" ] || {
+    command -v gcc >/dev/null && [ -x /usr/bin/valgrind.bin ] && [ -x "$top/native/out/predator-amd64-linux" ] || {
         echo "skipped: native: it wants gcc and valgrind, and native/build to have been run"
         return
     }
