@@ -147,7 +147,7 @@ def renew_page(campaign: Record, part: Part) -> None:
         "Usual",
         "in every seed",
         "in fewer than half",
-        "Others",
+        "Seeds alone",
         "in half or more",
         "in a tenth or fewer",
     ]
@@ -156,15 +156,14 @@ def renew_page(campaign: Record, part: Part) -> None:
         "Program",
         "`quantum`",
         "Object",
-        "Usual count",
+        "Usual",
         "Seeds",
         "least",
-        "middle",
+        "median",
         "greatest",
-        "Seed of the greatest",
     ]
     for name, found in (("worst", first), ("apart", rows)):
-        named = [(*it[:2], f"`{it[2]}`", *it[3:]) for it in map(of_quantum, found)]
+        named = [(*it[:2], f"`{it[2]}`", *it[3:-1]) for it in map(of_quantum, found)]
         parts[name] = report.table(heads, named)
     report.renew(parts)
 

@@ -17,7 +17,7 @@ from report import BUILT, PROGRAM, TOP, Run, block, renew, table, with_objects  
 SETTINGS = "memory = 67108864\n"
 KIT = "the kit's `malloc`"
 # How many lines of a report are shown, and how many objects of each.
-MOST, MOST_OF_ONE = 4, 2
+MOST, MOST_OF_ONE = 2, 2
 SHIM = [os.path.join(HERE, "shim", "shim.c")]
 FETCHED = os.path.join(HERE, "fetched")
 # Each allocator's sources, and the flags that its own documents name for a release with locks.
@@ -112,17 +112,17 @@ def main(words):
                 wrong += len(run.wrong)
                 rows.append(row(name, workload, run, heap_of(path)))
                 if not more:
-                    shown.append(f"{name}:\n\n" + block(first_lines(run.report) or ["lines 0"]))
+                    shown.append(f"{name}:\n\n" + block(first_lines(run.report) or ["0 lines listed"]))
     heads = [
         "Allocator",
         "First blocks",
         "Lines with blocks",
         "of two threads",
         "Observed on the heap",
-        "Counts",
+        "Invalidations",
     ]
     parts = {
-        "allocators": table([*heads, "Observed elsewhere", "Counts", "Recount"], rows),
+        "allocators": table([*heads, "Observed elsewhere", "Invalidations", "Recount"], rows),
         "allocators' lines": "\n\n".join(shown),
     }
     for name, text in parts.items():

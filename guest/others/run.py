@@ -36,7 +36,7 @@ LARGE = {"zstd": SETTINGS + "memory = 67108864\n", "xz": SETTINGS + "memory = 67
 PREDICTED = ["rte_ring", "rte_ring-together", "kt_for-apart"]
 MOVED = {"rte_ring-together": ("rte_ring-together-at-24", 24)}
 # How many lines of a report, and how many of the misses, are shown, and how many objects of each.
-MOST, MOST_OF_ONE = 2, 2
+MOST, MOST_OF_ONE = 1, 2
 
 
 def first(lines):
@@ -50,11 +50,11 @@ def excerpt(name, run, build):
     missed = [it for it in build.missed if it.useless > 0]
     return block(
         [
-            f"{name}: lines {len(run.report.lines)}, {len(observed)} of them observed",
+            f"{name}: {len(run.report.lines)} lines listed, {len(observed)} of them observed",
             *first([(it.text, it.objects) for it in observed]),
         ]
         + [
-            f"{name}: lines with useless misses {len(missed)}",
+            f"{name}: {len(missed)} lines with false-sharing misses",
             *first([(it.texts[0], it.texts[1:]) for it in missed]),
         ]
     )
@@ -128,30 +128,36 @@ def main(words):
         "Build",
         "Steps",
         "Observed lines",
-        "Counts",
+        "Invalidations",
         "By word",
         "Cold",
-        "Useful",
-        "Useless",
+        "True",
+        "False",
         "Recount",
     ]
     parts["others"] = table(heads, costs)
-    parts["others' fights"] = table(
-        ["Build", "Line", "Count", "Who takes it most", "From whom", "Taken", "For the same word"],
-        fights,
-    )
+    heads = [
+        "Build",
+        "Line",
+        "Invalidations",
+        "Most frequent invalidator",
+        "Invalidated",
+        "Times",
+        "Same word",
+    ]
+    parts["others' conflicts"] = table(heads, fights)
     heads = [
         "Build",
         "Kind",
         "Predicted line",
         "Size",
-        "Count",
-        "Useless there",
-        "Useless in its lines of 64",
+        "Invalidations",
+        "False there",
+        "False in its lines of 64",
         "Observed",
-        "Count",
+        "Invalidations",
     ]
-    parts["others foretold"] = table(heads, [foretold(it, runs) for it in PREDICTED if it in runs])
+    parts["others predicted"] = table(heads, [foretold(it, runs) for it in PREDICTED if it in runs])
     for name, told in parts.items():
         print(f"\n== {name}\n\n{told}")
     for it in wrong:

@@ -117,15 +117,15 @@ def main(words):
     heads = [
         "Build",
         "Line",
-        "Count",
-        "Who takes it most",
-        "From whom",
-        "Taken",
-        "For the same word",
+        "Invalidations",
+        "Most frequent invalidator",
+        "Invalidated",
+        "Times",
+        "Same word",
     ]
     parts = {
-        "costs": table(["Build", "Cold", "Useful", "Useless"], costs),
-        "fights": table(heads, fights),
+        "costs": table(["Build", "Cold", "True sharing", "False sharing"], costs),
+        "conflicts": table(heads, fights),
     }
     for name, told in parts.items():
         print(f"\n== {name}\n\n{told}")
