@@ -35,7 +35,7 @@ LARGE = {"zstd": SETTINGS + "memory = 67108864\n", "xz": SETTINGS + "memory = 67
 # moved.
 PREDICTED = ["rte_ring", "rte_ring-together", "kt_for-apart"]
 MOVED = {"rte_ring-together": ("rte_ring-together-at-24", 24)}
-# How many lines of a report, and how many of the misses, are shown, and how many objects of each.
+# How many lines of the misses are shown, and how many objects of each.
 MOST, MOST_OF_ONE = 1, 2
 
 
@@ -45,16 +45,11 @@ def first(lines):
 
 
 def excerpt(name, run, build):
-    """The first observed lines of a report, and the lines of its misses that are the most useless."""
-    observed = run.report.of_kind("observed")
+    """How many lines a report lists, and the lines with the most false-sharing misses."""
     missed = [it for it in build.missed if it.useless > 0]
     return block(
         [
-            f"{name}: {len(run.report.lines)} lines listed, {len(observed)} of them observed",
-            *first([(it.text, it.objects) for it in observed]),
-        ]
-        + [
-            f"{name}: {len(missed)} lines with false-sharing misses",
+            f"{name}: {len(run.report.lines)} lines listed, {len(missed)} with false-sharing misses",
             *first([(it.texts[0], it.texts[1:]) for it in missed]),
         ]
     )

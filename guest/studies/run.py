@@ -10,7 +10,7 @@ import sys
 from report import BUILT, SETTINGS, Run, block, builds, commit, renew, shown, table, with_objects
 
 # How many lines of a report a study shows.
-MOST = 2
+MOST = 1
 # The studies that show predictions, and the offset of their build where nothing is observed; and how many predictions each shows.
 PREDICTED = {"linear_regression": 0, "word_count": 0, "string_match": 0}
 MOST_PREDICTED = 2
@@ -51,7 +51,8 @@ def excerpt(name, run):
     lines, observed = run.report.lines, run.report.of_kind("observed")
     first = (observed or lines)[:MOST]
     made = [
-        f"{name}: {len(lines)} lines listed" + (f", {len(observed)} of them observed" if lines else "")
+        f"{name}: {len(lines)} lines listed"
+        + (f", {len(observed)} of them observed" if lines else "")
     ]
     for rows in with_objects([(it.text, it.objects) for it in first]):
         made += rows
