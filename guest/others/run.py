@@ -14,7 +14,7 @@ import tempfile
 HERE = os.path.dirname(os.path.abspath(__file__))
 sys.path.insert(0, os.path.join(HERE, "..", "studies"))
 from costs import Build, text  # noqa: E402
-from report import Run, block, renew, shown, table, with_objects  # noqa: E402
+from report import Run, renew, shown, table  # noqa: E402
 
 OUT = os.path.join(HERE, "out")
 # Of each study its builds: as it is, and after each repair.
@@ -35,24 +35,6 @@ LARGE = {"zstd": SETTINGS + "memory = 67108864\n", "xz": SETTINGS + "memory = 67
 # moved.
 PREDICTED = ["rte_ring", "rte_ring-together", "kt_for-apart"]
 MOVED = {"rte_ring-together": ("rte_ring-together-at-24", 24)}
-# How many lines of the misses are shown, and how many objects of each.
-MOST, MOST_OF_ONE = 1, 2
-
-
-def first(lines):
-    """The rows of the first lines of a list, each with the first objects on it."""
-    return [text for rows in with_objects(lines[:MOST], MOST_OF_ONE) for text in rows]
-
-
-def excerpt(name, run, build):
-    """How many lines a report lists, and the lines with the most false-sharing misses."""
-    missed = [it for it in build.missed if it.useless > 0]
-    return block(
-        [
-            f"{name}: {len(run.report.lines)} lines listed, {len(missed)} with false-sharing misses",
-            *first([(it.texts[0], it.texts[1:]) for it in missed]),
-        ]
-    )
 
 
 def useless(told, base, size):
@@ -102,7 +84,6 @@ def main(words):
     subprocess.run([os.path.join(HERE, "build.sh"), *names], check=True)
     runs, costs, fights, parts, wrong = {}, [], [], {}, []
     for study in names:
-        shown_here = []
         for name in STUDIES[study]:
             path = os.path.join(OUT, f"{name}.elf")
             settings = LARGE.get(study, SETTINGS)
@@ -113,12 +94,11 @@ def main(words):
                 run.report.sum("observed"),
                 run.by_word.sum("observed"),
             ]
-            costs.append([name, run.report.steps, *counts, *build.total, run.told()])
+            lines = sum(it.useless > 0 for it in build.missed)
+            costs.append([name, run.report.steps, *counts, *build.total, lines, run.told()])
             if build.pair and name == STUDIES[study][0]:
                 fights.append([name, f"`{shown(build.base)}`", build.count, *build.pair])
-            shown_here.append(excerpt(name, run, build))
             wrong += [f"{name}: {it}" for it in run.wrong + build.wrong]
-        parts[study] = "\n\n".join(shown_here)
     heads = [
         "Build",
         "Steps",
@@ -128,6 +108,7 @@ def main(words):
         "Cold",
         "True",
         "False",
+        "Lines with false",
         "Recount",
     ]
     parts["others"] = table(heads, costs)

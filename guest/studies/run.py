@@ -7,10 +7,8 @@ where a program doesn't end with exit 0, or a recount says otherwise than a repo
 import os
 import sys
 
-from report import BUILT, SETTINGS, Run, block, builds, commit, renew, shown, table, with_objects
+from report import BUILT, SETTINGS, Run, builds, commit, renew, shown, table
 
-# How many lines of a report a study shows.
-MOST = 1
 # The studies that show predictions, and the offset of their build where nothing is observed; and how many predictions each shows.
 PREDICTED = {"linear_regression": 0, "word_count": 0, "string_match": 0}
 MOST_PREDICTED = 2
@@ -44,19 +42,6 @@ def summary(runs):
         ],
         rows,
     )
-
-
-def excerpt(name, run):
-    """The first observed lines of a report with what stands on them, or else the first predicted ones, as the program printed them."""
-    lines, observed = run.report.lines, run.report.of_kind("observed")
-    first = (observed or lines)[:MOST]
-    made = [
-        f"{name}: {len(lines)} lines listed"
-        + (f", {len(observed)} of them observed" if lines else "")
-    ]
-    for rows in with_objects([(it.text, it.objects) for it in first]):
-        made += rows
-    return block(made + [".."] * (len(observed or lines) > MOST))
 
 
 def placements(runs):
@@ -113,9 +98,6 @@ def main(words):
             print(f"{name}: {it}")
     parts = {"suite": summary(runs)}
     for study in names:
-        parts[study] = "\n\n".join(
-            excerpt(it, runs[it]) for it in studies[study] if "-at-" not in it
-        )
         if any("-at-" in it for it in studies[study]):
             parts[f"{study} by offset"] = placements({it: runs[it] for it in studies[study]})
     heads = [
