@@ -67,8 +67,8 @@ def program_of(call: Call) -> "tuple[Program | NativeProgram | None, Sources | N
         return None, None
     if program.dwarf is None:
         say(f"{program.path} has {lacking(native if table else None)}")
-    for it in call.options["type"]:
-        program.type_named(it.partition("=")[2])
+    for assignment in call.options["type"]:
+        program.type_named(assignment.partition("=")[2])
     return program, sources
 
 
@@ -112,9 +112,9 @@ def stranger(program: "Program | NativeProgram", report: Report) -> str | None:
         return program.stranger(report)
     known = program.symbols()
     for line in report.lines[:1000]:
-        for it in line.objects():
-            if isinstance(it, Symbol) and (it.addr, it.size) not in known:
-                return f"no symbol {it.name} of {it.size:,} bytes at {it.addr:#010x}"
+        for obj in line.objects():
+            if isinstance(obj, Symbol) and (obj.addr, obj.size) not in known:
+                return f"no symbol {obj.name} of {obj.size:,} bytes at {obj.addr:#010x}"
     return None
 
 
@@ -216,12 +216,14 @@ def is_above(view: View) -> bool:
             "false-sharing misses are unknown here: use '--fail-above' with '--by invalidations'"
         )
     found = False
-    for it in view.chosen():
+    for obj in view.chosen():
         # (`count` is the former name, of what the report lists)
-        much = it.useless if by in MISSES else it.count if by == "count" else view.invalidations(it)
+        much = (
+            obj.useless if by in MISSES else obj.count if by == "count" else view.invalidations(obj)
+        )
         if much > most:
             what = counted(much, "false-sharing miss" if by in MISSES else "invalidation")
-            say(f"{view.label(it)} has {what}, more than {most:,}")
+            say(f"{view.label(obj)} has {what}, more than {most:,}")
             found = True
     return found
 
@@ -258,27 +260,29 @@ def is_same(one: str, other: str) -> bool:
 def keep_inputs(call: Call) -> None:
     """Refuses an output that is an input, an output of the program or another output, and one without a folder."""
     taken = [
-        it
-        for it in (
+        path
+        for path in (
             call.subject,
             call.program,
             table_of(call),
             *call.words,
             *(word.partition("=")[2] for word in call.words),
         )
-        if it and it != "-"
+        if path and path != "-"
     ]
     if [call.options.get(name) for name in OUTPUTS].count("-") > 1:
         raise Fault("only one output can be `-`, standard output")
     for name in OUTPUTS:
-        it, old = call.options.get(name), call.options.get("against") if name != "json" else None
-        if it is None or it == "-":
+        path, old = call.options.get(name), call.options.get("against") if name != "json" else None
+        if path is None or path == "-":
             continue
-        if any(is_same(it, other) for other in (*taken, *([old] if old else []))):
-            raise Fault(f"{it} is used twice: outputs must differ from each other and from inputs")
-        if not os.path.isdir(os.path.dirname(it) or "."):
-            raise Fault(f"{it}: No such file or directory")
-        taken.append(it)
+        if any(is_same(path, other) for other in (*taken, *([old] if old else []))):
+            raise Fault(
+                f"{path} is used twice: outputs must differ from each other and from inputs"
+            )
+        if not os.path.isdir(os.path.dirname(path) or "."):
+            raise Fault(f"{path}: No such file or directory")
+        taken.append(path)
 
 
 def outputs(view: View) -> None:
@@ -333,19 +337,19 @@ def show_alone(call: Call) -> int:
 
 def tell(view: View, old: comparison.Before | None) -> None:
     """Prints the screen, and the comparison."""
-    for it in screen(view, Paint(), width_of_screen()):
-        print(it)
+    for row in screen(view, Paint(), width_of_screen()):
+        print(row)
     if old is not None:
-        for it in comparison.compared(view, old, view.call.options["against"]):
-            print(it)
+        for row in comparison.compared(view, old, view.call.options["against"]):
+            print(row)
 
 
 def main(words: list[str]) -> int:
     # (millions of lines live as long as the call, and none goes round in a ring)
     gc.disable()
-    for it in (sys.stdout, sys.stderr):
-        if isinstance(it, io.TextIOWrapper):
-            it.reconfigure(errors="backslashreplace")
+    for stream in (sys.stdout, sys.stderr):
+        if isinstance(stream, io.TextIOWrapper):
+            stream.reconfigure(errors="backslashreplace")
     try:
         call = Call(words)
         if "help" in call.options:

@@ -62,31 +62,31 @@ def loaded(path: str, call: Call) -> Before:
         raise Fault(f"{path} wasn't written by `predator view --json`") from error
 
 
-def is_number(it: object) -> bool:
-    return type(it) is int and it >= 0
+def is_number(value: object) -> bool:
+    return type(value) is int and value >= 0
 
 
-def is_thing(it: Any) -> bool:
+def is_thing(record: Any) -> bool:
     """Whether something has what is compared of an object."""
-    places = [*it["sites"], *([] if it["declared"] is None else [it["declared"]])]
+    places = [*record["sites"], *([] if record["declared"] is None else [record["declared"]])]
     texts = [
-        it["key"],
-        it["name"],
-        *it["neighbours"],
-        *(word["field"] for word in it["words"]),
+        record["key"],
+        record["name"],
+        *record["neighbours"],
+        *(word["field"] for word in record["words"]),
         *(one["file"] for one in places),
     ]
-    texts += [one["function"] for one in it["sites"]]
+    texts += [one["function"] for one in record["sites"]]
     numbers = [
-        it[COUNT],
-        *(word["writes"] for word in it["words"]),
+        record[COUNT],
+        *(word["writes"] for word in record["words"]),
         *(one["line"] for one in places),
     ]
-    numbers += [it[name] for name in MISSES if it[name] is not None]
+    numbers += [record[name] for name in MISSES if record[name] is not None]
     return (
         all(isinstance(one, str) for one in texts)
         and all(map(is_number, numbers))
-        and all(type(word["own"]) is bool for word in it["words"])
+        and all(type(word["own"]) is bool for word in record["words"])
     )
 
 
@@ -100,9 +100,9 @@ def of_report(text: str, path: str, call: Call) -> Before:
 def fields(thing: Record) -> dict[str, int]:
     """Of each field how often it was written, over all its words."""
     found: dict[str, int] = {}
-    for it in thing["words"]:
-        if it["own"]:
-            found[it["field"]] = found.get(it["field"], 0) + it["writes"]
+    for word in thing["words"]:
+        if word["own"]:
+            found[word["field"]] = found.get(word["field"], 0) + word["writes"]
     return found
 
 
@@ -118,13 +118,15 @@ def shift(old: Sequence[Places], new: Sequence[Places]) -> int:
     """By how many lines most places have moved; of several numbers the least."""
     moves = [b[0][1] - a[0][1] for a in old for b in new if a and b and a[0][0] == b[0][0]]
     much = Counter(moves)
-    return min(much, key=lambda it: (-much[it], abs(it), it), default=0)
+    return min(much, key=lambda offset: (-much[offset], abs(offset), offset), default=0)
 
 
 def matched(old: Sequence[Record], new: Sequence[Record]) -> Iterator[Pair]:
     """Objects of one name or of the same functions, each with at most one: first those whose lines have moved alike, and then, if as many
     are left of both, in the order of their lines."""
-    olds, news = (sorted(own, key=lambda it: (places(it), it["key"])) for own in (old, new))
+    olds, news = (
+        sorted(own, key=lambda record: (places(record), record["key"])) for own in (old, new)
+    )
     by = shift([places(it) for it in olds], [places(it) for it in news])
     # (all callers alike, and then the line alone)
     for most in (None, 1):
@@ -146,8 +148,8 @@ def pairs(old: Sequence[Record], new: Sequence[Record]) -> Iterator[Pair]:
     """Each object of two records, with what it is in the other one."""
     groups: dict[str, tuple[list[Record], list[Record]]] = {}
     for at, own in enumerate((old, new)):
-        for it in own:
-            groups.setdefault(re.sub(r" #\d+$", "", it["key"]), ([], []))[at].append(it)
+        for obj in own:
+            groups.setdefault(re.sub(r" #\d+$", "", obj["key"]), ([], []))[at].append(obj)
     for before, after in groups.values():
         yield from matched(before, after)
 
@@ -185,7 +187,8 @@ def sums(view: View, old: Before, new: Record, names: Sequence[str]) -> Row:
     if names == (COUNT,) or name is not None or old.total is None:
         own = [it for it in old.objects if is_named(it, name)]
         numbers = [
-            (sum(one[it] for one in own), sum(one[it] for one in new["objects"])) for it in names
+            (sum(one[name] for one in own), sum(one[name] for one in new["objects"]))
+            for name in names
         ]
     else:
         numbers = [(old.total[it], new["total"][it]) for it in names]
@@ -204,8 +207,8 @@ def table(names: Sequence[str], rows: Sequence[Row]) -> Iterator[str]:
     heads = [one for it in names for one in (f"{HEADS[it]} before", "now")]
     wide = [max(map(len, own)) + 2 for own in zip(heads, *cells)]
     yield "".join(f"{it:>{width}}" for it, width in zip(heads, wide)) + "  object"
-    for own, it in zip(cells, rows):
-        yield "".join(f"{one:>{width}}" for one, width in zip(own, wide)) + "  " + plain(it.text)
+    for own, row in zip(cells, rows):
+        yield "".join(f"{one:>{width}}" for one, width in zip(own, wide)) + "  " + plain(row.text)
 
 
 def compared(view: View, old: Before, path: str) -> Iterator[str]:
@@ -221,7 +224,9 @@ def compared(view: View, old: Before, path: str) -> Iterator[str]:
     if old.outcome != view.report.outcome:
         yield plain(f"the outcome was {old.outcome} and is {view.report.outcome}")
     rows = [row(before, after, names) for before, after in pairs(olds, new["objects"])]
-    rows = sorted((it for it in rows if not it.is_empty()), key=lambda it: (-it.weight(), it.text))
+    rows = sorted(
+        (it for it in rows if not it.is_empty()), key=lambda row: (-row.weight(), row.text)
+    )
     yield from table(names, [sums(view, old, new, names), *rows])
 
 

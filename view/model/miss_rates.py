@@ -30,12 +30,12 @@ class Alternating(NamedTuple):
         """The false-sharing misses of each object: of a line with several, each has all."""
         found: dict[Key, int] = {}
         naming.prepare(self.misses.sites())
-        for it in self.misses.lines.values():
-            things = objects_of(it.stands)
+        for line in self.misses.lines.values():
+            things = objects_of(line.stands)
             for key in {key_of(one, naming, 0) for one in things} or {
-                naming.memory.key(max(it.base, 0))
+                naming.memory.key(max(line.base, 0))
             }:
-                found[key] = found.get(key, 0) + it.useless
+                found[key] = found.get(key, 0) + line.useless
         return found
 
     def rate(self, useless: int) -> float:
@@ -56,9 +56,9 @@ def in_turns_of_one(call: Call) -> list[str]:
     """The words of the same run at quantum 1."""
     given, _, _ = settings_of(call)
     kept = [
-        it
-        for it in given.split(",")
-        if it and it.partition("=")[0].strip() not in ("quantum", "seed")
+        assignment
+        for assignment in given.split(",")
+        if assignment and assignment.partition("=")[0].strip() not in ("quantum", "seed")
     ]
     words, at = ["run", "--set", ",".join([*kept, "quantum=1", "seed=0"])], 1
     before = call.words_to_run()
@@ -181,9 +181,9 @@ class Worth:
         if tried and tried.after or self.view.by_word is None:
             return ""
         fields: dict[tuple[int, str], int] = {}
-        for it in words:
-            if it.key == thing.key:
-                fields[it.base, it.whole()] = max(
-                    fields.get((it.base, it.whole()), 0), it.useful or 0
+        for word in words:
+            if word.key == thing.key:
+                fields[word.base, word.whole()] = max(
+                    fields.get((word.base, word.whole()), 0), word.useful or 0
                 )
         return f" ({thing.useful:,} now, {sum(fields.values()):,} with each word on its own line)"

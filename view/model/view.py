@@ -73,7 +73,7 @@ class Seen:
     def fights(self) -> list[Pair]:
         """The pairs of instructions that conflict on the object's worst line, the most frequent false sharing first."""
         pairs = self.explained.pairs if self.explained else []
-        return sorted(pairs, key=lambda it: (it.same - it.taken, -it.taken))
+        return sorted(pairs, key=lambda pair: (pair.same - pair.taken, -pair.taken))
 
     def fight(self) -> Pair | None:
         """The pair whose false sharing of the object's worst line is most frequent, or none."""
@@ -207,10 +207,10 @@ class View:
         named = [(it, name) for it in worth if (name := it.name_to_place()) is not None]
         placed_at = functools.partial(predator.placed, trace, size=self.report.size)
         with concurrent.futures.ThreadPoolExecutor(max_workers=min(4, os.cpu_count() or 1)) as pool:
-            for (it, _), placed in zip(named, pool.map(placed_at, [name for _, name in named])):
+            for (obj, _), placed in zip(named, pool.map(placed_at, [name for _, name in named])):
                 # (of several variables of one name it takes the first)
-                if placed and it.example and placed.addr == it.example.addr:
-                    self.placed[it.key] = placed
+                if placed and obj.example and placed.addr == obj.example.addr:
+                    self.placed[obj.key] = placed
 
     def arrange(self) -> None:
         """Puts the lines together by objects."""
@@ -218,8 +218,8 @@ class View:
         self.naming.learn("\n".join(one.text for one in told))
         self.naming.prepare({it for one in told for it in one.sites()})
         self.things, self.all = things_of(self.report, self.misses, self.naming, self.each)
-        for it in self.all.values():
-            it.name = self.naming.key_name(it.key, it.example)
+        for obj in self.all.values():
+            obj.name = self.naming.key_name(obj.key, obj.example)
         self.rank()
         if self.blame:
             name_by_instructions(self.things, self.blame, self.naming)
@@ -249,19 +249,19 @@ class View:
             # (two words that are missed as often are of one field, or brought by one load)
             if addr % 8 != 4 or addr - 4 not in words or words[addr - 4].useful != word.useful:
                 needed[(addr - offset) // size * size + offset] += word.useful
-        for it in self.things if self.by_word or self.blame else ():
+        for obj in self.things if self.by_word or self.blame else ():
             missed = [
                 (spot.missed.useless, spot.missed.useful, spot.base)
-                for spot in it.spots
+                for spot in obj.spots
                 if spot.missed
             ]
             if self.by_word:
-                it.saves = sum(
+                obj.saves = sum(
                     max(0, min(useless, useless + useful - needed[base]))
                     for useless, useful, base in missed
                 )
             else:
-                it.saves = sum(
+                obj.saves = sum(
                     min(useless, self.taken_for_nothing(base))
                     for useless, _, base in missed
                     if useless
@@ -278,8 +278,10 @@ class View:
         """Puts the first objects in order by the misses that their fixes saved on the trace."""
         if self.tried is None:
             return
-        places = {it.key: at for at, it in enumerate(sorted(first, key=lambda it: -self.saved(it)))}
-        self.things.sort(key=lambda it: places.get(it.key, len(places)))
+        places = {
+            it.key: at for at, it in enumerate(sorted(first, key=lambda obj: -self.saved(obj)))
+        }
+        self.things.sort(key=lambda obj: places.get(obj.key, len(places)))
 
     def saved(self, thing: Thing) -> int:
         """How many misses the best repair of an object saves, as far as that was counted and whole words decide it."""
@@ -309,9 +311,9 @@ class View:
         """The predicted lines of the objects that the call wants to see."""
         name = self.call.options.get("object")
         return [
-            it
-            for it in self.predicted
-            if name is None or name in {self.all[key].name for key in it.keys if key in self.all}
+            line
+            for line in self.predicted
+            if name is None or name in {self.all[key].name for key in line.keys if key in self.all}
         ]
 
     def label(self, thing: Thing) -> str:
@@ -320,8 +322,8 @@ class View:
         if self.label_counts is None:
             self.label_counts = Counter(
                 name
-                for it in dict.fromkeys(self.all.values())
-                for name in {it.name, it.name + self.caller(it)}
+                for obj in dict.fromkeys(self.all.values())
+                for name in {obj.name, obj.name + self.caller(obj)}
             )
         if self.label_counts[thing.name] < 2:
             return thing.name
@@ -340,9 +342,9 @@ class View:
         """The first line among a block's callers that no other object of its name has there, or else an address."""
         chain = self.naming.chain(block.sites)
         same = [
-            it.example
-            for it in dict.fromkeys(self.all.values())
-            if it.name == thing.name and it is not thing
+            other.example
+            for other in dict.fromkeys(self.all.values())
+            if other.name == thing.name and other is not thing
         ]
         others = [self.naming.chain(it.sites) for it in same if isinstance(it, Block) and it.sites]
         for at, site in enumerate(chain):
@@ -360,9 +362,9 @@ class View:
         ):
             return ""
         lines = [
-            it.short()
-            for it in self.naming.sources.frames(self.naming.chain(thing.example.sites)[0].addr)
-            if it.short()
+            frame.short()
+            for frame in self.naming.sources.frames(self.naming.chain(thing.example.sites)[0].addr)
+            if frame.short()
         ]
         return f", from {lines[-1]}" if len(lines) > 1 else ""
 
@@ -423,10 +425,11 @@ class View:
         waits counts less."""
         own = [at for at, it in enumerate(self.things) if it.worst().base in self.explained]
         ranked = sorted(
-            (self.things[at] for at in own), key=lambda it: (-it.saves * self.weight(it), it.rank())
+            (self.things[at] for at in own),
+            key=lambda obj: (-obj.saves * self.weight(obj), obj.rank()),
         )
-        for at, it in zip(own, ranked):
-            self.things[at] = it
+        for at, obj in zip(own, ranked):
+            self.things[at] = obj
 
     def weight(self, thing: Thing) -> float:
         return weight(self.takings(thing) or {}, self.is_read(thing))
@@ -450,15 +453,15 @@ class View:
             return
         asked = functools.partial(self.asked, predator, program)
         with concurrent.futures.ThreadPoolExecutor(max_workers=min(4, os.cpu_count() or 1)) as pool:
-            for spot, it in zip(spots, pool.map(asked, spots)):
-                if isinstance(it, Refused):
+            for spot, explained in zip(spots, pool.map(asked, spots)):
+                if isinstance(explained, Refused):
                     self.notes.append(
-                        f"the conflicting instructions on line {spot.base:#010x} are unknown: {it}"
+                        f"the conflicting instructions on line {spot.base:#010x} are unknown: {explained}"
                     )
-                elif it.accesses == self.report.accesses and (
-                    spot.line is None or it.count == spot.line.count
+                elif explained.accesses == self.report.accesses and (
+                    spot.line is None or explained.count == spot.line.count
                 ):
-                    self.explained[spot.base] = it.takings
+                    self.explained[spot.base] = explained.takings
                 else:
                     self.notes.append(
                         f"the program with these settings makes another trace, so line {spot.base:#010x} isn't explained"
@@ -467,9 +470,9 @@ class View:
     def note_idle(self) -> None:
         """Notes options that matched nothing: a type for blocks that aren't contended, and a folder without a source of the program."""
         blocks = [
-            it.example
-            for it in self.all.values()
-            if isinstance(it.example, Block) and it.example.sites
+            obj.example
+            for obj in self.all.values()
+            if isinstance(obj.example, Block) and obj.example.sites
         ]
         sites = [self.naming.names_of_site(it) for it in blocks]
         for site in (site for site, _ in self.naming.types if not any(site in it for it in sites)):
@@ -488,9 +491,9 @@ class View:
             else []
         )
         if files and not any(
-            os.path.isfile(os.path.join(folder, it))
+            os.path.isfile(os.path.join(folder, name))
             for file in files
-            for it in (file, os.path.basename(file))
+            for name in (file, os.path.basename(file))
         ):
             self.notes.append(
                 f"`--sources {folder}` has none of the program's sources ({advice.listing(map(os.path.basename, files))})"
@@ -517,9 +520,9 @@ class View:
         """What is shown of an object."""
         if thing.key not in self.cached:
             words = [
-                it
+                word
                 for spot in thing.worst_first()
-                for it in words_of(spot, self.naming, self.by_word)
+                for word in words_of(spot, self.naming, self.by_word)
             ]
             fix, tried = self.advised(thing, words), self.trial(thing)
             explained = self.explained.get(thing.worst().base)
@@ -528,16 +531,16 @@ class View:
 
     def type_of(self, thing: Thing) -> str:
         """The name of an object's type, or nothing where that isn't known."""
-        program, it = self.naming.program, thing.example
-        if program is None or it is None:
+        program, example = self.naming.program, thing.example
+        if program is None or example is None:
             return ""
         from view.names.fields import sound, type_name
 
-        if isinstance(it, Symbol):
-            variable = program.variable(it.addr)
+        if isinstance(example, Symbol):
+            variable = program.variable(example.addr)
             of = variable.type if variable else None
         else:
-            of = sound(lambda: self.naming.type_of_block(it), None)
+            of = sound(lambda: self.naming.type_of_block(example), None)
         return sound(lambda: type_name(of), "").replace(" (unnamed)", "") if of is not None else ""
 
     def invalidations_of(self, spot: Spot) -> int | None:
@@ -679,21 +682,21 @@ def keys_over_builds(things: Iterable[Thing], naming: Naming) -> dict[Key, str]:
     """For each object a text that another build of the program has too: no address, and no line of a source."""
     found: dict[Key, str] = {}
     groups: dict[str, list[Thing]] = {}
-    for it in sorted(things, key=lambda it: order_of(it.key)):
-        if isinstance(it.key, OfSymbol):
-            text = f"symbol {naming.names.lasting(it.key.name)}"
-        elif isinstance(it.key, OfBlocks):
+    for obj in sorted(things, key=lambda obj: order_of(obj.key)):
+        if isinstance(obj.key, OfSymbol):
+            text = f"symbol {naming.names.lasting(obj.key.name)}"
+        elif isinstance(obj.key, OfBlocks):
             text = "block " + (
-                " < ".join(naming.functions(it.example.sites))
-                if isinstance(it.example, Block) and it.example.sites
+                " < ".join(naming.functions(obj.example.sites))
+                if isinstance(obj.example, Block) and obj.example.sites
                 else "-"
             )
         else:
-            text = "memory" if isinstance(it.key, OfMemory) else f"{it.key.kind} {it.key[1]}"
-        groups.setdefault(text, []).append(it)
+            text = "memory" if isinstance(obj.key, OfMemory) else f"{obj.key.kind} {obj.key[1]}"
+        groups.setdefault(text, []).append(obj)
     for text, own in groups.items():
-        for at, it in enumerate(own):
-            found[it.key] = text if at == 0 else f"{text} #{at + 1}"
+        for at, obj in enumerate(own):
+            found[obj.key] = text if at == 0 else f"{text} #{at + 1}"
     return found
 
 
@@ -709,8 +712,8 @@ def memory_of(
         return Memory()
     words = call.settings_words()
     own = [
-        it
-        for at, it in enumerate(words)
-        if not (it.startswith("--schedule") or at and words[at - 1] == "--schedule")
+        word
+        for at, word in enumerate(words)
+        if not (word.startswith("--schedule") or at and words[at - 1] == "--schedule")
     ]
     return Memory(stacks(predator, call.program, own), setting(own, "harts"))

@@ -54,8 +54,8 @@ def owner_of(view: View, thing: Thing, word: Told) -> Owner:
 def grouped(view: View, thing: Thing, words: Iterable[Told]) -> dict[Owner, list[Told]]:
     """Words by their threads, in the order of their addresses."""
     found: dict[Owner, list[Told]] = {}
-    for it in sorted(words, key=lambda it: it.addr):
-        found.setdefault(owner_of(view, thing, it), []).append(it)
+    for word in sorted(words, key=lambda word: word.addr):
+        found.setdefault(owner_of(view, thing, word), []).append(word)
     return found
 
 
@@ -120,10 +120,10 @@ def own_words(view: View, thing: Thing, own: Sequence[Told]) -> str:
     """The threads of an object's own words on a line."""
     if not own:
         return ""
-    groups, worst = grouped(view, thing, own), max(own, key=lambda it: it.writes)
+    groups, worst = grouped(view, thing, own), max(own, key=lambda word: word.writes)
     elements = dict(zip(groups, own_elements(thing, groups.values())))
     # (the group of the most written word is always named)
-    first = sorted(groups, key=lambda it: not any(one is worst for one in groups[it]))
+    first = sorted(groups, key=lambda owner: not any(one is worst for one in groups[owner]))
     named = [it for it in groups if len(groups) <= GROUPS + 1 or it in first[:GROUPS]]
     parts = [group_text(it, names_of(thing, groups[it], elements[it], worst)) for it in named]
     more = len(groups) - len(named)

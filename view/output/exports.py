@@ -79,9 +79,9 @@ def landmarks(view: View, addr: int) -> Record | None:
     )
 
 
-def site(view: View, it: Site) -> Record:
-    found = instruction(view, it.addr)
-    return {**found, "function": found["function"] or view.naming.called(it)}
+def site(view: View, called: Site) -> Record:
+    found = instruction(view, called.addr)
+    return {**found, "function": found["function"] or view.naming.called(called)}
 
 
 def line(view: View, spot: Spot) -> Record:
@@ -99,16 +99,16 @@ def line(view: View, spot: Spot) -> Record:
     }
 
 
-def word(it: Told, own: Key) -> Record:
-    hart = None if it.hart == "many" else int(it.hart)
+def word(use: Told, own: Key) -> Record:
+    hart = None if use.hart == "many" else int(use.hart)
     return {
-        "address": shown(it.addr),
-        "field": it.name,
-        "own": it.key == own,
-        "reads": it.reads,
-        "writes": it.writes,
+        "address": shown(use.addr),
+        "field": use.name,
+        "own": use.key == own,
+        "reads": use.reads,
+        "writes": use.writes,
         "hart": hart,
-        "misses_alone": it.useful,
+        "misses_alone": use.useful,
     }
 
 
@@ -146,9 +146,9 @@ def numbers_of(counted: Counted) -> Record:
     }
 
 
-def trial(view: View, it: Thing) -> Record | None:
+def trial(view: View, obj: Thing) -> Record | None:
     """The whole run's numbers before and after the fix, or none where none was tried."""
-    tried = view.known(it)
+    tried = view.known(obj)
     if tried is None or tried.after is None or not tried.is_saving():
         return None
     return {
@@ -158,35 +158,35 @@ def trial(view: View, it: Thing) -> Record | None:
     }
 
 
-def thing(view: View, it: Thing) -> Record:
-    seen = view.seen(it)
-    explained, worst, kinds = seen.explained, seen.worst(), view.takings(it)
+def thing(view: View, obj: Thing) -> Record:
+    seen = view.seen(obj)
+    explained, worst, kinds = seen.explained, seen.worst(), view.takings(obj)
     known = view.misses is not None
     return {
-        "name": it.name,
-        "kind": it.key.kind,
-        "key": view.keys[it.key],
-        "type": view.type_of(it) or None,
-        "false_sharing": it.useless if known else None,
-        "true_sharing": it.useful if known else None,
-        "invalidations": view.invalidations(it),
-        "reported_invalidations": it.count,
-        "blocks": len(it.lives),
-        "neighbours": [view.all[key].name for key in it.beside],
-        "rate": rounded(view.worth.rate(it.useless)),
-        "severity": severity(view, it.useless),
-        "upper_bound": rounded(view.worth.at_most(it)),
+        "name": obj.name,
+        "kind": obj.key.kind,
+        "key": view.keys[obj.key],
+        "type": view.type_of(obj) or None,
+        "false_sharing": obj.useless if known else None,
+        "true_sharing": obj.useful if known else None,
+        "invalidations": view.invalidations(obj),
+        "reported_invalidations": obj.count,
+        "blocks": len(obj.lives),
+        "neighbours": [view.all[key].name for key in obj.beside],
+        "rate": rounded(view.worth.rate(obj.useless)),
+        "severity": severity(view, obj.useless),
+        "upper_bound": rounded(view.worth.at_most(obj)),
         "invalidation_kinds": {KINDS[one]: much for one, much in kinds.items()} if kinds else None,
         "declared": {"file": seen.declared[0], "line": seen.declared[1]} if seen.declared else None,
-        "sites": [site(view, one) for one in it.example.sites]
-        if isinstance(it.example, Block)
+        "sites": [site(view, one) for one in obj.example.sites]
+        if isinstance(obj.example, Block)
         else [],
-        "who": who(view, it) or None,
+        "who": who(view, obj) or None,
         "fix": seen.fix,
-        "tried": trial(view, it),
+        "tried": trial(view, obj),
         "most_written": worst.name if worst else None,
-        "lines": [line(view, spot) for spot in it.spots],
-        "words": [word(one, it.key) for one in seen.words],
+        "lines": [line(view, spot) for spot in obj.spots],
+        "words": [word(one, obj.key) for one in seen.words],
         "conflicts": [
             {
                 "invalidator": instruction(view, one.taker),
@@ -206,19 +206,19 @@ def thing(view: View, it: Thing) -> Record:
     }
 
 
-def foretold(view: View, it: Foretold) -> Record:
+def foretold(view: View, predicted: Foretold) -> Record:
     return {
-        "kind": it.line.kind,
-        "base": shown(it.line.base),
-        "size": it.line.size,
-        "start": it.line.start,
-        "invalidations": it.line.count,
-        "verdict": it.line.verdict,
-        "objects": [view.name_of(key) for key in it.keys],
-        "false_sharing": it.useless,
-        "observed_false_sharing": it.inside,
-        "shown": it.is_shown,
-        "reason": it.why,
+        "kind": predicted.line.kind,
+        "base": shown(predicted.line.base),
+        "size": predicted.line.size,
+        "start": predicted.line.start,
+        "invalidations": predicted.line.count,
+        "verdict": predicted.line.verdict,
+        "objects": [view.name_of(key) for key in predicted.keys],
+        "false_sharing": predicted.useless,
+        "observed_false_sharing": predicted.inside,
+        "shown": predicted.is_shown,
+        "reason": predicted.why,
     }
 
 
@@ -276,66 +276,66 @@ def location(view: View, file: str, number: int) -> Record:
     return {"physicalLocation": {"artifactLocation": {"uri": uri}, "region": {"startLine": number}}}
 
 
-def sentences(view: View, it: Thing) -> str:
+def sentences(view: View, obj: Thing) -> str:
     """The fix of an object, and what trying it came to, as sentences."""
-    seen = view.seen(it)
+    seen = view.seen(obj)
     tried = f" Tried on this trace: {seen.tried}." if seen.tried else ""
     return f"Fix: {seen.fix}.{tried}"
 
 
-def locations(view: View, it: Thing) -> list[Record]:
+def locations(view: View, obj: Thing) -> list[Record]:
     """Where an object's sharing happens in the sources: the conflicting instructions, and else where it is declared or made."""
-    fight = view.seen(it).fight()
+    fight = view.seen(obj).fight()
     places = (
         [view.naming.sources.place(at) for at in (fight.taker, fight.victim)]
         if fight and view.naming.sources
         else []
     )
     found = [location(view, place.file, place.line) for place in dict.fromkeys(places) if place]
-    declared = view.seen(it).declared
+    declared = view.seen(obj).declared
     return found or ([location(view, *declared)] if declared else [])
 
 
-def result(view: View, it: Thing) -> Record:
+def result(view: View, obj: Thing) -> Record:
     known = view.misses is not None
     is_false = (
-        it.useless >= it.useful
+        obj.useless >= obj.useful
         if known
-        else any(spot.line and spot.line.verdict != "true" for spot in it.spots)
+        else any(spot.line and spot.line.verdict != "true" for spot in obj.spots)
     )
-    much = counted(view.invalidations(it), "invalidation")
+    much = counted(view.invalidations(obj), "invalidation")
     if known:
-        much = f"{counted(it.useless, 'false-sharing miss')}, {it.useful:,} true-sharing, {much}"
-    declared = view.seen(it).declared
+        much = f"{counted(obj.useless, 'false-sharing miss')}, {obj.useful:,} true-sharing, {much}"
+    declared = view.seen(obj).declared
     return {
         "ruleId": "false-sharing" if is_false else "true-sharing",
         "level": "warning" if is_false else "note",
         "message": {
-            "text": f"{it.name}: {much} on {counted(len(it.spots), 'line')}. {sentences(view, it)}"
+            "text": f"{obj.name}: {much} on {counted(len(obj.spots), 'line')}. {sentences(view, obj)}"
         },
-        "locations": locations(view, it)[:1],
+        "locations": locations(view, obj)[:1],
         "relatedLocations": [
             {
                 **one,
                 "message": {
-                    "text": f"{'allocated' if isinstance(it.example, Block) else 'declared'} here"
+                    "text": f"{'allocated' if isinstance(obj.example, Block) else 'declared'} here"
                 },
             }
             for one in ([location(view, *declared)] if declared else [])
         ],
-        "partialFingerprints": {"object/v1": view.keys[it.key]},
+        "partialFingerprints": {"object/v1": view.keys[obj.key]},
     }
 
 
-def foreseen(view: View, it: Foretold) -> Record:
-    names = ", ".join(view.name_of(key) for key in it.keys) or "memory"
-    much = f"{counted(it.useless or 0, 'false-sharing miss')} instead of {it.inside or 0:,}"
-    declared = next((view.declared(view.all[key]) for key in it.keys), None)
+def foreseen(view: View, predicted: Foretold) -> Record:
+    names = ", ".join(view.name_of(key) for key in predicted.keys) or "memory"
+    much = f"{counted(predicted.useless or 0, 'false-sharing miss')} instead of {predicted.inside or 0:,}"
+    declared = next((view.declared(view.all[key]) for key in predicted.keys), None)
     return {
         "ruleId": "predicted-sharing",
         "level": "note",
         "message": {
-            "text": f"{names}: a {it.line.kind} {it.line.size}-byte line would have {much}."
+            "text": f"{names}: a {predicted.line.kind} {predicted.line.size}-byte line would have {much}."
         },
         "locations": [location(view, *declared)] if declared else [],
     }
@@ -345,7 +345,7 @@ def sarif_text(view: View) -> str:
     """The objects, and the predicted lines that are shown, as results."""
     top = view.call.number("top", TOP)
     results = [result(view, it) for it in view.listed()[:top]] + [
-        foreseen(view, it) for it in view.foretold() if it.is_shown
+        foreseen(view, predicted) for predicted in view.foretold() if predicted.is_shown
     ]
     rules = [
         {

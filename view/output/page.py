@@ -185,12 +185,18 @@ def side(view: View, addr: int, role: str) -> Given:
 
 
 def pairs(view: View, seen: Seen) -> Iterator[Given]:
-    for it in seen.fights()[:PAIRS]:
-        sides = [side(view, it.taker, "invalidates"), side(view, it.victim, "loses the line")]
-        yield {"text": f"{counted(it.taken, 'invalidation')}, {same_words(it)}", "sides": sides}
+    for conflicting in seen.fights()[:PAIRS]:
+        sides = [
+            side(view, conflicting.taker, "invalidates"),
+            side(view, conflicting.victim, "loses the line"),
+        ]
+        yield {
+            "text": f"{counted(conflicting.taken, 'invalidation')}, {same_words(conflicting)}",
+            "sides": sides,
+        }
 
 
-def worth_drawing(view: View, it: Thing) -> list[Spot]:
+def worth_drawing(view: View, obj: Thing) -> list[Spot]:
     """The first lines of an object, without those that have few of the misses and invalidations of its worst one, or of all."""
 
     def much(spot: Spot) -> int:
@@ -199,9 +205,9 @@ def worth_drawing(view: View, it: Thing) -> list[Spot]:
         )
 
     total, worst = sum(one.useless + one.useful + one.count for one in view.things), much(
-        it.worst()
+        obj.worst()
     )
-    first = [one for one in it.worst_first()[:LINES] if one.told() and much(one) * FEW >= worst]
+    first = [one for one in obj.worst_first()[:LINES] if one.told() and much(one) * FEW >= worst]
     return [one for at, one in enumerate(first) if at < FIRST or much(one) * LITTLE >= total]
 
 
@@ -210,22 +216,22 @@ def in_code(text: str) -> list[str]:
     return text.split("`")
 
 
-def thing(view: View, it: Thing) -> Given:
+def thing(view: View, obj: Thing) -> Given:
     """One object as the template has it."""
-    seen, drawn = view.seen(it), sorted(worth_drawing(view, it), key=lambda one: one.base)
+    seen, drawn = view.seen(obj), sorted(worth_drawing(view, obj), key=lambda one: one.base)
     worst, fight = seen.worst(), seen.fight()
     return {
-        "name": view.label(it) + it.note,
-        "type": type_and_place(view, it, seen),
-        "numbers": [f"{one:,}" for one in numbers_of(view, it)],
-        "beside": [view.label(view.all[key]) for key in it.beside],
+        "name": view.label(obj) + obj.note,
+        "type": type_and_place(view, obj, seen),
+        "numbers": [f"{one:,}" for one in numbers_of(view, obj)],
+        "beside": [view.label(view.all[key]) for key in obj.beside],
         "worst": worst.whole() if worst else "",
         "fight": [view.naming.instruction(at) for at in (fight.taker, fight.victim)]
         if fight
         else [],
-        "details": [(label, in_code(text)) for label, text in details(view, it)],
+        "details": [(label, in_code(text)) for label, text in details(view, obj)],
         "rows": [row(view, one, seen, view.report.size) for one in drawn],
-        "more": len(it.spots) - len(drawn),
+        "more": len(obj.spots) - len(drawn),
         "explained": shown(seen.explained.base) if seen.explained else "",
         "matrix": matrix(seen.explained) if seen.explained and seen.explained.harts else None,
         "pairs": list(pairs(view, seen)),
@@ -240,9 +246,9 @@ def strip(view: View, foretold: Foretold, observed: dict[int, Spot]) -> Given:
     own = words_of(Spot(line.base, line, None), view.naming, view.by_word)
     beside = [
         word
-        for it in bases
-        if it in observed
-        for word in words_of(observed[it], view.naming, view.by_word)
+        for base in bases
+        if base in observed
+        for word in words_of(observed[base], view.naming, view.by_word)
     ]
     words = own + [it for it in beside if not line.base <= it.addr < line.base + line.size]
     name = view.name_of(next(iter(foretold.keys))) if len(foretold.keys) == 1 else ""
@@ -296,11 +302,11 @@ def page(view: View) -> str:
     first = chosen[:top]
     is_all = "predicted" in view.call.options
     observed, foretold = {
-        spot.base: spot for it in view.things for spot in it.spots if spot.line
+        spot.base: spot for obj in view.things for spot in obj.spots if spot.line
     }, view.foretold()
     strips = [
-        strip(view, it, observed)
-        for it in [one for one in foretold if one.is_shown or is_all][:STRIPS]
+        strip(view, predicted, observed)
+        for predicted in [one for one in foretold if one.is_shown or is_all][:STRIPS]
     ]
     harts, has_many = threads_of(view, first, foretold[: len(strips)])
     return (
@@ -339,13 +345,13 @@ def threads_of(
     found |= {None if it == "many" else int(it) for it in harts}
     found |= {
         hart
-        for it in things
-        if (explained := view.seen(it).explained)
+        for obj in things
+        if (explained := view.seen(obj).explained)
         for pair in explained.harts
         for hart in pair
     }
     owner = view.naming.memory.owner
     return [
-        {"name": owner(it), "letter": letter(it), "colour": colour(it)}
-        for it in sorted(it for it in found if it is not None)
+        {"name": owner(hart), "letter": letter(hart), "colour": colour(hart)}
+        for hart in sorted(it for it in found if it is not None)
     ], None in found

@@ -118,9 +118,9 @@ def outcome(view: View, paint: Paint, width: int) -> Iterator[str]:
     """The first lines: how the run ended, loudly where that isn't exit 0, and all its misses."""
     if not view.report.ended_well():
         yield from (
-            paint(RED, it)
+            paint(RED, row)
             for text in (f"THE RUN DID NOT END WITH EXIT 0: {outcome_of(view)}", next_step(view))
-            for it in fold(f"!! {text}", "", "   ", width)
+            for row in fold(f"!! {text}", "", "   ", width)
         )
     yield from fold(summary(view), "", "  ", width)
     if view.misses:
@@ -136,7 +136,7 @@ def outcome(view: View, paint: Paint, width: int) -> Iterator[str]:
 
 def shared(view: View, rows: Sequence[Thing]) -> str:
     """That most misses are true sharing of one object, where that doesn't stand among the first; or nothing."""
-    most = max(rows, key=lambda it: it.useful, default=None)
+    most = max(rows, key=lambda obj: obj.useful, default=None)
     if most is None or most in rows[:MOST] or 2 * most.useful <= view.total():
         return ""
     name = view.naming.names.shortened(view.label(most))
@@ -204,8 +204,8 @@ def where(view: View, thing: Thing) -> list[str]:
 def details(view: View, thing: Thing) -> Iterator[tuple[str, str]]:
     """The rows below an object's, each with its label."""
     seen = view.seen(thing)
-    for it in where(view, thing):
-        yield "where", it
+    for text in where(view, thing):
+        yield "where", text
     for label, text in (("who", who(view, thing)), ("fix", seen.fix), ("tried", seen.tried)):
         if text:
             yield label, text
@@ -304,14 +304,14 @@ def words_table(view: View, thing: Thing, paint: Paint, indent: str) -> Iterator
     wide = max(len("thread"), *map(len, owners.values()))
     alone = "" if view.by_word is None else "    alone"
     yield paint(DIM, f"{indent}{'address':<10}    reads   writes{alone}  {'thread':<{wide}}  field")
-    for it in words:
-        needed = "" if it.useful is None else f"{it.useful:>9,}"
+    for word in words:
+        needed = "" if word.useful is None else f"{word.useful:>9,}"
         other = (
             ""
-            if it.key == thing.key
-            else f"  ({plain(short(view.all[it.key].name)) if it.key in view.all else 'another object'})"
+            if word.key == thing.key
+            else f"  ({plain(short(view.all[word.key].name)) if word.key in view.all else 'another object'})"
         )
-        yield f"{indent}0x{it.addr:08x}{it.reads:>9,}{it.writes:>9,}{needed}  {owners[it]:<{wide}}  {plain(short(it.name))}{other}"
+        yield f"{indent}0x{word.addr:08x}{word.reads:>9,}{word.writes:>9,}{needed}  {owners[word]:<{wide}}  {plain(short(word.name))}{other}"
 
 
 def prediction(view: View, group: Sequence[Foretold]) -> str:
@@ -342,8 +342,10 @@ def predictions(view: View, paint: Paint, width: int) -> Iterator[str]:
     if chosen:
         yield ""
         yield paint(BOLD, "predicted, if data were placed otherwise or lines were longer:")
-    for it in together(chosen):
-        yield from fold(view.naming.names.shortened(prediction(view, it)), "   ", "      ", width)
+    for group in together(chosen):
+        yield from fold(
+            view.naming.names.shortened(prediction(view, group)), "   ", "      ", width
+        )
     if folded:
         reasons = "add no false sharing or can't occur with the data's alignment"
         if view.misses and any(it.why == UNCOUNTED for it in found):
@@ -376,8 +378,8 @@ def screen(view: View, paint: Paint, width: int = WIDTH) -> Iterator[str]:
     yield from outcome(view, paint, width)
     listed, top = view.listed(), view.call.number("top", TOP)
     rows = [it for it in listed if not view.is_minor(it)]
-    for it in filter(None, (*view.notes, shared(view, rows))):
-        yield from fold(f"note: {it}", "", "  ", width)
+    for note in filter(None, (*view.notes, shared(view, rows))):
+        yield from fold(f"note: {note}", "", "  ", width)
     name = view.call.options.get("object")
     if not view.chosen():
         yield f"{plain(name)} is not contended" if name else "no line is contended"

@@ -160,11 +160,11 @@ class Call:
             raise Fault(f"{where} has no option '{word}'{near and '; '}{near}\n{USAGE}")
         if self.marks and self.how != "native":
             raise Fault(f"'{self.marks[0]}' applies to native programs only")
-        for it in (one for value in self.values("--set") for one in value.split(",")):
-            key, is_set, _ = it.partition("=")
+        for pair in (one for value in self.values("--set") for one in value.split(",")):
+            key, is_set, _ = pair.partition("=")
             if is_set and key not in KEYS:
                 raise Fault(
-                    f"'--set {it}': there is no setting '{key}'; {nearest(key, KEYS)}the settings are {', '.join(KEYS)}"
+                    f"'--set {pair}': there is no setting '{key}'; {nearest(key, KEYS)}the settings are {', '.join(KEYS)}"
                 )
 
     def split(self, words: Sequence[str]) -> tuple[list[str], list[str]]:
@@ -232,9 +232,11 @@ class Call:
             raise Fault(f"'--by' takes {BY[0]} or {BY[1]}, not '{self.options['by']}'")
         if self.options.get("json-version", "2") not in ("1", "2"):
             raise Fault(f"'--json-version' takes 1 or 2, not '{self.options['json-version']}'")
-        for it in self.options["type"]:
-            if not all(it.partition("=")[::2]):
-                raise Fault(f"'--type' takes SITE=TYPE, such as arena.c:78=node, not '{it}'")
+        for assignment in self.options["type"]:
+            if not all(assignment.partition("=")[::2]):
+                raise Fault(
+                    f"'--type' takes SITE=TYPE, such as arena.c:78=node, not '{assignment}'"
+                )
         if "predicted" in self.options and "no-predicted" in self.options:
             raise Fault("'--predicted' and '--no-predicted' exclude each other")
         for name, of in (("by", "fail-above"), ("json-version", "json")):

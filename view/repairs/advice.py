@@ -46,8 +46,8 @@ Groups = dict[Whose, list[Told]]
 def patterns(names: Iterable[str]) -> list[str]:
     """The names, those of more than two elements of an array as one: `slots[..]`."""
     found: dict[str, list[str]] = {}
-    for it in dict.fromkeys(names):
-        found.setdefault(INDEX.sub("[..]", it), []).append(it)
+    for name in dict.fromkeys(names):
+        found.setdefault(INDEX.sub("[..]", name), []).append(name)
     return [one for pattern, own in found.items() for one in ([pattern] if len(own) > 2 else own)]
 
 
@@ -109,15 +109,15 @@ def array_of(words: Sequence[Told]) -> str | None:
 def groups(words: Iterable[Told]) -> Groups:
     """The words by whose they are: each thread's own, each shared one alone, and the read-only ones."""
     found: Groups = {}
-    for it in sorted(words, key=lambda it: -it.writes):
-        if is_shared(it):
-            found.setdefault(Whose(SHARED, INDEX.sub("[..]", it.whole())), []).append(it)
-        elif it.hart != "many":
-            found.setdefault(Whose(it.owner, ""), []).append(it)
-        elif it.writes * STEADY > it.reads:
-            found.setdefault(Whose("one thread", it.whole()), []).append(it)
+    for word in sorted(words, key=lambda word: -word.writes):
+        if is_shared(word):
+            found.setdefault(Whose(SHARED, INDEX.sub("[..]", word.whole())), []).append(word)
+        elif word.hart != "many":
+            found.setdefault(Whose(word.owner, ""), []).append(word)
+        elif word.writes * STEADY > word.reads:
+            found.setdefault(Whose("one thread", word.whole()), []).append(word)
         else:
-            found.setdefault(Whose(READ, ""), []).append(it)
+            found.setdefault(Whose(READ, ""), []).append(word)
     return found
 
 
@@ -149,8 +149,8 @@ def by_type(array: str, size: int, element: Element) -> str:
 def lines(words: Iterable[Told]) -> list[list[Told]]:
     """The words by their lines."""
     found: dict[int, list[Told]] = {}
-    for it in words:
-        found.setdefault(it.base, []).append(it)
+    for word in words:
+        found.setdefault(word.base, []).append(word)
     return list(found.values())
 
 
@@ -232,9 +232,9 @@ def neighbours(words: Sequence[Told], thing: Thing, names: Mapping[Key, str]) ->
     line = [it for it in words if it.base == words[0].base]
     found: dict[Key, int] = {}
     own = any(it.writes for it in line if it.key == thing.key)
-    for it in line:
-        if own or it.writes:
-            found[it.key] = found.get(it.key, 0) + it.reads + it.writes
+    for word in line:
+        if own or word.writes:
+            found[word.key] = found.get(word.key, 0) + word.reads + word.writes
     # (one or two accesses are no conflict)
     return [
         names[key]
@@ -246,9 +246,11 @@ def neighbours(words: Sequence[Told], thing: Thing, names: Mapping[Key, str]) ->
 def cost(thing: Thing, words: Iterable[Told]) -> str:
     """How many misses more the words would have on lines of their own, where they would; or nothing."""
     fields: dict[tuple[int, str], int] = {}
-    for it in words:
-        if it.key == thing.key:
-            fields[it.base, it.whole()] = max(fields.get((it.base, it.whole()), 0), it.useful or 0)
+    for word in words:
+        if word.key == thing.key:
+            fields[word.base, word.whole()] = max(
+                fields.get((word.base, word.whole()), 0), word.useful or 0
+            )
     own = sum(fields.values())
     more = own - thing.useful - thing.useless
     return f"; its own line for each word would cost {more:,} misses more" if more > 0 else ""
@@ -330,7 +332,7 @@ def in_turns(thing: Thing, words: Iterable[Told], turns: int) -> str:
 
 def written_most(words: Iterable[Told]) -> str:
     """Some words by their names, those that are written most first."""
-    return listing(it.whole() for it in sorted(words, key=lambda it: -it.writes))
+    return listing(it.whole() for it in sorted(words, key=lambda word: -word.writes))
 
 
 def parted(
