@@ -92,7 +92,7 @@ def crossed(trace: str, size: int, totals: dict[int, int], peak: int, least: int
         own = under(Report(texts.pop(0)), naming)
         if sum(own.counts.values()) != total:
             raise Fault(
-                f"`sweep` counts {total} with the shift {shift}, and `replay` doesn't: the trace isn't the same any more"
+                f"`sweep` and `replay` differ at shift {shift}: the trace changed while it was read"
             )
         found.append(own)
     return ordered(found, list(totals).index(peak), list(totals).index(least))

@@ -322,7 +322,7 @@ class Program:
         except OSError as error:
             raise Fault(f"{path}: {error.strerror}") from error
         except ELFError as error:
-            raise Fault(f"{path}: it is no program file ({error})") from error
+            raise Fault(f"{path} isn't an ELF file ({error})") from error
         # (by pyelftools; none without debug information)
         self.dwarf: Any = None
         with contextlib.suppress(Exception):
@@ -425,7 +425,7 @@ class Program:
         several = self.types.get(last_name(name), [])
         found = chosen(several, name) or self.pointers.get(name)
         if found is None:
-            raise Fault(f"'{text}' is no type of {self.path}, and no variable that points to one")
+            raise Fault(f"{self.path} has no type '{text}', and no pointer variable of that name")
         return found
 
     def named(self, *names: str) -> list[tuple[int, str]]:

@@ -1,4 +1,4 @@
-"""All that a call of view has found: what the outputs are written from."""
+"""All that a call of view has found: the data of its outputs."""
 
 import concurrent.futures
 import contextlib
@@ -21,7 +21,7 @@ from overflow import Overflow, last_of_file, last_of_run, overflow
 from passes import Layout, Passes, first_readers, is_blamed, is_brief
 from predicted import Foretold, judged, worth_counting
 from program import Predator, Refused, misses_under, setting, stacks
-from reports import Blame, Block, Explained, Misses, Pair, Placed, Report, Symbol, Takings
+from reports import Blame, Block, Explained, Line, Misses, Pair, Placed, Report, Symbol, Takings
 from unnamed import HEAP, name_by_instructions, of_runtime, together
 from worth import Worth
 
@@ -36,21 +36,23 @@ Declared = tuple[str, int]
 
 
 class Seen:
-    """One object as it is shown: its words, the explained lines, and what to do about it."""
+    """One object as it is shown: its words, its explained line, the fix, and what trying that came to."""
 
     def __init__(
         self,
         thing: Thing,
         words: list[Told],
         explained: Takings | None,
-        todo: str,
+        fix: str,
+        tried: str,
         declared: Declared | None,
     ) -> None:
-        self.thing, self.words, self.explained, self.todo, self.declared = (
+        self.thing, self.words, self.explained, self.fix, self.tried, self.declared = (
             thing,
             words,
             explained,
-            todo,
+            fix,
+            tried,
             declared,
         )
 
@@ -58,12 +60,12 @@ class Seen:
         return worst_word([it for it in self.words if it.key == self.thing.key])
 
     def fights(self) -> list[Pair]:
-        """The pairs of instructions that take the object's worst line, those first that take it most often for nothing."""
+        """The pairs of instructions that conflict on the object's worst line, the most frequent false sharing first."""
         pairs = self.explained.pairs if self.explained else []
         return sorted(pairs, key=lambda it: (it.same - it.taken, -it.taken))
 
     def fight(self) -> Pair | None:
-        """The pair that takes the object's worst line most often for nothing, or none."""
+        """The pair whose false sharing of the object's worst line is most frequent, or none."""
         return next(iter(self.fights()), None)
 
 
@@ -97,20 +99,20 @@ class View:
         self.does: dict[int, Does] = {}
 
     def count(self, predator: Predator | None, passes: Passes | None) -> None:
-        """Has the misses counted, under the report's layout, for each word, and under the layouts of predicted lines."""
+        """Counts the misses, under the report's layout, for each word, and under the layouts of predicted lines."""
         if predator is None:
             self.notes.append(
-                "a report alone doesn't tell misses: `view run` or `view replay` does; objects stand by the report's count"
+                "a report has no misses: use `predator view run` or `predator view replay` to count them"
             )
             return
         if not predator.has("misses"):
             self.notes.append(
-                "this program has no command `misses`, so misses are unknown; objects stand by the report's count"
+                "this predator has no command `misses`, so misses are unknown"
             )
             return
         if self.call.reads_once():
             self.notes.append(
-                "a trace from a pipe can be read once, so its misses, and places for its objects, are unknown: write it to a file for these"
+                "a pipe can be read only once, so misses and fixes are unknown: write the trace to a file"
             )
             return
         brief, foreseen = is_brief(self.call), self.foreseen_layouts()
@@ -130,7 +132,7 @@ class View:
             return
         if any(it.accesses != self.report.accesses for it in counted):
             self.notes.append(
-                "the trace is a part of what the report counts, so its misses are unknown"
+                "the trace is only a part of what the report counts, so misses are unknown"
             )
             return
         self.note_lacked(predator)
@@ -143,9 +145,8 @@ class View:
         )
         self.by_layout = dict(zip(foreseen, cast(list[Misses], counted[len(asked) :])))
         if brief:
-            all_of_it = "unless `--words` asks for all"
             self.notes.append(
-                f"of a long trace repairs are counted in its first part, and predicted lines left out, {all_of_it}"
+                "the trace is long: fixes were tried on its first part, and predicted lines weren't counted; --words does both in full"
             )
 
     def foreseen_layouts(self) -> list[Layout]:
@@ -158,11 +159,15 @@ class View:
         )
 
     def note_lacked(self, predator: Predator) -> None:
-        """Notes that a thread never ran since no hart was free."""
-        found = re.findall("^predator: (no hart was free for [^:\n]*)", predator.said, re.MULTILINE)
+        """Notes that a thread never ran since all harts were in use."""
+        found = re.search(
+            "^predator: (?:no hart was free for |the last .*could not start)",
+            predator.said,
+            re.MULTILINE,
+        )
         if found and self.call.how == "run":
             harts = setting(self.call.settings_words(), "harts")
-            self.lacked = f"{found[-1]}, and what that shares isn't seen: `--set harts={min(2 * harts, 256)}` gives more"
+            self.lacked = f"a thread never ran, as all {harts} harts were in use: use `--set harts={min(2 * harts, 256)}`"
             self.notes.append(self.lacked)
 
     def look_for_overflow(self, predator: Predator | None) -> None:
@@ -261,14 +266,14 @@ class View:
         return sum(it.taken - it.same for it in found.pairs) if found else 0
 
     def rank_tried(self, first: Sequence[Thing]) -> None:
-        """Puts the first objects in order by what their repairs were counted to save."""
+        """Puts the first objects in order by the misses that their fixes saved on the trace."""
         if self.tried is None:
             return
         places = {it.key: at for at, it in enumerate(sorted(first, key=lambda it: -self.saved(it)))}
         self.things.sort(key=lambda it: places.get(it.key, len(places)))
 
     def saved(self, thing: Thing) -> int:
-        """How many misses the best repair of an object saves, as far as that was counted; what words can't tell isn't."""
+        """How many misses the best repair of an object saves, as far as that was counted and whole words decide it."""
         found = (self.tried or {}).get(thing.key)
         return (
             found.saved()
@@ -370,7 +375,7 @@ class View:
         )
 
     def explain(self, predator: Predator | None, things: Sequence[Thing]) -> None:
-        """Tells what takes the worst lines of the first objects: by the trace, or by as many runs side by side."""
+        """Explains the invalidations of the first objects' worst lines: by the trace, or by as many runs side by side."""
         most = self.call.number("explain", EXPLAIN)
         program, trace = self.call.program, self.call.trace()
         if self.blame is not None:
@@ -385,12 +390,11 @@ class View:
             and not predator.has("blame")
         ):
             self.notes.append(
-                "this program has no command `blame`, so the instructions that fight are unknown"
+                "this predator has no command `blame`, so the conflicting instructions are unknown"
             )
         elif is_brief(self.call) and "explain" not in self.call.options:
-            runs = "unless `--explain N` asks: each takes a run"
             self.notes.append(
-                f"of a long trace without pcs the instructions that fight are unknown, {runs}"
+                "the trace is long and has no program counters: --explain N finds the conflicting instructions of N objects, with a run each"
             )
         elif program is not None and predator is not None and most:
             self.explain_by_runs(predator, program, things[:most])
@@ -406,8 +410,8 @@ class View:
             self.put_dear_first()
 
     def put_dear_first(self) -> None:
-        """Puts those objects whose worst lines are explained in the order of what they save, where a taking for which no instruction waits
-        counts less."""
+        """Puts the objects whose worst lines are explained in the order of what they save, where an invalidation for which no instruction
+        waits counts less."""
         own = [at for at, it in enumerate(self.things) if it.worst().base in self.explained]
         ranked = sorted(
             (self.things[at] for at in own), key=lambda it: (-it.saves * self.weight(it), it.rank())
@@ -419,12 +423,12 @@ class View:
         return weight(self.takings(thing) or {}, self.is_read(thing))
 
     def is_read(self, thing: Thing) -> bool:
-        """Whether an object's worst line is loaded from, as far as its words are told."""
+        """Whether threads read an object's worst line, as far as its words are known."""
         line = thing.worst().told()
         return line is None or is_read(line.words())
 
     def takings(self, thing: Thing) -> dict[str, int] | None:
-        """How many takings of each kind an object's worst line has, or none where it isn't explained."""
+        """How many invalidations of each kind an object's worst line has, or none where it isn't explained."""
         found = self.explained.get(thing.worst().base)
         return kinds_of(found.pairs, self.does) if found else None
 
@@ -432,25 +436,27 @@ class View:
         spots = [spot for spot in (it.worst() for it in things) if spot.base >= 0]
         if spots and not predator.has("explain"):
             self.notes.append(
-                "this program has no command `explain`, so the instructions that fight are unknown"
+                "this predator has no command `explain`, so the conflicting instructions are unknown"
             )
             return
         asked = functools.partial(self.asked, predator, program)
         with concurrent.futures.ThreadPoolExecutor(max_workers=min(4, os.cpu_count() or 1)) as pool:
             for spot, it in zip(spots, pool.map(asked, spots)):
                 if isinstance(it, Refused):
-                    self.notes.append(f"what fights over {spot.base:#010x} is unknown: {it}")
+                    self.notes.append(
+                        f"the conflicting instructions on line {spot.base:#010x} are unknown: {it}"
+                    )
                 elif it.accesses == self.report.accesses and (
                     spot.line is None or it.count == spot.line.count
                 ):
                     self.explained[spot.base] = it.takings
                 else:
                     self.notes.append(
-                        f"the program under these settings doesn't make this trace, so `explain` says nothing of {spot.base:#010x}"
+                        f"the program with these settings makes another trace, so line {spot.base:#010x} isn't explained"
                     )
 
     def note_idle(self) -> None:
-        """Notes options that matched nothing: a type for blocks that aren't fought over, and a folder without a source of the program."""
+        """Notes options that matched nothing: a type for blocks that aren't contended, and a folder without a source of the program."""
         blocks = [
             it.example
             for it in self.all.values()
@@ -461,11 +467,11 @@ class View:
             first = [self.naming.chain(it.sites)[0] for it in blocks]
             made = sorted({self.naming.site(it) or short(self.naming.called(it)) for it in first})
             there = (
-                f"blocks that are fought over are made at {advice.listing(made)}"
+                f"contended blocks are made at {advice.listing(made)}"
                 if made
-                else "no block is fought over"
+                else "no block is contended"
             )
-            self.notes.append(f"`--type {site}=..` matches nothing: {there}")
+            self.notes.append(f"`--type {site}=..` matches no contended block: {there}")
         folder, sources = self.call.options.get("sources", ""), self.naming.sources
         files = (
             sorted({it.file for frames in sources.places.values() for it in frames if it.file})
@@ -478,11 +484,11 @@ class View:
             for it in (file, os.path.basename(file))
         ):
             self.notes.append(
-                f"`--sources {folder}` has none of the program's sources: {advice.listing(map(os.path.basename, files))}"
+                f"`--sources {folder}` has none of the program's sources ({advice.listing(map(os.path.basename, files))})"
             )
 
     def asked(self, predator: Predator, program: str, spot: Spot) -> Explained | Refused:
-        """What `explain` says of a line, or how it refuses to."""
+        """The text of `explain` for a line, or its refusal."""
         start, words = spot.line.start if spot.line else 0, self.call.settings_words()
         try:
             return predator.explained(
@@ -506,37 +512,76 @@ class View:
                 for spot in thing.worst_first()
                 for it in words_of(spot, self.naming, self.by_word)
             ]
-            todo = self.advised(thing, words)
+            fix, tried = self.advised(thing, words), self.trial(thing)
             explained = self.explained.get(thing.worst().base)
-            self.cached[thing.key] = Seen(thing, words, explained, todo, self.declared(thing))
+            self.cached[thing.key] = Seen(
+                thing, words, explained, fix, tried, self.declared(thing)
+            )
         return self.cached[thing.key]
+
+    def type_of(self, thing: Thing) -> str:
+        """The name of an object's type, or nothing where that isn't known."""
+        program, it = self.naming.program, thing.example
+        if program is None or it is None:
+            return ""
+        from fields import sound, type_name
+
+        if isinstance(it, Symbol):
+            variable = program.variable(it.addr)
+            of = variable.type if variable else None
+        else:
+            of = sound(lambda: self.naming.type_of_block(it), None)
+        return sound(lambda: type_name(of), "").replace(" (unnamed)", "") if of is not None else ""
+
+    def invalidations_of(self, spot: Spot) -> int | None:
+        """The invalidations of a line: since its first write where that was counted, and else as the report lists it."""
+        if self.each is None:
+            return spot.line.count if spot.line else None
+        line = self.each_lines.get(spot.base)
+        return line.count if line else 0
+
+    @functools.cached_property
+    def each_lines(self) -> dict[int, Line]:
+        """Each line that was ever invalidated, by its base."""
+        return self.each.at() if self.each else {}
+
+    def invalidations(self, thing: Thing) -> int:
+        """The invalidations of all of an object's lines."""
+        return sum(self.invalidations_of(it) or 0 for it in thing.spots)
+
+    def is_minor(self, thing: Thing) -> bool:
+        """Whether an object behind the first one has hardly any misses, so that it has no row."""
+        if "object" in self.call.options or self.is_clean() or self.things[0] is thing:
+            return False
+        return (thing.useless + thing.useful) * advice.LITTLE < self.total()
 
     def total(self) -> int:
         """The misses that aren't cold."""
         return self.misses.total["useless"] + self.misses.total["useful"] if self.misses else 0
 
     def is_clean(self) -> bool:
-        """Whether so few accesses of a trace miss that nothing is worth doing. (Of a run its time says that.)"""
+        """Whether so few accesses of a trace miss that no change is worth it. (Of a run the severity says that.)"""
         return not self.report.steps and 0 < self.total() * RARE < self.report.accesses
 
     def is_little(self, thing: Thing) -> bool:
-        """Whether an object has so few of the misses that it is to be left as it is."""
+        """Whether an object has so few of the misses that it isn't worth a change."""
         if self.is_clean() and "object" not in self.call.options:
             return True
         is_first = self.things[0] is thing or "object" in self.call.options
         return not is_first and 0 < (thing.useless + thing.useful) * advice.LITTLE < self.total()
 
     def known(self, thing: Thing) -> "Tried | None":
-        """What came of the repairs of an object, where that says what to do."""
+        """The trial of an object's repairs, where that decides the fix."""
         found = (self.tried or {}).get(thing.key)
         return found if found is not None and found.knows() else None
 
     def advised(self, thing: Thing, words: list[Told]) -> str:
-        """What to do about an object."""
+        """The fix for an object."""
         tried = self.known(thing)
         if tried:
             mixed = [field_at(it, thing.example, self.naming) for it in tried.mixed()]
-            return tried.sentence(self.label(thing), list(dict.fromkeys(mixed)))
+            fix = tried.fix(list(dict.fromkeys(mixed)), self.turns())
+            return fix + self.worth.warning(thing, words)
         if self.is_little(thing):
             return advice.little(thing, self.total())
         if thing.name == HEAP:
@@ -551,12 +596,20 @@ class View:
             self.element(thing),
             self.turns(),
         )
-        return todo + advice.placing(
-            self.placed.get(thing.key), lambda addr: field_at(addr, thing.example, self.naming)
+        placed = advice.placing(
+            self.placed.get(thing.key),
+            lambda addr: field_at(addr, thing.example, self.naming),
+            self.naming.memory.owner,
         )
+        return todo + placed + self.worth.warning(thing, words)
+
+    def trial(self, thing: Thing) -> str:
+        """The numbers of the trial of an object's repairs, or nothing."""
+        tried = self.known(thing)
+        return tried.outcome(bool(tried.mixed())) if tried else ""
 
     def turns(self) -> int:
-        """How many steps a hart's turn has, or 0 where that isn't known."""
+        """The quantum of the run, or 0 where that isn't known."""
         words = self.call.settings_words()
         if self.call.how != "run" or any(it.startswith("--schedule") for it in words):
             return 0
@@ -568,7 +621,7 @@ class View:
         return max([self.report.size, *sizes])
 
     def element(self, thing: Thing) -> advice.Element:
-        """A function that tells how each element of an array in an object gets lines of its own, as code, or nothing."""
+        """A function that gives the code by which each element of an array in an object gets its own line, or nothing."""
 
         def told(array: str) -> str:
             if self.naming.program is None:

@@ -68,10 +68,10 @@ class Back:
             raise Fault(f"{path}: {error.strerror}") from error
         except (ValueError, IndexError, AttributeError) as error:
             raise Fault(
-                f"{path}: it is no table back, which native/ writes with a trace"
+                f"{path} isn't an address map, which `predator native` writes beside its trace"
             ) from error
         if not self.program:
-            raise Fault(f"{path}: it is no table back: its first line doesn't name a program")
+            raise Fault(f"{path} isn't an address map: its first line names no program")
 
     def put(self, row: str) -> None:
         kind, _, rest = row.partition(" ")

@@ -255,8 +255,8 @@ def things_of(
 
 
 class Told(NamedTuple):
-    """A word on an object's lines: its line, its names, the object and where that begins, and how it was accessed; `useful` is what is
-    missed of it on a line of its own, and `kind` what is known of its type."""
+    """A word on an object's lines: its line, its names, the object and where that begins, and how it was accessed; `useful` are its misses
+    on a line of its own, `kind` is what is known of its type, and `owner` the thread that alone accesses it, by its name."""
 
     addr: int
     base: int
@@ -270,6 +270,7 @@ class Told(NamedTuple):
     hart: str
     useful: int | None
     kind: WordKind = WordKind(False, False)
+    owner: str = "several threads"
 
     def whole(self) -> str:
         """The name of the field that the word is of."""
@@ -304,6 +305,7 @@ def words_of(spot: Spot, naming: Naming, by_word: Misses | None = None) -> list[
             Told(
                 *(it.addr, spot.base, name, element, field, key_of(thing, naming, it.addr), begin),
                 *(it.reads, it.writes, it.hart, useful, naming.kind(it.addr, thing)),
+                *(() if it.hart == "many" else (naming.memory.owner(int(it.hart)),)),
             )
         )
     return found

@@ -103,7 +103,7 @@ class OrderFields(NamedTuple):
 
     def apply(self, lines: list[str]) -> None:
         if self.by_position(lines):
-            raise Unpatchable("its fields have values by their order")
+            raise Unpatchable("an initializer names no fields")
         own = sorted((it for group in self.groups for it in group), key=lambda it: it.begin)
         starts = [value(it.die, "decl_line", 0) for it in own]
         first = next(
@@ -182,11 +182,11 @@ def difference(name: str, old: str, new: str) -> str:
 def why_not(edits: Sequence[Edit] | None, path: Callable[[str], str | None]) -> str:
     """Why some edits can't be made, or nothing; `path` tells where a source is."""
     if edits is None:
-        return "what is to do there changes more than declarations"
+        return "its fix changes more than declarations"
     try:
         applied(edits, lambda it: text_of(path(it)))
     except Unpatchable as fault:
-        return f"its declaration can't be changed line by line ({fault})"
+        return f"its declaration can't be edited line by line ({fault})"
     return ""
 
 

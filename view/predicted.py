@@ -10,7 +10,7 @@ from reports import Block, Line, Misses, Report, Symbol
 
 # Of so many layouts the misses are counted for a first screen; each takes a pass over the trace.
 LAYOUTS = 4
-UNCOUNTED, UNALIGNED = "its misses weren't counted", "data aligned as it is can't come to lie so"
+UNCOUNTED, UNALIGNED = "its misses weren't counted", "the data's alignment rules it out"
 
 # How the kit's allocator aligns blocks.
 OF_BLOCKS = 16
@@ -113,7 +113,7 @@ def judged(
         own = counted.lines[line.base].useless if line.base in counted.lines else 0
         seen = inside([line], misses)
         if own <= seen:
-            why = "it has no more useless misses than the observed lines there"
+            why = "it adds no false sharing to that of the observed lines"
         else:
             why = "" if can_lie(line, naming) else UNALIGNED
         found.append(Foretold(line, keys, own, seen, not why, why))

@@ -31,7 +31,7 @@ def launcher() -> str:
     ):
         if it and os.path.exists(it):
             return it
-    raise Fault("there is no command predator beside this one", 127)
+    raise Fault("can't find the command predator", 127)
 
 
 class Refused(Fault):
@@ -70,7 +70,7 @@ class Predator:
             )
             if ran.stderr:
                 said += f" ({ran.stderr.decode('utf-8', 'replace').strip().rpartition(chr(10))[2].removeprefix('predator: ')})"
-            raise Refused(f"`predator {words[0]!s}` was refused: {said.removeprefix('predator: ')}")
+            raise Refused(f"`predator {words[0]!s}` failed: {said.removeprefix('predator: ')}")
         return text
 
     def direct(self) -> str:
@@ -107,7 +107,7 @@ class Predator:
             if ran.returncode != 1:
                 raise Fault(
                     ran.stderr.decode("utf-8", "replace").strip()
-                    or "the command predator doesn't answer",
+                    or "the command predator fails without a message",
                     127,
                 )
             self.known = set(

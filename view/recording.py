@@ -124,7 +124,7 @@ def recorded(call: Call) -> Iterator[None]:
         status = status_of(words)
         if not os.path.exists(trace):
             raise Fault(
-                f"`predator native` was refused: status {status}",
+                f"`predator native` failed with status {status}",
                 status if status in REFUSED[2:] else 2,
             )
         call.how, call.subject, call.words, call.own = "replay", trace, [trace, *replay], []

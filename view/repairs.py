@@ -1,4 +1,4 @@
-"""The ways in which an object may be declared otherwise, each as where its words would lie and as code."""
+"""The repairs of an object: other declarations, each as the places of its words and as code."""
 
 from typing import Callable, Iterator, NamedTuple, Sequence
 
@@ -47,12 +47,12 @@ class Repair(NamedTuple):
     def said(self) -> str:
         """What to do, in a sentence."""
         whole = (
-            ", and {} become {} in all".format(*self.sizes)
+            ", {:,} → {:,} bytes in all".format(*self.sizes)
             if self.sizes and self.sizes[0] != self.sizes[1]
             else ""
         )
         own = self.hows[: len(self.hows) - bool(self.others)]
-        return "; and ".join(["; and ".join(own) + whole, *self.hows[len(own) :]])
+        return "; ".join(["; ".join(own) + whole, *self.hows[len(own) :]])
 
 
 def at(place: Declared | None) -> str:
@@ -80,29 +80,29 @@ def moved(subject: Subject, change: Change) -> tuple[list[Part], int]:
 
 
 def aligned_alloc(subject: Subject, line: int) -> str:
-    return f", and make the blocks by `aligned_alloc({line}, ..)`" if subject.is_blocks() else ""
+    return f", allocated with `aligned_alloc({line}, ..)`" if subject.is_blocks() else ""
 
 
 def becomes(old: int, new: int, is_whole: bool) -> str:
-    """What becomes of the size of a type."""
-    told = f"{old} bytes become {new}" if old != new else f"it keeps its {old} bytes"
+    """The size of a type before and after."""
+    told = f"{old:,} → {new:,} bytes" if old != new else f"{old:,} bytes as before"
     return told if is_whole else f"{told} each"
 
 
 def own_lines(shape: Shape, line: int) -> str:
-    """How each value of a type gets lines of its own, as code: by its own struct, or by one around it where that isn't the program's."""
+    """The code that gives each value of a type its own line: its own struct, or one around it where that isn't the program's."""
     record = shape.record()
     place = users(record) if record is not None else None
     if place:
         keyword, name = spelled_record(shape)
         return f"`{keyword} {attribute(line)} {name}".rstrip() + f"`{at(place)}"
-    return f"a struct around it, `struct {attribute(line)} {WRAPPER} {{ {declaration(shape, 'value')}; }};`"
+    return f"wrap it in `struct {attribute(line)} {WRAPPER} {{ {declaration(shape, 'value')}; }};`"
 
 
 def element_apart(
     subject: Subject, array: Array, line: int
 ) -> tuple[str, Change, list[Edit] | None]:
-    """How each element of an array gets lines of its own: as code, as a change, and as edits where declarations alone change."""
+    """How each element of an array gets its own line: as code, as a change, and as edits where declarations alone change."""
     change, record, how = Change(line), array.shape.record(), own_lines(array.shape, line)
     place = users(record) if record is not None else None
     edits: list[Edit] | None = None
@@ -120,15 +120,15 @@ def element_apart(
         if not subject.is_blocks() or array.path
         else "each element"
     )
-    return f"give {of} lines of its own by {how}{aligned_alloc(subject, line)}", change, edits
+    return f"give {of} its own line: {how}{aligned_alloc(subject, line)}", change, edits
 
 
 def elements(subject: Subject, array: Array, uses: Uses, line: int) -> Repair:
-    """Each element of an array on lines of its own."""
+    """Each element of an array on its own line."""
     how, change, edits = element_apart(subject, array, line)
     parts, room = moved(subject, change)
     wide, whole = array.shape.size(), subject.size()
-    told = [f"{how}: {becomes(wide, rounded(wide, line), whole == wide)}"]
+    told = [f"{how}, {becomes(wide, rounded(wide, line), whole == wide)}"]
     return Repair(
         told,
         parts,
@@ -159,11 +159,11 @@ def neighbouring(array: Array, uses: Uses) -> Repair | None:
         )
     except Unmovable:
         return None
-    return Repair(["give neighbouring elements to one thread"], parts, 0, None, is_in_place=True)
+    return Repair(["assign neighbouring elements to one thread"], parts, 0, None, is_in_place=True)
 
 
 def bytewise(subject: Subject, uses: Uses, line: int) -> str:
-    """What to do where harts use different bytes of words, so that nothing can be tried by words."""
+    """The fix where threads use different bytes of words, so that nothing can be tried by words."""
     mixed = {it for it in subject.words() if uses.is_mixed(it)}
     if subject.shape is not None:
         for array in arrays_in(subject.shape, subject.begins()):
@@ -176,22 +176,22 @@ def bytewise(subject: Subject, uses: Uses, line: int) -> str:
                 if any((at + it.begin) // 4 * 4 in mixed for at in record.begins)
             ]
             if len(own) > 1:
-                return f"put `{attribute(line)}` behind each of {', '.join(own)}"
-    return f"give what each hart uses lines of its own, as `{attribute(line)}` makes them"
+                return f"put `{attribute(line)}` after each of {', '.join(own)}"
+    return f"give each thread's bytes their own line with `{attribute(line)}`"
 
 
-def of_whom(own: Sequence[Whose]) -> str:
-    """Whose a group is, over all the records that it lies in."""
+def of_whom(own: Sequence[Whose], owner: Callable[[int], str]) -> str:
+    """Whose a group is, over all the records that it lies in; `owner` gives a thread's name."""
     known = [it for it in own if it.kind != "none"]
     if not known:
         return "unused"
     if all(it.kind == "read" for it in known):
-        return "only read"
+        return "read-only"
     if any(it.kind == "shared" for it in known):
         writers = {hart for it in known for hart in it.harts}
-        return f"written by hart {min(writers)}" if len(writers) == 1 else "shared"
+        return f"written by {owner(min(writers))}" if len(writers) == 1 else "several threads"
     harts = {hart for it in known for hart in it.harts}
-    return f"hart {min(harts)}" if len(harts) == 1 else "a hart's own"
+    return owner(min(harts)) if len(harts) == 1 else "one thread each"
 
 
 Key = tuple[object, ...]
@@ -284,18 +284,18 @@ def fields(
     keyword, name = spelled_record(record.shape)
     place = users(record.die)
     told = [
-        f"{', '.join(it.name for it in own)} ({of_whom([one for it in own for one in found[it.name]])})"
+        f"{', '.join(it.name for it in own)} ({of_whom([one for it in own for one in found[it.name]], subject.owner)})"
         for own in groups
     ]
     firsts = [f"`{own[0].name}`" for own in groups[1:]]
-    behind = f"`{attribute(line)}` behind {', '.join(firsts[:-1])}{' and ' if len(firsts) > 1 else ''}{firsts[-1]}"
+    after = f"`{attribute(line)}` after {', '.join(firsts[:-1])}{' and ' if len(firsts) > 1 else ''}{firsts[-1]}"
     what = f"`{keyword} {name}`" if name else f"the {keyword} of {subject.name}{record.path}"
     old, new, whole = record.shape.size(), laid(record.shape, change).size, subject.size()
-    said = f"put the fields of {what}{at(place)} in this order, with {behind}: {'; '.join(told)}{aligned_alloc(subject, line)}"
+    said = f"order the fields of {what}{at(place)} as {'; '.join(told)}, with {after}{aligned_alloc(subject, line)}"
     edits: list[Edit] | None = (
         [OrderFields(place, name, groups, line)] if place and not subject.is_blocks() else None
     )
-    how = [f"{said}; {becomes(old, new, whole == old)}"]
+    how = [f"{said}, {becomes(old, new, whole == old)}"]
     return Repair(how, parts, room, edits, change, (), None if whole == old else (whole, room))
 
 
@@ -315,9 +315,10 @@ def alone(subjects: Sequence[Subject], line: int) -> Repair:
             [*edits, AlignVariable(place, it.name, line)] if edits is not None and place else None
         )
     names = ", ".join(told[:-1]) + (" and " if len(told) > 1 else "") + told[-1]
-    how = f"`{attribute(line)}` behind {'the name of each' if len(told) > 1 else 'its name'}"
+    how = f"`{attribute(line)}` after {'each name' if len(told) > 1 else 'its name'}"
+    own_line = "each its own line" if len(told) > 1 else "its own line"
     return Repair(
-        [f"give {names} lines of {'their' if len(told) > 1 else 'its'} own: {how}"],
+        [f"give {names} {own_line}: {how}"],
         in_words(parts),
         room,
         edits,
@@ -331,7 +332,7 @@ def blocks(subject: Subject, line: int) -> Repair:
     for begin, size in subject.ranges:
         parts.append(Part(begin, size, to))
         to = rounded(to + size, line)
-    said = f"let no two of these blocks share a line: `aligned_alloc({line}, ..)`, with sizes that are multiples of {line}"
+    said = f"allocate each of these blocks on its own lines: `aligned_alloc({line}, ..)` with sizes rounded up to multiples of {line}"
     return Repair([said], in_words(parts), to, None)
 
 
@@ -352,13 +353,11 @@ def arenas(subject: Subject, uses: Uses, line: int) -> Repair | None:
         parts += [Part(word, 4, to + 4 * at) for at, word in enumerate(words)]
         to = rounded(to + 4 * len(words), line)
     if subject.is_blocks() or subject.shape is not None and subject.shape.dims():
-        how = f"give each thread an arena of its own, whose beginning and size are multiples of {line}"
+        how = f"give each thread its own arena, with start and size rounded up to multiples of {line}"
     else:
-        where = " on the type of its elements" if subject.shape is None else ""
-        how = f"give each hart's words lines of their own, by `{attribute(line)}`{where}"
-    return Repair(
-        [f"harts have words of their own in {subject.name}: {how}"], in_words(parts), to, None
-    )
+        where = " on the element's type" if subject.shape is None else ""
+        how = f"give each thread's words their own line: `{attribute(line)}`{where}"
+    return Repair([how], in_words(parts), to, None)
 
 
 def joined(first: Repair, others: Sequence[Subject], line: int) -> Repair:

@@ -2,7 +2,7 @@
 
 import os
 import re
-from typing import Any, Iterable, Iterator, Literal, NamedTuple, Sequence
+from typing import Any, Callable, Iterable, Iterator, Literal, NamedTuple, Sequence
 
 from fields import NAMES_FOR, Die, Variable, name_of, size_of, sound, type_name, type_of, value
 from keys import Key, OfSymbol
@@ -79,6 +79,8 @@ class Subject:
             die,
         )
         self.neighbours: list[Subject] = []
+        # (what a thread is called)
+        self.owner: Callable[[int], str] = lambda hart: f"hart {hart}"
 
     def size(self) -> int:
         return sum(size for _, size in self.ranges)
@@ -204,6 +206,7 @@ def subject_of(view: View, thing: Thing, uses: Uses) -> Subject | None:
         return None
     if not 0 < found.size() <= LARGEST:
         return None
+    found.owner = view.naming.memory.owner
     for key, symbol in symbols_beside(view, thing).items():
         other = Thing(key, symbol)
         other.name = view.naming.key_name(key, symbol)

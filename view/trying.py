@@ -279,7 +279,7 @@ def chosen(trial: Trial, found: Tried, subject: Subject, uses: Uses, line: int) 
     repairs = sound(functools.partial(repairs_of, subject, uses, line), none)
     if found.mixed():
         found.instead = sound(
-            functools.partial(bytewise, subject, uses, line), "give each a line of its own"
+            functools.partial(bytewise, subject, uses, line), "give each its own line"
         )
     thing = found.thing
     useless = (
@@ -351,5 +351,5 @@ def note_together(view: View, found: Sequence[Tried], counted: Counted | None) -
     """Notes what all repairs come to that are named, where they are several."""
     if counted is not None:
         view.notes.append(
-            f"all that is to do, done together{found[0].there()}: {found[0].before.beside(counted)}"
+            f"all fixes together{found[0].there()}: {found[0].before.beside(counted)}"
         )
