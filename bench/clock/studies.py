@@ -2,7 +2,7 @@
 """The studies that are kept, beside each other.
 
 usage: bench/clock/studies.py                prints the tables of docs/STUDIES.md
-       bench/clock/studies.py --renew        puts them into both
+       bench/clock/studies.py --renew        puts them there
        bench/clock/studies.py --html FILE    writes a page with the points of all, which wants python3-jinja2
 
 A study is kept as results/NAME.tsv, which is the study.tsv that run.py writes."""
