@@ -36,6 +36,7 @@ declare_parts() {
     part sanitizers daily 1 1 30 "gcc python3" native/sanitize.sh
     part imports daily 1 1 3 python3 tools/imports.py
     part edits quick 1 1 2 python3 tools/edits.py --check --planted
+    part test_command daily 1 2 20 "gzip setpriv" tools/try_test.sh
     part names quick 1 1 2 python3 tools/documents.py
     part usage daily 1 1 2 python3 tools/commands.py
     part program daily 1 1 12 "program python3" guest/try.sh program
