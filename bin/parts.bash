@@ -46,13 +46,13 @@ declare_parts() {
     part documents daily 1 2 18 "program python3" guest/check_docs.py
     part meter daily all 2 14 "program python3" python3 tools/meter.py "$program"
     part memory daily 1 1 20 "program python3 cc" guest/refuse_memory.py
-    part sizes daily 4 1 20 "program python3" tools/sizes.py "$program" "${long[@]}"
-    part edges daily 4 2 60 "program python3 cc" python3 tools/edges/main.py "$program" --planted "${long[@]}"
-    part messages quick 4 1 30 "program python3" tools/messages.py "$program" --planted
-    part costs daily 4 1 30 "program python3 valgrind" tools/costs.py "$program"
+    part sizes daily 2 1 20 "program python3" tools/sizes.py "$program" "${long[@]}"
+    part edges daily 1 2 60 "program python3 cc" python3 tools/edges/main.py "$program" --planted "${long[@]}"
+    part messages quick 1 1 4 "program python3" tools/messages.py "$program" --planted
+    part costs daily 2 2 14 "program python3 valgrind" tools/costs.py "$program"
     part reports daily 1 1 20 "program python3" tools/judge_report.py "$program" "$reports"
     part judges daily 1 1 60 "program python3" tools/judge_traces.py "$program" "$judges"
-    part growth daily 4 1 60 "program python3" python3 tools/growth.py "$program" "${all[@]}"
+    part growth daily 3 2 60 "program python3" python3 tools/growth.py "$program" "${all[@]}"
     part kit daily 1 1 30 "$kit" guest/try.sh kit
     part builds daily 1 1 60 "python3 clang ld.lld llvm-readelf llvm-objcopy $picolibc" env PREDATOR="$program" guest/kit.sh
     part c_library daily 1 1 30 "$kit cc $picolibc" guest/try.sh c_library
