@@ -185,6 +185,16 @@ RT
     call 1 checkout/bin/test --proved
 }
 
+# README names the packages that bin/test looks for.
+try_packages() {
+    local named
+    # shellcheck source=bin/parts.bash
+    named=$(. "$top/bin/parts.bash" && echo "${packages[*]}")
+    same "the packages in README" "$named" \
+        "$(sed -n '/^    apt-get install clang/,/^$/p' "$top/README.md" | tr -d '\\\n' | sed 's/ *apt-get install *//' | tr -s ' ')"
+}
+
+try_packages
 try_runs
 try_failures
 stopped INT 130 Ctrl-C
