@@ -10,7 +10,7 @@ import sys
 import tempfile
 from typing import IO, Iterable, Sequence
 
-sys.path.insert(0, os.path.join(os.path.dirname(os.path.abspath(__file__)), ".."))
+sys.path.insert(0, os.path.dirname(os.path.dirname(os.path.abspath(__file__))))
 
 from campaign import result_files  # noqa: E402
 from campaign.block_numbers import named_blocks, number_blocks  # noqa: E402
@@ -135,7 +135,9 @@ class Batch:
         """The record of a run: the results that are known of it, and the others."""
         record = self.empty_record(seed)
         results = known["results"] if known else {}
-        record["results"] = {call: results[call] for call in ["run", *self.calls] if call in results}
+        record["results"] = {
+            call: results[call] for call in ["run", *self.calls] if call in results
+        }
         record["blocks"] = known["blocks"] if known else {}
         missing = [call for call in self.calls if call not in record["results"]]
         if "run" in record["results"] and not missing:

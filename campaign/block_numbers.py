@@ -27,7 +27,7 @@ def number_blocks(trace: str, blocks: set[tuple[int, int]]) -> dict[str, int]:
     with open(trace, "rb") as file, mmap.mmap(file.fileno(), 0, access=mmap.ACCESS_READ) as data:
         for record in scan_records(data):
             if isinstance(record, Accesses):
-                born += record.count
+                born += record.number
             elif isinstance(record, Allocation):
                 made[record.sites] += 1
                 if (record.addr, born) in blocks:

@@ -62,7 +62,9 @@ def layout_text(key: RowKey) -> str:
     """The lines that a row is of."""
     size, shift = key.layout
     at = f" at offset {shift}" if shift else ""
-    return f"{size}-byte lines{at}" + ("" if key.kind == "observed" else f", predicted ({key.kind})")
+    return f"{size}-byte lines{at}" + (
+        "" if key.kind == "observed" else f", predicted ({key.kind})"
+    )
 
 
 def list_bad_outcomes(campaign: Record, observations: Observations) -> Iterator[Given]:
@@ -85,7 +87,9 @@ def list_failures(
     """Everything that went wrong, as far as there is room."""
     found = list(list_bad_outcomes(campaign, observations))
     for call in observations.failed:
-        text = f"a call failed three times with status {call['status']}: {short_name(call['message'])}"
+        text = (
+            f"a call failed three times with status {call['status']}: {short_name(call['message'])}"
+        )
         found.append({"text": text, "command": call["command"]})
     found += [{"text": f"job {name} has no result", "command": ""} for name in missing]
     more = len(found) - MAX_FAILURES
@@ -102,7 +106,9 @@ def page_row(campaign: Record, shown: PageRow, seeds: Sequence[int]) -> Given:
     name, layout = short_name(shown.name), layout_text(shown.key)
     numbers = f"{spread_text(summary.false_sharing)} false-sharing misses"
     numbers += f", {spread_text(summary.invalidations)} invalidations (min / median / max)"
-    alt = f"{name}, {layout}: {numbers}; listed in {summary.listed:,} of {plural(len(seeds), 'seed')}"
+    alt = (
+        f"{name}, {layout}: {numbers}; listed in {summary.listed:,} of {plural(len(seeds), 'seed')}"
+    )
     return {
         "object": name,
         "lines": shown.row.lines,
@@ -199,7 +205,9 @@ def page_title(campaign: Record, observations: Observations, found: Sequence[Pag
         worst = f"{misses:,} false-sharing miss" + ("" if misses == 1 else "es")
     else:
         worst = plural(row.summary.invalidations.max or 0, "invalidation")
-    state = "is contended" + ("" if key.kind == "observed" else f" on a predicted line ({key.kind})")
+    state = "is contended" + (
+        "" if key.kind == "observed" else f" on a predicted line ({key.kind})"
+    )
     text = f"{short_name(name)} of {group_name(campaign, key.group)} {state}"
     text += f" in {row.summary.listed:,} of {plural(seeds, 'seed')}"
     text += f"; worst is seed {row.summary.worst_seed}, with {worst}"

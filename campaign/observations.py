@@ -129,9 +129,9 @@ class Observations:
     """The numbers of some batches: of each line by its group, layout, kind and key, of each pair of instructions, and of each run."""
 
     def __init__(self) -> None:
-        self.lines: dict[tuple[RowKey, LineKey], tuple[Counter[ObjectOffset], list[SeedCounts]]] = (
-            {}
-        )
+        self.lines: dict[
+            tuple[RowKey, LineKey], tuple[Counter[ObjectOffset], list[SeedCounts]]
+        ] = {}
         self.pairs: dict[tuple[int, PairKey], list[PairCounts]] = {}
         self.runs: list[RunSummary] = []
         self.failed: list[Record] = []

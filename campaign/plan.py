@@ -59,7 +59,7 @@ class PlanLines:
             return found
         if isinstance(node, yaml.SequenceNode):
             return [self.read_value(it, (*where, at)) for at, it in enumerate(node.value)]
-        return yaml.SafeLoader("").construct_object(node)
+        return yaml.SafeLoader("").construct_object(node)  # type: ignore[no-untyped-call]
 
 
 def read_plan(path: str) -> tuple[Record, PlanLines]:
@@ -67,7 +67,7 @@ def read_plan(path: str) -> tuple[Record, PlanLines]:
     lines = PlanLines(path)
     try:
         with open(path, encoding="utf-8") as file:
-            node = yaml.compose(file, Loader=yaml.SafeLoader)
+            node = yaml.compose(file, Loader=yaml.SafeLoader)  # type: ignore[no-untyped-call]
     except OSError as error:
         raise Fault(f"{path}: {error.strerror}") from error
     except UnicodeDecodeError as error:
@@ -101,7 +101,8 @@ def deepest_error(error: Error) -> Error:
 
 def unknown_key(error: Error) -> str:
     """The first key that a part of a plan can't have."""
-    return next(it for it in error.instance if it not in error.schema.get("properties", {}))
+    known = error.schema.get("properties", {})
+    return str(next(key for key in error.instance if key not in known))
 
 
 def error_path(error: Error) -> list[str | int]:
@@ -127,9 +128,7 @@ def error_text(error: Error) -> str:
         missing = next(it for it in error.validator_value if it not in error.instance)
         return f"{subject} lacks the key '{missing}'"
     if "propertyNames" in error.schema_path:
-        return (
-            f"'{error.instance}' is no name for a program: use letters, digits, '.', '_' and '-'"
-        )
+        return f"'{error.instance}' is no name for a program: use letters, digits, '.', '_' and '-'"
     value = json.dumps(error.instance)
     if error.validator == "enum":
         choices = ", ".join(str(it) for it in error.validator_value)

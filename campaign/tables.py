@@ -7,10 +7,15 @@ import sys
 import tempfile
 from typing import Any, Iterable, Mapping, Sequence
 
-sys.path.insert(0, os.path.join(os.path.dirname(os.path.abspath(__file__)), ".."))
+sys.path.insert(0, os.path.dirname(os.path.dirname(os.path.abspath(__file__))))
 
 from campaign import result_files  # noqa: E402
-from campaign.campaign_file import Record, read_campaign, seeds_of_batch, settings_name  # noqa: E402
+from campaign.campaign_file import (  # noqa: E402
+    Record,
+    read_campaign,
+    seeds_of_batch,
+    settings_name,
+)  # noqa: E402
 from campaign.observations import (  # noqa: E402
     LineRow,
     Number,
@@ -39,10 +44,14 @@ FALSE_SHARING = ("false min", "false median", "false max")
 NUMBERS = ("seeds", "listed", *INVALIDATIONS, "with misses", *FALSE_SHARING, "worst seed")
 LINE_HEADS = (*PLACE, "kind", "object", "offset", *NUMBERS, "other objects")
 OBJECT_HEADS = (*PLACE, "kind", "object", "lines", *NUMBERS)
-PAIR_HEADS = (*PLACE, "object", "offset", "victim", "invalidator", "seeds", "in seeds")
-PAIR_HEADS += (*INVALIDATIONS, "same word min", "same word median", "same word max", "worst seed")
-RUN_HEADS = ("program", "settings", "seed", "outcome", "steps", "accesses", "lines")
-RUN_HEADS += ("cold", "true", "false")
+PAIR_HEADS = (
+    *(*PLACE, "object", "offset", "victim", "invalidator", "seeds", "in seeds"),
+    *(*INVALIDATIONS, "same word min", "same word median", "same word max", "worst seed"),
+)
+RUN_HEADS = (
+    *("program", "settings", "seed", "outcome", "steps", "accesses", "lines"),
+    *("cold", "true", "false"),
+)
 # Batches from which on processes share the reading.
 MIN_PARALLEL_BATCHES = 4
 
@@ -243,7 +252,9 @@ class Tables:
                 if of == at
             ],
             "sweeps": [sweep_json(call, own) for (of, call), own in sweeps if of == at],
-            "caches": [caches_json(call, own) for (of, call), own in sorted(caches.items()) if of == at],
+            "caches": [
+                caches_json(call, own) for (of, call), own in sorted(caches.items()) if of == at
+            ],
         }
 
     def rows(self, rows_of: Mapping[RowKey, Sequence[LineRow | ObjectRow]]) -> Iterable[Cells]:

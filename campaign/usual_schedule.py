@@ -1,196 +1,197 @@
 #!/usr/bin/python3
-"""Sets what the usual schedule lists beside what the seeds list.
+"""A comparison of the usual schedule with the seeds of a campaign.
 
-usage: campaign/usual.py [--lines | --renew] FOLDER     the folder of a campaign whose seeds have 0, the usual schedule, among them
+The folder is that of a campaign whose seeds include 0, the usual schedule. Each of three tables has rows for every program and settings:
+- how many objects the usual schedule lists, and how many of these every seed lists, and fewer than half of the seeds; how many objects
+  only other seeds list, and how many of these at least half of the seeds list, and at most a tenth;
+- the object with the greatest median of invalidations over the seeds;
+- the objects in which the two differ: those of the usual schedule that fewer than half of the seeds list, and those that only seeds
+  list."""
 
-Prints, for each program and settings, how many objects the usual schedule lists, by the lines that it observes, and of these how many are
-listed in every seed and in fewer than a half; then how many objects it doesn't list and some seed does, and of these how many are listed in
-a half of the seeds or more, and in one of ten or fewer. Then it names the object
-with the greatest count in most seeds, and the objects that set the two apart: those of the usual schedule that
-fewer than a half of the seeds list, and those that seeds alone list; each with its count there, in how many seeds it is listed, its \
-counts in
-them, and the seed of the greatest. --lines takes each line by itself, and not all of an
-object as one. --renew puts the numbers of lines, and the objects, into the tables of docs/STUDIES.md."""
-
+import argparse
 import os
 import sys
 from collections import Counter
+from dataclasses import dataclass
 from typing import Any, Iterable, Mapping
 
 HERE = os.path.dirname(os.path.abspath(__file__))
-sys.path[:0] = [HERE, os.path.join(HERE, "..")]
+sys.path.insert(0, os.path.dirname(HERE))
 
-from folder import Record, campaign_of  # noqa: E402
-from table import Part, family, middle, own_name, read, settings_of  # noqa: E402
-
-HEADS = (
-    "program",
-    "settings",
-    "seeds",
-    "usual",
-    "in every seed",
-    "in fewer than half",
-    "others",
-    "in half or more",
-    "in a tenth or fewer",
+from campaign.campaign_file import Record, read_campaign, settings_name  # noqa: E402
+from campaign.observations import (  # noqa: E402
+    Observations,
+    line_object,
+    object_family,
+    rank_objects,
+    spread,
 )
-APART = (
-    "program",
-    "settings",
-    "object",
-    "usual count",
-    "seeds",
-    "least",
-    "middle",
-    "greatest",
-    "worst seed",
+from campaign.tables import cell_text, read_results  # noqa: E402
+
+USUAL_SEED = 0
+COUNT_HEADS = (
+    *("program", "settings", "seeds", "usual", "in every seed", "in fewer than half"),
+    *("others", "in half or more", "in a tenth or fewer"),
+)
+OBJECT_HEADS = (
+    *("program", "settings", "object", "usual inval", "seeds"),
+    *("inval min", "inval median", "inval max", "worst seed"),
 )
 
-
-# Of each object its counts by their seeds.
+# The invalidations of each object, by its seeds.
 Objects = dict[str, Counter[int]]
 Row = tuple[Any, ...]
 
 
-def listed(part: Part, groups: Iterable[int], by_lines: bool) -> dict[int, Objects]:
-    """Of each group the counts of each object, or of each line, in each seed that lists it under the run's own lines."""
-    found: dict[int, Objects] = {at: {} for at in groups}
-    for (group, _, kind, key), (names, seen) in part.lines.items():
-        counts = {seed: count for seed, count, _ in seen if count is not None}
-        if kind == "observed" and counts:
-            name, offset = own_name(key, sorted(names, key=lambda it: (-names[it], it)))
-            own = found[group].setdefault(
-                f"{name} {offset:+}" if by_lines else family(name), Counter()
-            )
+@dataclass(frozen=True)
+class Comparison:
+    """The rows of the three tables, each with its program and settings first."""
+
+    counts: list[Row]
+    worst: list[Row]
+    different: list[Row]
+
+
+def find_objects(observations: Observations, groups: int, by_lines: bool) -> dict[int, Objects]:
+    """The objects, or the lines, of each group that a seed lists under the run's own layout."""
+    found: dict[int, Objects] = {group: {} for group in range(groups)}
+    for (row_key, line_key), (shares, seeds) in observations.lines.items():
+        counts = {own.seed: own.invalidations for own in seeds if own.invalidations is not None}
+        if row_key.kind == "observed" and counts:
+            name, offset = line_object(line_key, rank_objects(shares))
+            label = f"{name} {offset:+}" if by_lines else object_family(name)
+            own_counts = found[row_key.group].setdefault(label, Counter())
             for seed, count in counts.items():
-                own[seed] = max(own[seed], count)
+                own_counts[seed] = max(own_counts[seed], count)
     return found
 
 
-def drawn_of(counts: Mapping[int, int]) -> dict[int, int]:
-    return {seed: count for seed, count in counts.items() if seed}
+def drawn_seeds(counts: Mapping[int, int]) -> dict[int, int]:
+    """The invalidations in all seeds but the usual schedule."""
+    return {seed: count for seed, count in counts.items() if seed != USUAL_SEED}
 
 
-def told(name: str, counts: Mapping[int, int]) -> Row:
-    """An object's count in the usual schedule, in how many seeds it is listed, its counts there, and the seed of the greatest."""
-    seeds = drawn_of(counts)
-    worst = max(seeds, key=lambda it: (seeds[it], -it)) if seeds else "-"
-    return (
-        name,
-        counts.get(0, "-"),
-        len(seeds),
-        *("-" if it is None else it for it in middle(seeds.values())),
-        worst,
-    )
+def object_row(name: str, counts: Mapping[int, int]) -> Row:
+    """The cells of an object, under OBJECT_HEADS."""
+    seeds = drawn_seeds(counts)
+    worst = max(seeds, key=lambda seed: (seeds[seed], -seed)) if seeds else None
+    return (name, counts.get(USUAL_SEED), len(seeds), *spread(seeds.values()), worst)
 
 
-def worst(objects: Objects) -> str:
-    """The object that is the worst one by the middle of its counts."""
-    return max(objects, key=lambda it: (middle(drawn_of(objects[it]).values())[1] or 0, it))
+def worst_object(objects: Objects) -> str:
+    """The object with the greatest median of its invalidations."""
+
+    def rank(name: str) -> tuple[int, str]:
+        return spread(drawn_seeds(objects[name]).values()).median or 0, name
+
+    return max(objects, key=rank)
 
 
-def apart(objects: Objects, drawn: int) -> list[str]:
-    """The objects that the usual schedule lists and fewer than a half of the seeds do, and those that seeds alone list."""
+def different_objects(objects: Objects, drawn: int) -> list[str]:
+    """The objects that the usual schedule lists and fewer than half of the seeds do, and those that it doesn't list."""
     return [
         name
         for name, counts in sorted(objects.items())
-        if 0 not in counts or 2 * (len(counts) - 1) < drawn
+        if USUAL_SEED not in counts or 2 * (len(counts) - 1) < drawn
     ]
 
 
-def found_in(
-    campaign: Record, part: Part, by_lines: bool
-) -> tuple[list[Row], list[Row], list[Row]]:
-    """The rows of the numbers, of the worst objects, and of those that set the schedules apart, each behind its program and settings."""
-    runs = Counter(it[0] for it in part.runs)
-    numbers: list[Row] = []
-    first: list[Row] = []
-    rows: list[Row] = []
-    for at, objects in listed(part, range(len(campaign["groups"])), by_lines).items():
-        group = campaign["groups"][at]
-        head, drawn = (group["program"], settings_of(group)), runs[at] - 1
-        usual = [len(counts) - 1 for counts in objects.values() if 0 in counts]
-        others = [len(counts) for counts in objects.values() if 0 not in counts]
-        row = [len(usual), sum(it == drawn for it in usual), sum(2 * it < drawn for it in usual)]
-        row += [
-            len(others),
-            sum(2 * it >= drawn for it in others),
-            sum(10 * it <= drawn for it in others),
-        ]
-        numbers.append((*head, drawn, *row))
-        first += [(*head, *told(it, objects[it])) for it in ([worst(objects)] if objects else [])]
-        rows += [(*head, *told(it, objects[it])) for it in apart(objects, drawn)]
-    return numbers, first, rows
+def count_row(objects: Objects, drawn: int) -> Row:
+    """The numbers of objects, under COUNT_HEADS."""
+    usual = [len(counts) - 1 for counts in objects.values() if USUAL_SEED in counts]
+    others = [len(counts) for counts in objects.values() if USUAL_SEED not in counts]
+    return (
+        len(usual),
+        sum(seeds == drawn for seeds in usual),
+        sum(2 * seeds < drawn for seeds in usual),
+        len(others),
+        sum(2 * seeds >= drawn for seeds in others),
+        sum(10 * seeds <= drawn for seeds in others),
+    )
 
 
-def folded(rows: Iterable[Row]) -> list[Row]:
-    """Rows of a program that differ by their quantum alone as one."""
+def compare_schedules(campaign: Record, observations: Observations, by_lines: bool) -> Comparison:
+    runs = observations.count_runs()
+    comparison = Comparison([], [], [])
+    found = find_objects(observations, len(campaign["groups"]), by_lines)
+    for group, objects in found.items():
+        own = campaign["groups"][group]
+        head, drawn = (own["program"], settings_name(own)), runs[group] - 1
+        comparison.counts.append((*head, drawn, *count_row(objects, drawn)))
+        for name in [worst_object(objects)] if objects else []:
+            comparison.worst.append((*head, *object_row(name, objects[name])))
+        for name in different_objects(objects, drawn):
+            comparison.different.append((*head, *object_row(name, objects[name])))
+    return comparison
+
+
+def fold_quanta(rows: Iterable[Row]) -> list[Row]:
+    """Rows of a program that differ by their quantum alone, as one row."""
     found: dict[Row, list[str]] = {}
     for name, quantum, *rest in rows:
         found.setdefault((name, *rest), []).append(quantum)
     return [(name, ", ".join(own), *rest) for (name, *rest), own in found.items()]
 
 
-def renew_page(campaign: Record, part: Part) -> None:
+def renew_document(campaign: Record, observations: Observations) -> None:
+    """Puts the numbers of lines, and the objects, into the tables of docs/STUDIES.md."""
+    # (only here, since a campaign elsewhere has no page of studies)
     sys.path.append(os.path.join(HERE, "..", "guest", "studies"))
-    import report  # (only here, since a campaign elsewhere has no page of studies)
+    import report
 
-    def of_quantum(row: Row) -> Row:
-        return row[0], dict(it.split("=") for it in row[1].split(","))["quantum"], *row[2:]
+    def with_quantum(row: Row) -> Row:
+        settings = dict(setting.split("=") for setting in row[1].split(","))
+        return row[0], settings["quantum"], *(cell_text(cell) for cell in row[2:])
 
-    numbers = found_in(campaign, part, True)[0]
-    _, first, rows = found_in(campaign, part, False)
-    heads = [
+    by_lines = compare_schedules(campaign, observations, True)
+    by_objects = compare_schedules(campaign, observations, False)
+    numbers = (
         "Program",
         "`quantum`",
         "Seeds",
         "Usual",
-        "in every seed",
-        "in fewer than half",
+        *COUNT_HEADS[4:6],
         "Others",
-        "in half or more",
-        "in a tenth or fewer",
-    ]
-    parts = {"usual": report.table(heads, folded(map(of_quantum, numbers)))}
-    heads = [
-        "Program",
-        "`quantum`",
-        "Object",
-        "Usual count",
-        "Seeds",
-        "least",
-        "middle",
-        "greatest",
-        "Seed of the greatest",
-    ]
-    for name, found in (("worst", first), ("apart", rows)):
-        named = [(*it[:2], f"`{it[2]}`", *it[3:]) for it in map(of_quantum, found)]
-        parts[name] = report.table(heads, named)
+        *COUNT_HEADS[7:],
+    )
+    parts = {"usual": report.table(numbers, fold_quanta(map(with_quantum, by_lines.counts)))}
+    objects = ("Program", "`quantum`", "Object", "Usual invalidations", "Seeds")
+    for name, rows in (("worst", by_objects.worst), ("apart", by_objects.different)):
+        named = [(*row[:2], f"`{row[2]}`", *row[3:]) for row in map(with_quantum, rows)]
+        parts[name] = report.table((*objects, "min", "median", "max", "Worst seed"), named)
     report.renew(parts)
 
 
-def main(words: list[str]) -> int:
-    by_lines, is_page, names = (
-        "--lines" in words,
-        "--renew" in words,
-        [it for it in words if it not in ("--lines", "--renew")],
+def main() -> None:
+    parser = argparse.ArgumentParser(
+        description=__doc__, formatter_class=argparse.RawDescriptionHelpFormatter
     )
-    if len(names) != 1 or names[0].startswith("-"):
-        print(__doc__)
-        return 0 if names in (["-h"], ["--help"]) else 1
-    os.chdir(names[0])
-    campaign = campaign_of(".")
-    part, _ = read(campaign)
-    if is_page:
-        renew_page(campaign, part)
-        return 0
-    for heads, rows in zip((HEADS, APART, APART), found_in(campaign, part, by_lines)):
-        if heads is APART:
+    parser.add_argument("folder", help="the folder of the campaign")
+    parser.add_argument(
+        "--lines", action="store_true", help="compare each line of an object by itself"
+    )
+    parser.add_argument(
+        "--renew", action="store_true", help="write the tables into docs/STUDIES.md"
+    )
+    options = parser.parse_args()
+    os.chdir(options.folder)
+    campaign = read_campaign(".")
+    observations, _ = read_results(campaign)
+    if options.renew:
+        renew_document(campaign, observations)
+        return
+    found = compare_schedules(campaign, observations, options.lines)
+    tables = (
+        (COUNT_HEADS, found.counts),
+        (OBJECT_HEADS, found.worst),
+        (OBJECT_HEADS, found.different),
+    )
+    for at, (heads, rows) in enumerate(tables):
+        if at:
             print()
-        for it in (heads, *rows):
-            print(*it, sep="\t")
-    return 0
+        for row in (heads, *rows):
+            print(*(cell_text(cell) for cell in row), sep="\t")
 
 
 if __name__ == "__main__":
-    sys.exit(main(sys.argv[1:]))
+    main()
