@@ -1,7 +1,9 @@
-"""One job of a campaign: batch.py FOLDER NAME, as the workflow calls it, makes the runs of a batch and counts their traces.
+"""One job of a campaign: batch.py FOLDER NAME, as the workflow calls it, makes the runs of a batch and counts
+their traces.
 
-Results that other files have of the same runs are taken over. Each run goes into a journal as soon as it is done, so that a job that was
-killed goes on after it. A call that fails is tried twice more, and then noted as failed; the batch goes on."""
+Results that other files have of the same runs are taken over. Each run goes into a journal as soon as it is
+done, so that a job that was killed goes on after it. A call that fails is tried twice more, and then noted as
+failed; the batch goes on."""
 
 import fcntl
 import os
@@ -39,8 +41,8 @@ class CallFailed(Exception):
 
 
 class Caller:
-    """Calls of predator. Its texts go through two files, since a short run takes a third longer with pipes. The output of the program
-    that it runs is lost."""
+    """Calls of predator. Its texts go through two files, since a short run takes a third longer with pipes.
+    The output of the program that it runs is lost."""
 
     def __init__(self, predator: str, folder: str) -> None:
         self.predator = predator

@@ -1,4 +1,5 @@
-"""The numbers of heap blocks: of all blocks that the same call sites allocate in a run, a block's place in the order of allocation."""
+"""The numbers of heap blocks: of all blocks that the same call sites allocate in a run, a block's place in
+the order of allocation."""
 
 import mmap
 import re

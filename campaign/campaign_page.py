@@ -126,7 +126,8 @@ def page_row(campaign: Record, shown: PageRow, seeds: Sequence[int]) -> Given:
 
 
 def side_by_side(campaign: Record, found: Sequence[PageRow]) -> Given:
-    """The greatest numbers of each object, with bars: a row for each program, and a column for each of the settings."""
+    """The greatest numbers of each object, with bars: a row for each program, and a column for each of the
+    settings."""
     groups = {
         (group["program"], settings_name(group)): at for at, group in enumerate(campaign["groups"])
     }
@@ -146,8 +147,8 @@ def side_by_side(campaign: Record, found: Sequence[PageRow]) -> Given:
 def compare_groups(
     own: Mapping[int, PageRow], groups: Mapping[tuple[str, str], int], settings: Sequence[str]
 ) -> Given:
-    """One object: its programs, those that don't have it, and its cells. Its bars have one scale, and are of false-sharing misses where
-    these are known."""
+    """One object: its programs, those that don't have it, and its cells. Its bars have one scale, and are of
+    false-sharing misses where these are known."""
     first = next(iter(own.values()))
     has_misses = any(row.row.summary.false_sharing.max is not None for row in own.values())
     most = max(bar_number(row.row, has_misses) for row in own.values())

@@ -11,7 +11,8 @@ ROW = re.compile(
 
 
 class PairCount(NamedTuple):
-    """How often the second of two instructions invalidates the first one's copy, and how often over the same word."""
+    """How often the second of two instructions invalidates the first one's copy, and how often over the same
+    word."""
 
     victim: str
     invalidator: str

@@ -31,13 +31,16 @@ if TYPE_CHECKING:
     from campaign.plan import Check
 
 
-USAGE = "usage: predator campaign PLAN [--to DIR] [--profile P] [--cores N] [--html F] [--check] [-- SNAKEMAKE-OPTIONS]"
+USAGE = """\
+usage: predator campaign PLAN [--to DIR] [--profile P] [--cores N] [--html F] [--check]
+                              [-- OPTIONS-OF-SNAKEMAKE]"""
 HELP = f"""{USAGE}
 
-Runs the programs of a plan under each of its settings and seeds, counts the traces, and writes tables. A row is a line, named by its
-object: in how many seeds it is contended, the least, median and greatest number of its invalidations and false-sharing misses, and the
-worst seed. Snakemake distributes the work over this machine's processors or a cluster. A call that was killed continues where it
-stopped. docs/CAMPAIGNS.md has more.
+Runs the programs of a plan under each of its settings and seeds, counts the traces, and writes
+tables. A row is a line, named by its object: in how many seeds it is contended, the least, median
+and greatest number of its invalidations and false-sharing misses, and the worst seed. Snakemake
+distributes the work over this machine's processors or a cluster. A call that was killed continues
+where it stopped. docs/CAMPAIGNS.md has more.
 
 Options:
   --to DIR      write the results to DIR (default: PLAN without its extension, plus `.campaign`)
@@ -47,8 +50,9 @@ Options:
   --check       check the plan, print how many runs and jobs it makes, and stop
   --help, -h    print this page
 
-Status: 0 everything was made; 1 something failed: standard error has its command, and the tables have the rest; 2 refused: standard
-error has the reason, with the plan's line; 127 a package or the program is missing."""
+Status: 0 everything was made; 1 something failed: standard error has its command, and the tables
+have the rest; 2 refused: standard error has the reason, with the plan's line; 127 a package or the
+program is missing."""
 PACKAGES = "apt-get install snakemake"
 PROFILES = os.path.join(HERE, "profiles")
 MAX_LISTED_FAILURES = 20
@@ -112,7 +116,8 @@ class Call:
             raise Fault(f"'--cores' must be a number from 1 on, not '{self.cores}'")
 
     def command(self) -> list[str]:
-        """The command of Snakemake. A result that is there is complete, and this call holds the lock of the folder itself."""
+        """The command of Snakemake. A result that is there is complete, and this call holds the lock of the
+        folder itself."""
         words = ["snakemake", "--snakefile", os.path.join(HERE, "Snakefile")]
         words += ["--nolock", "--ignore-incomplete", "--rerun-triggers", "mtime"]
         words += ["--keep-going", "--scheduler", "greedy", "--directory", self.folder]
@@ -170,7 +175,8 @@ def checker_of(predator: str) -> "Check":
 
 
 def lock_folder(folder: str) -> int:
-    """The lock of a folder, which this call and its Snakemake hold until both have ended, however they end."""
+    """The lock of a folder, which this call and its Snakemake hold until both have ended, however they
+    end."""
     try:
         os.makedirs(folder, exist_ok=True)
         lock = os.open(os.path.join(folder, "lock"), os.O_RDWR | os.O_CREAT, 0o666)
@@ -184,8 +190,8 @@ def lock_folder(folder: str) -> int:
 
 
 def prepare_folder(folder: str, campaign: Record) -> None:
-    """Writes campaign.json unless it is there already, removes tables of an older format, and renames batches in which a call had failed,
-    so that all of these are made again."""
+    """Writes campaign.json unless it is there already, removes tables of an older format, and renames batches
+    in which a call had failed, so that all of these are made again."""
     path, text = os.path.join(folder, CAMPAIGN), campaign_text(campaign)
     try:
         with open(path, encoding="utf-8") as file:

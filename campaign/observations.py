@@ -1,4 +1,5 @@
-"""The numbers of lines, objects and pairs of instructions over the seeds: the least, the median and the greatest of each.
+"""The numbers of lines, objects and pairs of instructions over the seeds: the least, the median and the
+greatest of each.
 
 Every number is one that predator printed, or says in how many seeds it printed one."""
 
@@ -126,7 +127,8 @@ class NamedLine(NamedTuple):
 
 
 class Observations:
-    """The numbers of some batches: of each line by its group, layout, kind and key, of each pair of instructions, and of each run."""
+    """The numbers of some batches: of each line by its group, layout, kind and key, of each pair of
+    instructions, and of each run."""
 
     def __init__(self) -> None:
         self.lines: dict[
@@ -219,7 +221,8 @@ def summarize_run(group: int, run: RunResults) -> RunSummary:
 
 
 def spread(values: Iterable[Number]) -> Spread:
-    """The least, the median and the greatest of some numbers; of two in the middle the lesser is the median."""
+    """The least, the median and the greatest of some numbers; of two in the middle the lesser is the
+    median."""
     known = sorted(value for value in values if value is not None)
     return (
         Spread(known[0], known[(len(known) - 1) // 2], known[-1])
@@ -229,7 +232,8 @@ def spread(values: Iterable[Number]) -> Spread:
 
 
 def worst_seed(seeds: Iterable[SeedCounts]) -> int:
-    """The seed with most false-sharing misses; of several the one with most invalidations, then the least seed."""
+    """The seed with most false-sharing misses; of several the one with most invalidations, then the least
+    seed."""
 
     def rank(counts: SeedCounts) -> tuple[int, int, int]:
         misses, total = counts.false_sharing, counts.invalidations
@@ -280,7 +284,8 @@ def object_rows(observations: Observations) -> dict[RowKey, list[ObjectRow]]:
 
 
 def name_lines(observations: Observations) -> Iterator[NamedLine]:
-    """The lines of the tables: a line that no seed lists, and that has no false-sharing miss in any, is left out."""
+    """The lines of the tables: a line that no seed lists, and that has no false-sharing miss in any, is left
+    out."""
     for (row_key, line_key), (names, seeds) in observations.lines.items():
         if any(it.invalidations or it.false_sharing for it in seeds):
             ranked = rank_objects(names)
@@ -321,7 +326,8 @@ def group_objects(observations: Observations) -> dict[RowKey, dict[str, ObjectFa
 
 
 def pair_rows(observations: Observations) -> dict[tuple[int, Layout], list[PairRow]]:
-    """The pairs of instructions of each group and layout: those first that invalidate a line most often in some seed."""
+    """The pairs of instructions of each group and layout: those first that invalidate a line most often in
+    some seed."""
     names = {
         (row_key.group, row_key.layout, line_key): line_object(line_key, rank_objects(shares))
         for (row_key, line_key), (shares, _) in observations.lines.items()
@@ -353,7 +359,8 @@ def pair_rank(row: PairRow) -> tuple[int, str, int, str, str]:
 
 
 def line_object(key: LineKey, ranked: Sequence[ObjectOffset]) -> ObjectOffset:
-    """The object that a line is listed under: the block of its key, or else the object with most of the accesses."""
+    """The object that a line is listed under: the block of its key, or else the object with most of the
+    accesses."""
     if isinstance(key, BlockKey):
         which = f"block {key.number} of " if key.number else "block of "
         for name, offset in ranked:

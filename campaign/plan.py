@@ -1,4 +1,5 @@
-"""Plans: the programs that run, under which settings and seeds, and the counts of their traces. schema.json has the form of a plan."""
+"""Plans: the programs that run, under which settings and seeds, and the counts of their traces. schema.json
+has the form of a plan."""
 
 import hashlib
 import itertools
@@ -215,7 +216,8 @@ def file_record(path: str, base: str, where: PlanPath, lines: PlanLines) -> Reco
 
 
 def plan_programs(data: Record, base: str, lines: PlanLines) -> Record:
-    """The programs by their names, each with the schedule that its runs begin with, if any, and its own settings."""
+    """The programs by their names, each with the schedule that its runs begin with, if any, and its own
+    settings."""
     found: Record = {}
     for name, value in data["programs"].items():
         own = {"file": value} if isinstance(value, str) else value
@@ -261,7 +263,8 @@ def check_group(group: Record, program: Record, check: Check, lines: PlanLines) 
 def expand_plan(
     path: str, predator: Record, check: Check = lambda program, settings: None
 ) -> Record:
-    """The campaign of a plan: its programs, the groups of runs that differ by their seeds alone, and the batches, which are the jobs."""
+    """The campaign of a plan: its programs, the groups of runs that differ by their seeds alone, and the
+    batches, which are the jobs."""
     data, lines = read_plan(path)
     programs = plan_programs(data, os.path.dirname(os.path.abspath(path)), lines)
     seeds = plan_seeds(data, lines)

@@ -1,12 +1,15 @@
 #!/usr/bin/python3
-"""The accuracy of predicted lines: those that a run predicts beside those that really have false-sharing misses under other layouts.
+"""The accuracy of predicted lines: those that a run predicts beside those that really have false-sharing
+misses under other layouts.
 
-The folder is that of a campaign whose `misses` have every shift of 64 and of 128 bytes. A line of one of these layouts is **real** if its
-false-sharing misses reach the report's threshold. It is **new** if they exceed those of the run's own lines that it overlaps, all together,
-by the threshold or more: the run itself doesn't show it. A predicted line is **near** a line if it has at least half of that line's bytes.
+The folder is that of a campaign whose `misses` have every shift of 64 and of 128 bytes. A line of one of
+these layouts is **real** if its false-sharing misses reach the report's threshold. It is **new** if they
+exceed those of the run's own lines that it overlaps, all together, by the threshold or more: the run itself
+doesn't show it. A predicted line is **near** a line if it has at least half of that line's bytes.
 
-For each run this prints how many lines are real under layouts other than its own, and how many of them are predicted exactly and have a
-predicted line near; the same of the new lines; and how many lines the run predicts, how many of these are real, and how many are new."""
+For each run this prints how many lines are real under layouts other than its own, and how many of them are
+predicted exactly and have a predicted line near; the same of the new lines; and how many lines the run
+predicts, how many of these are real, and how many are new."""
 
 import argparse
 import os
@@ -38,7 +41,8 @@ class LineRange(NamedTuple):
 
 
 class FoundLines(NamedTuple):
-    """The lines that are real under layouts other than the run's own, those of them that are new, and the predicted lines."""
+    """The lines that are real under layouts other than the run's own, those of them that are new, and the
+    predicted lines."""
 
     real: set[LineRange]
     new: set[LineRange]

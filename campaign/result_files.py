@@ -1,6 +1,8 @@
-"""Files of results: gzipped lines of JSON, one for each run of a finished batch, and a journal for one that is under way.
+"""Files of results: gzipped lines of JSON, one for each run of a finished batch, and a journal for one that
+is under way.
 
-A finished file appears under its name only when it is complete. A journal ends with a broken line where its job was killed."""
+A finished file appears under its name only when it is complete. A journal ends with a broken line where its
+job was killed."""
 
 import contextlib
 import gzip
@@ -13,7 +15,8 @@ from typing import Iterable, Iterator
 from campaign.campaign_file import Record
 
 FOLDER = "results"
-# A batch by its least and greatest seed, and the sum of its inputs; `failed` holds calls that the next campaign tries again.
+# A batch by its least and greatest seed, and the sum of its inputs; `failed` holds calls that the next
+# campaign tries again.
 NAME = re.compile(r"(\d+)-(\d+)\.[0-9a-f]{12}(\.part|(\.failed)?\.jsonl\.gz)")
 
 
@@ -60,7 +63,8 @@ def read_records(path: str) -> Iterator[Record]:
 
 
 def parse_journal(data: bytes) -> tuple[list[Record], int]:
-    """The records of a journal's complete lines, and where these end; a loss of power may leave anything after them."""
+    """The records of a journal's complete lines, and where these end; a loss of power may leave anything
+    after them."""
     records: list[Record] = []
     end = 0
     for line in data.splitlines(keepends=True):
@@ -74,7 +78,8 @@ def parse_journal(data: bytes) -> tuple[list[Record], int]:
 
 
 def read_older_records(batch: str) -> Iterator[Record]:
-    """The records of other files with seeds in this batch's range: those of another plan, or with calls that failed."""
+    """The records of other files with seeds in this batch's range: those of another plan, or with calls that
+    failed."""
     folder, own = os.path.split(finished_path(batch))
     own = own.removesuffix(".jsonl.gz")
     first, last = (int(it) for it in own.partition(".")[0].split("-"))

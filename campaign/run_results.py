@@ -1,6 +1,7 @@
 """The printed results of one run, parsed, and the keys by which its lines are found again in other runs.
 
-A line with a variable on it has the same address in every run. A line with heap blocks alone is the same by its first block."""
+A line with a variable on it has the same address in every run. A line with heap blocks alone is the same by
+its first block."""
 
 from dataclasses import dataclass
 from typing import Iterator, Literal, NamedTuple, Sequence, Union
@@ -21,8 +22,8 @@ class AddressKey(NamedTuple):
 
 
 class BlockKey(NamedTuple):
-    """A line by the block that it begins in: the block's call sites, its number among all blocks of these (none without a trace), and
-    the offset in it."""
+    """A line by the block that it begins in: the block's call sites, its number among all blocks of these
+    (none without a trace), and the offset in it."""
 
     kind: Literal["block"]
     sites: tuple[Site, ...]
@@ -39,7 +40,8 @@ Layout = tuple[int, int]
 
 
 class PairKey(NamedTuple):
-    """Two instructions in a line of a layout: the one that loses its copy, and the one that invalidates it."""
+    """Two instructions in a line of a layout: the one that loses its copy, and the one that invalidates
+    it."""
 
     layout: Layout
     line: LineKey
@@ -60,7 +62,8 @@ class RunLine:
 
 
 class RunResults:
-    """The texts of one run: its report, and by their layouts the misses, the reports of replays and the pairs of instructions."""
+    """The texts of one run: its report, and by their layouts the misses, the reports of replays and the pairs
+    of instructions."""
 
     # (only where there is a report)
     naming: Naming
@@ -132,8 +135,8 @@ class RunResults:
         return shares
 
     def pairs(self) -> dict[PairKey, tuple[int, int]]:
-        """How often the second of two instructions invalidates a line, and how often over the same word. A line that no other text has
-        goes by its address."""
+        """How often the second of two instructions invalidates a line, and how often over the same word. A
+        line that no other text has goes by its address."""
         keys = {(layout, line.base): line.key for layout, _, line in self.lines()}
         counts: dict[PairKey, tuple[int, int]] = {}
         for blame in self.blames:
@@ -147,7 +150,8 @@ class RunResults:
         return counts
 
     def block_number(self, block: Block) -> int | None:
-        """A block's number among all blocks of its call sites, in the order of their allocation; none without a trace."""
+        """A block's number among all blocks of its call sites, in the order of their allocation; none without
+        a trace."""
         number: int | None = self.record["blocks"].get(f"{block.addr:#010x} {block.born}")
         return number
 
@@ -155,7 +159,8 @@ class RunResults:
         return block_name(block.sites, self.block_number(block), self.naming)
 
     def line_key(self, base: int, objects: Sequence[Symbol | Block]) -> LineKey:
-        """The address, unless blocks alone are on the line: then the lowest block, of those of one address the first."""
+        """The address, unless blocks alone are on the line: then the lowest block, of those of one address
+        the first."""
         blocks = [it for it in objects if isinstance(it, Block)]
         if not blocks or len(blocks) < len(objects):
             return AddressKey("address", base)

@@ -1,4 +1,5 @@
-"""The tables of a campaign: tables.py FOLDER, as the workflow calls it, writes them from the results that there are."""
+"""The tables of a campaign: tables.py FOLDER, as the workflow calls it, writes them from the results that
+there are."""
 
 import json
 import multiprocessing
@@ -280,7 +281,8 @@ class Tables:
 
 
 def group_memory(campaign: Record, group: Record) -> Memory:
-    """Where the stacks of a group's runs lie, so that they have names; nothing where the program can't be read."""
+    """Where the stacks of a group's runs lie, so that they have names; nothing where the program can't be
+    read."""
     os.environ["PREDATOR"] = campaign["predator"]["file"]
     program = campaign["programs"][group["program"]]
     with tempfile.NamedTemporaryFile("w", suffix=".toml") as file:

@@ -1,12 +1,14 @@
 #!/usr/bin/python3
 """A comparison of the usual schedule with the seeds of a campaign.
 
-The folder is that of a campaign whose seeds include 0, the usual schedule. Each of three tables has rows for every program and settings:
-- how many objects the usual schedule lists, and how many of these every seed lists, and fewer than half of the seeds; how many objects
-  only other seeds list, and how many of these at least half of the seeds list, and at most a tenth;
+The folder is that of a campaign whose seeds include 0, the usual schedule. Each of three tables has rows for
+every program and settings:
+- how many objects the usual schedule lists, and how many of these every seed lists, and fewer than half of
+  the seeds; how many objects only other seeds list, and how many of these at least half of the seeds list,
+  and at most a tenth;
 - the object with the greatest median of invalidations over the seeds;
-- the objects in which the two differ: those of the usual schedule that fewer than half of the seeds list, and those that only seeds
-  list."""
+- the objects in which the two differ: those of the usual schedule that fewer than half of the seeds list, and
+  those that only seeds list."""
 
 import argparse
 import os
@@ -88,7 +90,8 @@ def worst_object(objects: Objects) -> str:
 
 
 def different_objects(objects: Objects, drawn: int) -> list[str]:
-    """The objects that the usual schedule lists and fewer than half of the seeds do, and those that it doesn't list."""
+    """The objects that the usual schedule lists and fewer than half of the seeds do, and those that it
+    doesn't list."""
     return [
         name
         for name, counts in sorted(objects.items())

@@ -211,7 +211,8 @@ class Pages(unittest.TestCase):
         self.assertEqual(mark, f"M{worst * wide + wide // 2 - 4} -7h8l-4 6z")
 
     def check_side_by_side(self, text, observations):
-        """The cells that compare groups have the greatest numbers of the table, and bars of the right length."""
+        """The cells that compare groups have the greatest numbers of the table, and bars of the right
+        length."""
         wanted = []
         for layout, kind in ((LAYOUT, "observed"), ((128, 0), "doubled")):
             objects = {}

@@ -34,7 +34,8 @@ FAULTS = {
     "and sets times ways at most 4096",
     f"{GOOD}blame:\n- {{size: 64, shift: 2}}\n": "5: 'blame.0.shift' can't be 2: give a multiple of 4, or all",
     f"{GOOD}traces: never\n": "4: 'traces' must be one of lost, kept, not \"never\"",
-    "programs:\n  one: one\nseeds:\n- 1\n- 7-3\n": "5: '7-3' is no range of seeds: write FIRST-LAST, at most 4294967295",
+    "programs:\n  one: one\nseeds:\n- 1\n- 7-3\n": "5: '7-3' is no range of seeds: "
+    "write FIRST-LAST, at most 4294967295",
     "programs:\n  one: one\nseeds:\n- 1\n- x\n": "5: 'seeds.1' can't be \"x\": give a number or FIRST-LAST",
     "programs:\n  one: gone\nseeds: 1\n": "2: gone: No such file or directory",
     "programs:\n  one:\n    file: one\n    shedule: s\nseeds: 1\n": "4: 'shedule' is no key of 'programs.one'; "
@@ -80,8 +81,8 @@ class Plans(CampaignCase):
         self.assertEqual((status, out), (0, "1 programs, 6 runs, 42 counts of traces, 4 jobs\n"))
 
     def test_settings_and_seeds(self):
-        """Seeds are each taken once and in order; a program's own settings precede the others; the line of the settings has its misses
-        counted."""
+        """Seeds are each taken once and in order; a program's own settings precede the others; the line of
+        the settings has its misses counted."""
         self.write("list", "0 10\n")
         programs = "programs:\n  one: {file: one, schedule: list, settings: {quantum: 3}}\n"
         self.write_plan(f"{programs}settings: {{line: [32, 128]}}\nseeds: [5, 2-4, 3]\n")
@@ -102,7 +103,7 @@ class Plans(CampaignCase):
 
     def test_words(self):
         self.write_plan(GOOD)
-        usage = self.call_campaign("--help")[1].partition("\n")[0]
+        usage = self.call_campaign("--help")[1].partition("\n\n")[0]
         for words, message in {
             ("--cores", "none"): "'--cores' must be a number from 1 on, not 'none'",
             ("--cores=",): "'--cores' must be a number from 1 on, not ''",

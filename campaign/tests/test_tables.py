@@ -75,7 +75,8 @@ def misses_text(useless):
 
 
 def blame_text(*lines):
-    """A text of `blame`: each line as its base, and its pairs as victim, invalidator, how often, and how often over one word."""
+    """A text of `blame`: each line as its base, and its pairs as victim, invalidator, how often, and how
+    often over one word."""
     rows, total = [], 0
     for base, *pairs in lines:
         count = sum(pair[2] for pair in pairs)

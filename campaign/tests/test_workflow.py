@@ -1,4 +1,5 @@
-"""Tests of what is made again after a kill, a failure and a change: on this machine, over Slurm and over ssh."""
+"""Tests of what is made again after a kill, a failure and a change: on this machine, over Slurm and over
+ssh."""
 
 import glob
 import gzip
@@ -76,7 +77,8 @@ class Workflow(CampaignCase):
             (status, out), (1, "11 runs, 1 failed calls, 0 missing jobs: plan.campaign/table.tsv\n")
         )
         self.assertIn(
-            f"predator campaign: failed three times with status 9: predator run {self.path('one')} --settings <(printf 'seed = 5\\n')\n"
+            "predator campaign: failed three times with status 9: "
+            f"predator run {self.path('one')} --settings <(printf 'seed = 5\\n')\n"
             "predator campaign:   predator: no memory\n",
             errors,
         )
@@ -185,7 +187,8 @@ class Workflow(CampaignCase):
 
     def test_each_result_has_its_inputs(self):
         self.write_plan(
-            "programs: {one: one}\nseeds: 3\nsettings: {quantum: 10}\nsweeps: [64]\ncaches: [{size: 64, sets: 1, ways: 1}]\n"
+            "programs: {one: one}\nseeds: 3\nsettings: {quantum: 10}\nsweeps: [64]\n"
+            "caches: [{size: 64, sets: 1, ways: 1}]\n"
         )
         self.assertEqual(self.call_campaign()[0], 0)
         (path,) = glob.glob(self.path("plan.campaign", "results", "one", "*", "*.jsonl.gz"))
@@ -268,7 +271,8 @@ class Workflow(CampaignCase):
         """Over a stand-in for ssh: one machine that can't be reached, and one with two places."""
         self.write(
             "ssh",
-            'while [[ $1 == -o* ]]; do shift; done; [ "$1" = gone ] && exit 255; echo "$1" >>"$MACHINES"; exec bash -c "$2"\n',
+            'while [[ $1 == -o* ]]; do shift; done; [ "$1" = gone ] && exit 255\n'
+            'echo "$1" >>"$MACHINES"; exec bash -c "$2"\n',
         )
         self.write_plan(PLAN)
         os.mkdir(self.path("plan.campaign"))
@@ -318,7 +322,8 @@ class Workflow(CampaignCase):
         )
 
     def end_slurm(self):
-        """Ends Slurm's processes, the last begun first, and waits for each: it writes its state before it ends."""
+        """Ends Slurm's processes, the last begun first, and waits for each: it writes its state before it
+        ends."""
         for pid in reversed(self.read("slurm", "pids").split()):
             os.kill(int(pid), signal.SIGTERM)
             deadline = time.monotonic() + 20
