@@ -32,12 +32,14 @@ def read(path):
 def documents():
     for folder, folders, files in os.walk(TOP):
         folders[:] = [
-            it for it in folders if it not in ("out", "fetched", ".git", "crates", "__pycache__")
+            name
+            for name in folders
+            if name not in ("out", "fetched", ".git", "crates", "__pycache__")
         ]
         yield from (
-            os.path.relpath(os.path.join(folder, it), TOP)
-            for it in files
-            if it.endswith((".md", ".1"))
+            os.path.relpath(os.path.join(folder, name), TOP)
+            for name in files
+            if name.endswith((".md", ".1"))
         )
 
 
@@ -48,8 +50,8 @@ class Crate:
         self.texts = {part: "" for part in PARTS}
         for part in ("src", "specs", "proofs"):
             for folder, _, files in os.walk(os.path.join(TOP, "crates", name, part)):
-                for it in files:
-                    self.texts[part] += read(os.path.join(folder, it))
+                for path in files:
+                    self.texts[part] += read(os.path.join(folder, path))
         self.defined = set(
             re.findall(r"^ *(?:[a-z]+ )*([^\s:({]+)\s*[:({]", self.texts["specs"], re.MULTILINE)
         )
@@ -86,12 +88,14 @@ def words_of_sources():
     found = set()
     for folder, folders, files in os.walk(TOP):
         folders[:] = [
-            it for it in folders if it not in ("out", "fetched", ".git", "docs", "__pycache__")
+            name
+            for name in folders
+            if name not in ("out", "fetched", ".git", "docs", "__pycache__")
         ]
-        for it in files:
-            found.add(it)
+        for name in files:
+            found.add(name)
             if (
-                it.endswith(
+                name.endswith(
                     (
                         ".rt",
                         ".antt",
@@ -106,17 +110,17 @@ def words_of_sources():
                         ".case",
                     )
                 )
-                or "." not in it
+                or "." not in name
             ):
-                with open(os.path.join(folder, it), encoding="utf-8", errors="ignore") as file:
+                with open(os.path.join(folder, name), encoding="utf-8", errors="ignore") as file:
                     found.update(re.findall(r"[\w≢-]+", file.read()))
     return found
 
 
 def headings(text):
     return {
-        re.sub(r"[^\w\- ]", "", it.lower()).replace(" ", "-")
-        for it in re.findall(r"^#+ (.*)$", text, re.MULTILINE)
+        re.sub(r"[^\w\- ]", "", heading.lower()).replace(" ", "-")
+        for heading in re.findall(r"^#+ (.*)$", text, re.MULTILINE)
     }
 
 
@@ -142,7 +146,8 @@ def relative(line, about):
 def quoted(text, crates):
     """The lines at which the quotes of a document begin that no source has, whatever its spaces and comments."""
     sources = [
-        " ".join(re.sub(r"(?m)^\s*//.*$", "", it.texts["src"]).split()) for it in crates.values()
+        " ".join(re.sub(r"(?m)^\s*//.*$", "", crate.texts["src"]).split())
+        for crate in crates.values()
     ]
     begin, quote = 0, []
     for number, line in enumerate([*text.split("\n"), ""], 1):
@@ -158,9 +163,9 @@ def quoted(text, crates):
 def floors():
     """How many crates the longest chain has that ends with a crate, by crates.txt."""
     below = {
-        it.split(":")[0].split()[0]: it.split(":")[1].split()
-        for it in read("crates.txt").split("\n")
-        if re.match(r"[a-z]", it)
+        row.split(":")[0].split()[0]: row.split(":")[1].split()
+        for row in read("crates.txt").split("\n")
+        if re.match(r"[a-z]", row)
     }
 
     def floor(name):
@@ -215,21 +220,21 @@ def wrong_names(name, crates, everywhere):
         )
         found += [it for it in paths if not has_path(it)]
         found += [
-            f"crates/{it}"
-            for it in re.findall(r"\bcrates/([a-z_0-9]+)", line)
-            if it not in crates and it != "NAME"
+            f"crates/{crate}"
+            for crate in re.findall(r"\bcrates/([a-z_0-9]+)", line)
+            if crate not in crates and crate != "NAME"
         ]
         items = re.findall(r"`([a-z_0-9]+)::(\w+)", line)
         found += [
-            f"{it}::{item}"
-            for it, item in items
-            if it not in crates or not crates[it].has_item(item)
+            f"{crate}::{item}"
+            for crate, item in items
+            if crate not in crates or not crates[crate].has_item(item)
         ]
         words = re.findall(r"`([A-Za-z][\w-]*)`", line)
         found += [
-            it
-            for it in words
-            if it not in everywhere and not it.endswith("_") and "STUDIES" not in name
+            word
+            for word in words
+            if word not in everywhere and not word.endswith("_") and "STUDIES" not in name
         ]
         if name == "docs/PROMISES.md" and columns.startswith("| Promise |"):
             more, about = of_promises(line, crates, about)
@@ -242,26 +247,26 @@ def main(words):
         print(__doc__)
         return 0
     listed = [
-        it.split(":")[0].split()[0]
-        for it in read("crates.txt").split("\n")
-        if re.match(r"[a-z]", it)
+        row.split(":")[0].split()[0]
+        for row in read("crates.txt").split("\n")
+        if re.match(r"[a-z]", row)
     ]
     crates = {it: Crate(it) for it in listed}
     everywhere, wrong = words_of_sources(), []
     page = read("docs/ARCHITECTURE.md")
-    for it in (
+    for fault in (
         []
         if words
         else [*wrong_floors(page), *(f"{it}: twice in the glossary" for it in words_twice(page))]
     ):
-        wrong.append(f"docs/ARCHITECTURE.md:1: {it}")
+        wrong.append(f"docs/ARCHITECTURE.md:1: {fault}")
     for name in words or sorted(documents()):
         if name == "docs/PROMISES.md":
             wrong += [f"{name}:{number}: {line}" for number, line in quoted(read(name), crates)]
         wrong += [
-            f"{name}:{number}: {it}"
+            f"{name}:{number}: {text}"
             for number, found in wrong_names(name, crates, everywhere)
-            for it in found
+            for text in found
         ]
     print("\n".join(wrong), end="\n" if wrong else "")
     return 1 if wrong else 0

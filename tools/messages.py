@@ -420,10 +420,10 @@ def files() -> Iterator[Try]:
 # ---- All of them.
 
 
-def fault_of(program: str, it: Try) -> str:
+def fault_of(program: str, attempt: Try) -> str:
     """What is wrong with a call, if anything is."""
     ran = subprocess.run(
-        [program, *it.words],
+        [program, *attempt.words],
         stdin=subprocess.DEVNULL,
         capture_output=True,
         env=os.environ | {"LC_ALL": "C"},
@@ -432,23 +432,31 @@ def fault_of(program: str, it: Try) -> str:
     printed, said = ran.stdout.decode(errors="replace"), ran.stderr.decode(errors="replace")
     if any(c != "\n" and (ord(c) < 32 or 127 <= ord(c) < 160) for c in said):
         return f"a control character comes to standard error: {said!r}"
-    if it.status is None:
+    if attempt.status is None:
         return f"it is refused: {said!r}" if ran.returncode in (1, 4) else ""
-    name = "predator: " if it.status else ""
-    text = printed if it.printed == "*" else f"{name}{it.printed}\n" if it.printed else USAGE
-    wanted = it.status, text, f"predator: {it.said}\n" if it.said else ""
+    name = "predator: " if attempt.status else ""
+    text = (
+        printed
+        if attempt.printed == "*"
+        else f"{name}{attempt.printed}\n"
+        if attempt.printed
+        else USAGE
+    )
+    wanted = attempt.status, text, f"predator: {attempt.said}\n" if attempt.said else ""
     if (ran.returncode, printed, said) == wanted:
         return ""
-    return f"it ended with {ran.returncode}, printed {printed[:80]!r}, said {said!r}; wanted are {it.status}, {text[:80]!r}, {wanted[2]!r}"
+    return f"it ended with {ran.returncode}, printed {printed[:80]!r}, said {said!r}; wanted are {attempt.status}, {text[:80]!r}, {wanted[2]!r}"
 
 
 def failures(program: str, tries: Iterable[Try]) -> Iterator[str]:
     """What is wrong with some calls."""
     all_of = list(tries)
     with ThreadPoolExecutor(len(os.sched_getaffinity(0))) as pool:
-        for it, fault in zip(all_of, pool.map(lambda it: fault_of(program, it), all_of)):
+        for attempt, fault in zip(
+            all_of, pool.map(lambda attempt: fault_of(program, attempt), all_of)
+        ):
             if fault:
-                yield f"{' '.join(it.words)[:200]!r}: {fault}"
+                yield f"{' '.join(attempt.words)[:200]!r}: {fault}"
 
 
 def widened(row: Row) -> Row:
@@ -495,8 +503,8 @@ def main(words: list[str]) -> int:
             tried["planted"] = len(TABLE["setting"]) + len(TABLE["number"])
             failed += try_planted(program)
         os.chdir("/")
-    for it in failed:
-        print(f"FAILED: {it}")
+    for fault in failed:
+        print(f"FAILED: {fault}")
     counts = ", ".join(f"{what}: {count}" for what, count in tried.items())
     print(f"{sum(tried.values()) - len(failed)} passed, {len(failed)} failed ({counts})")
     return 1 if failed else 0

@@ -56,8 +56,8 @@ class Case(NamedTuple):
     def renamed(self, name: str, other: str) -> "Case":
         """The same call over a file of another name."""
 
-        def by(it: str) -> str:
-            return other if it == name else it
+        def by(word: str) -> str:
+            return other if word == name else word
 
         return self._replace(
             words=tuple(map(by, self.words)),
@@ -258,8 +258,10 @@ def written_state(count: int) -> bytes:
     told = struct.pack("<8sIIQQH6xQQQ", b"PRDSTA01", 4, 0, 1, 0, 8, count, count, count)
     told += b"".join(struct.pack("<QQ", 0x100000 + 4 * it, 1) for it in range(count))
     tracks = (
-        struct.pack("<BBHHHqQQQQHH", 0, 1, 0, 0xFFFF, 0, 0x100000 + 4 * it, it, 0, 0, 1, 0, 0)
-        for it in range(count)
+        struct.pack(
+            "<BBHHHqQQQQHH", 0, 1, 0, 0xFFFF, 0, 0x100000 + 4 * number, number, 0, 0, 1, 0, 0
+        )
+        for number in range(count)
     )
     return told + b"".join(tracks) + bytes(16)
 
@@ -696,8 +698,10 @@ def refused_cases() -> list[Case]:
     ]
     made_of = [Case(*row[:5], said=f"predator: {row[5]}\n".encode()) for row in rows]
     return [
-        it._replace(again=it.reads[0]) if it.words[0] in ("split", "convert", "place") else it
-        for it in made_of
+        case._replace(again=case.reads[0])
+        if case.words[0] in ("split", "convert", "place")
+        else case
+        for case in made_of
     ]
 
 
