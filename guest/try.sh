@@ -100,8 +100,8 @@ try_launcher() {
         prints "$it" "$(head -n 1 "$top/crates/worked_runs/data/usage.txt")"
     done
     try "help of two lines" 0 "$predator" caches --help
-    prints "help of two lines" "and how often it was evicted."
-    prints "help of two lines" "  --ways W       how many lines a set has room for, from 1 to 64; sets times ways is at most 4096"
+    prints "help of two lines" "evictions of each line."
+    prints "help of two lines" "  --ways W       sets the lines in each set, from 1 to 64; sets times ways is at most 4096"
     try "help of no command" 1 "$predator" help reply
     says "help of no command" "'reply' is not a command: see predator --help"
     try "version" 0 "$predator" --version

@@ -68,7 +68,11 @@ PROGRAMS = {
     "empty.elf": (b"", "TooShort", f"the file is not an ELF file: {BUILD}"),
     "script": (b"#!/bin/sh\n", "TooShort", f"the file is a script: {BUILD}"),
     "wide.elf": (patched(4, "<B", 2), "BadClass", f"the file is an ELF file for RV64: {BUILD}"),
-    "turned.elf": (patched(5, "<B", 2), "BadData", f"the file is an ELF file for another machine: {BUILD}"),
+    "turned.elf": (
+        patched(5, "<B", 2),
+        "BadData",
+        f"the file is an ELF file for another machine: {BUILD}",
+    ),
     "version.elf": (
         patched(6, "<B", 2),
         "BadVersion",
@@ -91,7 +95,11 @@ PROGRAMS = {
     ),
     "x86.elf": (patched(18, "<H", 3), "BadMachine", f"the file is an ELF file for x86: {BUILD}"),
     "arm.elf": (patched(18, "<H", 40), "BadMachine", f"the file is an ELF file for ARM: {BUILD}"),
-    "arm64.elf": (patched(18, "<H", 183), "BadMachine", f"the file is an ELF file for AArch64: {BUILD}"),
+    "arm64.elf": (
+        patched(18, "<H", 183),
+        "BadMachine",
+        f"the file is an ELF file for AArch64: {BUILD}",
+    ),
     "flags.elf": (
         patched(36, "<I", 1),
         "BadFlags",
@@ -108,7 +116,11 @@ PROGRAMS = {
         "HeadersOutside",
         f"the ELF headers extend past the end of the file: {AGAIN}",
     ),
-    "dynamic.elf": (patched(SECOND, "<I", 2), "Dynamic", f"the program is linked dynamically: {LINK}"),
+    "dynamic.elf": (
+        patched(SECOND, "<I", 2),
+        "Dynamic",
+        f"the program is linked dynamically: {LINK}",
+    ),
     "segment.elf": (
         patched(SECOND + 4, "<I", 1 << 20),
         "SegmentOutsideFile",
@@ -162,7 +174,11 @@ TRACES = {
         "BadMagic",
         "the file is not a trace: write one with `predator run PROGRAM --trace F` or tools/to_trace.py",
     ),
-    "harts": (trace(b"", 0, harts=257), "BadHarts", f"the number of harts is not from 1 to 256: {DAMAGED}"),
+    "harts": (
+        trace(b"", 0, harts=257),
+        "BadHarts",
+        f"the number of harts is not from 1 to 256: {DAMAGED}",
+    ),
     "tag": (trace(b"\7", 0), "BadTag 20", f"byte 20 begins no record: {DAMAGED}"),
     "field": (
         trace(write(0x1000, 8), 1),
@@ -207,7 +223,11 @@ SCHEDULES = {
         "ZeroCount 2",
         "line 2 has a count of 0: set it to 1 or more, or remove the line",
     ),
-    "lines": (b"0 1\n" * ((1 << 18) + 1), "TooLong", "the schedule is larger than 1 MiB: shorten it"),
+    "lines": (
+        b"0 1\n" * ((1 << 18) + 1),
+        "TooLong",
+        "the schedule is larger than 1 MiB: shorten it",
+    ),
 }
 FORM = (
     "is not a valid FROM SIZE TO: write it like `0x11004 4 0x11040`, with single spaces, multiples "
@@ -222,7 +242,11 @@ TABLES = {
         "Overlap 2",
         "the target of line 2 overlaps the target of an earlier line: move it elsewhere",
     ),
-    "long.moves": (b"\n" * ((1 << 20) + 1), "TooLong", "the table is larger than 1 MiB: shorten it"),
+    "long.moves": (
+        b"\n" * ((1 << 20) + 1),
+        "TooLong",
+        "the table is larger than 1 MiB: shorten it",
+    ),
 }
 # Lines of tables, each just beyond a rule, and behind it the line that keeps it.
 LINES = {

@@ -296,7 +296,9 @@ def numbers() -> Iterator[Try]:
     yield Try(["caches", "t", "--size", "64", "--sets", "64", "--ways", "64"], None)
     for word, wrong in (("03", "has a leading zero"), ("+3", "has a sign")):
         yield usage(["gen", word, "a"], f"'{word}' {wrong}: N must be {told('N', 'gen')}")
-        yield usage(["split", "t", word, "a", "b"], f"'{word}' {wrong}: K must be {told('K', 'split')}")
+        yield usage(
+            ["split", "t", word, "a", "b"], f"'{word}' {wrong}: K must be {told('K', 'split')}"
+        )
         yield usage(["replay", "t", "--size", word], f"'{word}' {wrong}: {layouts('replay')}")
         yield usage(
             ["caches", "t", "--size", "64", "--sets", word, "--ways", "2"],

@@ -136,7 +136,9 @@ class Messages(unittest.TestCase):
 
     def test_a_trace_that_was_cut(self):
         said = "predator: cut.trace: where a kill or Ctrl-C cut it, `predator native --mend cut.trace` gives it an end\n"
-        said += "predator: cut.trace: the trace is cut off after 3000 bytes: record or copy it again\n"
+        said += (
+            "predator: cut.trace: the trace is cut off after 3000 bytes: record or copy it again\n"
+        )
         said += "predator view: `predator replay` was refused: trace Truncated 3000\n"
         self.assertEqual(self.view("cut.trace"), (2, "", said))
 

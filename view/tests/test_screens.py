@@ -121,7 +121,9 @@ class Screens(Shown):
             )
             self.shows(text, "`--set harts=16` gives more")
             status, _, said = view(*words, "--fail-above", "9999", STAND_IN_SAYS=says, lacks=lacks)
-            self.assertEqual((status, "predator view: the last thread could not start" in said), (3, True))
+            self.assertEqual(
+                (status, "predator view: the last thread could not start" in said), (3, True)
+            )
 
     def test_all_that_fight(self):
         _, text, _ = view("run", built("ring.elf"), *TURNS, "--explain", "1", "--words")
