@@ -38,6 +38,16 @@ prints() {
     fi
 }
 
+# whole WHAT LINE: the last command printed this line and nothing else.
+whole() {
+    tried=$((tried + 1))
+    if ! printf '%s\n' "$2" | cmp -s - out; then
+        echo "$1: not '$2' alone, but:"
+        head -n 12 out
+        failed=$((failed + 1))
+    fi
+}
+
 # says WHAT LINE: the last command said this line, behind the program's name, and no other one.
 says() {
     tried=$((tried + 1))
@@ -195,7 +205,9 @@ try_refusals() {
     try "no trace" 5 "$predator" replay settings
     try "no object" 13 "$predator" place t missing
     prints "no object" "predator: place NoObject"
+    # (the gate runs the program with exit status 0 alone)
     try "a missing file" 7 "$predator" replay missing
+    whole "a missing file" "predator: read fault"
     says "a missing file" "missing: No such file or directory"
     try "a folder" 7 "$predator" replay programs
     says "a folder" "programs: Is a directory"
