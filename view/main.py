@@ -8,27 +8,27 @@ import sys
 import traceback
 from typing import TYPE_CHECKING, Callable
 
-sys.path.insert(0, os.path.dirname(os.path.abspath(__file__)))
+sys.path.insert(0, os.path.dirname(os.path.dirname(os.path.abspath(__file__))))
 
-import compare  # noqa: E402
-import worth  # noqa: E402
-from calls import ALONE, HELP, OUTPUTS, TOP, Call, nearest  # noqa: E402
-from faults import Fault, plain  # noqa: E402
-from model import View, memory_of  # noqa: E402
-from naming import Naming  # noqa: E402
-from objects import Thing  # noqa: E402
-from passes import Passes, begun  # noqa: E402
-from pipes import fed, kept  # noqa: E402
-from program import Predator  # noqa: E402
-from recording import recorded, traced  # noqa: E402
-from reports import Report, Symbol  # noqa: E402
-from screen import Paint, screen  # noqa: E402
-from source_lines import Sources  # noqa: E402
-from worth import Worth  # noqa: E402
+from view.model import comparison  # noqa: E402
+from view.model import miss_rates  # noqa: E402
+from view.reading.calls import ALONE, HELP, OUTPUTS, TOP, Call, nearest  # noqa: E402
+from view.faults import Fault, plain  # noqa: E402
+from view.model.view import View, memory_of  # noqa: E402
+from view.names.naming import Naming  # noqa: E402
+from view.model.objects import Thing  # noqa: E402
+from view.reading.passes import Passes, begun  # noqa: E402
+from view.reading.pipes import fed, kept  # noqa: E402
+from view.reading.engine import Predator  # noqa: E402
+from view.reading.recording import recorded, traced  # noqa: E402
+from view.reading.reports import Report, Symbol  # noqa: E402
+from view.output.screen import Paint, screen  # noqa: E402
+from view.names.source_lines import Sources  # noqa: E402
+from view.model.miss_rates import Worth  # noqa: E402
 
 if TYPE_CHECKING:
-    from fields import Program
-    from native import NativeProgram
+    from view.names.fields import Program
+    from view.names.native import NativeProgram
 
 ABOVE, ENDED = 1, 3
 
@@ -54,12 +54,12 @@ def program_of(call: Call) -> "tuple[Program | NativeProgram | None, Sources | N
     program: "Program | NativeProgram"
     sources: Sources
     if table:
-        from native import Back, NativeProgram, NativeSources
+        from view.names.native import Back, NativeProgram, NativeSources
 
         program = native = NativeProgram(Back(table))
         sources = NativeSources(native, folders)
     elif call.program:
-        from fields import Program
+        from view.names.fields import Program
 
         program = guest = Program(call.program)
         sources = Sources(call.program, folders, guest.code())
@@ -92,7 +92,7 @@ def native_of(program: "Program | NativeProgram | None") -> "NativeProgram | Non
     """A program where it is one of this machine."""
     if program is None:
         return None
-    from fields import Program
+    from view.names.fields import Program
 
     return None if isinstance(program, Program) else program
 
@@ -101,14 +101,14 @@ def table_of(call: Call) -> str | None:
     """The table back of a program of this machine: the one that is named, or that beside the trace."""
     if "back" in call.options or call.program or call.how != "replay":
         return call.options.get("back")
-    from native import beside
+    from view.names.native import beside
 
     return beside(call.subject)
 
 
 def stranger(program: "Program | NativeProgram", report: Report) -> str | None:
     """A symbol of the report that the program hasn't, or none."""
-    from fields import Program
+    from view.names.fields import Program
 
     if not isinstance(program, Program):
         return program.stranger(report)
@@ -156,7 +156,7 @@ def trial_of(view: View, predator: Predator | None) -> Callable[[list[Thing]], N
     program = view.naming.program
     if program is None or program.dwarf is None:
         return None
-    from trying import begin, try_all
+    from view.repairs.trials import begin, try_all
 
     return functools.partial(try_all, view, predator, reading=begin(view, predator))
 
@@ -164,7 +164,7 @@ def trial_of(view: View, predator: Predator | None) -> Callable[[list[Thing]], N
 def look(call: Call) -> View:
     """All that is found."""
     if "html" in call.options:
-        from drawing import templates
+        from view.output.drawings import templates
 
         templates()
     predator = Predator() if call.how != "file" else None
@@ -188,12 +188,12 @@ def found(call: Call, predator: Predator | None, passes: Passes | None) -> View:
         call.program = program = sources = None
     memory = memory_of(call, predator, native_of(program))
     view = View(call, report, Naming(report, program, sources, call.options["type"], memory))
-    view.worth = Worth(view, worth.begin(call, predator, (report.size, report.offset)))
+    view.worth = Worth(view, miss_rates.begin(call, predator, (report.size, report.offset)))
     trial = trial_of(view, predator)
     view.count(predator, passes)
     view.look_for_overflow(predator)
     if report.outcome in ("deadlock", "budget"):
-        from waiting import note_waiting
+        from view.model.waiting_harts import note_waiting
 
         note_waiting(view, predator)
     view.arrange()
@@ -286,19 +286,19 @@ def outputs(view: View) -> None:
     """Writes the files that the call names."""
     options = view.call.options
     if "patch" in options:
-        from mending import patch_text
+        from view.repairs.call_patch import patch_text
 
         write(options["patch"], patch_text(view))
     if "json" in options:
-        from exports import json_text
+        from view.output.exports import json_text
 
         write(options["json"], json_text(view))
     if "sarif" in options:
-        from exports import sarif_text
+        from view.output.exports import sarif_text
 
         write(options["sarif"], sarif_text(view))
     if "html" in options:
-        from page import page
+        from view.output.page import page
 
         write(options["html"], page(view))
 
@@ -309,7 +309,7 @@ def show(call: Call) -> int:
     if call.how in ALONE:
         return show_alone(call)
     # (before --json writes to the same file)
-    old = compare.loaded(call.options["against"], call) if "against" in call.options else None
+    old = comparison.loaded(call.options["against"], call) if "against" in call.options else None
     with kept(call), recorded(call), traced(call):
         view = look(call)
         outputs(view)
@@ -320,8 +320,8 @@ def show(call: Call) -> int:
 
 
 def show_alone(call: Call) -> int:
-    from caches import show as caches
-    from sweep import show as sweep
+    from view.output.caches import show as caches
+    from view.output.sweep import show as sweep
 
     rows, page = (sweep if call.how == "sweep" else caches)(call)
     if page is not None:
@@ -332,12 +332,12 @@ def show_alone(call: Call) -> int:
     return 0
 
 
-def tell(view: View, old: compare.Before | None) -> None:
+def tell(view: View, old: comparison.Before | None) -> None:
     """Prints the screen, and what got better and worse."""
     for it in screen(view, Paint()):
         print(it)
     if old is not None:
-        for it in compare.compared(view, old, view.call.options["against"]):
+        for it in comparison.compared(view, old, view.call.options["against"]):
             print(it)
 
 

@@ -7,26 +7,26 @@ import unittest
 from types import SimpleNamespace
 
 HERE = os.path.dirname(os.path.abspath(__file__))
-sys.path[:0] = [os.path.dirname(HERE), os.path.join(HERE, "..", "..", "tools")]
+sys.path[:0] = [os.path.join(HERE, "..", ".."), os.path.join(HERE, "..", "..", "tools")]
 
-import advice  # noqa: E402
-import compare  # noqa: E402
-import library  # noqa: E402
+from view.repairs import advice  # noqa: E402
+from view.model import comparison  # noqa: E402
+from view.model import foreign_objects  # noqa: E402
 from calling import built  # noqa: E402
-from calls import Call  # noqa: E402
-from fields import Program  # noqa: E402
-from model import Seen, View  # noqa: E402
+from view.reading.calls import Call  # noqa: E402
+from view.names.fields import Program  # noqa: E402
+from view.model.view import Seen, View  # noqa: E402
 from judge_report import Access, Case, Ending, trace_of  # noqa: E402
-from keys import OfSymbol  # noqa: E402
-from mangled import Names, short  # noqa: E402
-from naming import Memory, Naming, WordKind  # noqa: E402
-from objects import Spot, Thing, Told, holder  # noqa: E402
-from overflow import overflow  # noqa: E402
-from predicted import can_lie, judged, together  # noqa: E402
-from reports import Block, Line, Misses, Pair, Report, Site, Symbol  # noqa: E402
-from screen import Paint, prediction, screen  # noqa: E402
-from source_lines import Place  # noqa: E402
-from unnamed import HEAP, name  # noqa: E402
+from view.model.object_keys import OfSymbol  # noqa: E402
+from view.names.demangling import Names, short  # noqa: E402
+from view.names.naming import Memory, Naming, WordKind  # noqa: E402
+from view.model.objects import Spot, Thing, Told, holder  # noqa: E402
+from view.model.stack_overflow import overflow  # noqa: E402
+from view.model.predicted_lines import can_lie, judged, together  # noqa: E402
+from view.reading.reports import Block, Line, Misses, Pair, Report, Site, Symbol  # noqa: E402
+from view.output.screen import Paint, prediction, screen  # noqa: E402
+from view.names.source_lines import Place  # noqa: E402
+from view.names.unnamed_memory import HEAP, name  # noqa: E402
 
 HEAD = (
     "predator report 1\noutcome exit 0\nsteps 9\naccesses 900\nlayout 64 0\nthresholds 16 64 100\n"
@@ -77,7 +77,8 @@ def made(useless, *lines, functions=("malloc", "make", "main"), useful=0):
 class Compared(unittest.TestCase):
     def pairs(self, old, new):
         return sorted(
-            (a and a["useless"] or 0, b and b["useless"] or 0) for a, b in compare.pairs(old, new)
+            (a and a["useless"] or 0, b and b["useless"] or 0)
+            for a, b in comparison.pairs(old, new)
         )
 
     def test_blocks_whose_lines_have_moved(self):
@@ -107,25 +108,25 @@ class Compared(unittest.TestCase):
         )
 
     def test_rows(self):
-        self.assertEqual(compare.row(made(3, 9), made(3, 9), "useless"), "the same")
-        self.assertEqual(compare.row(made(3, 9), None, "useless"), "gone: 3 before")
+        self.assertEqual(comparison.row(made(3, 9), made(3, 9), "useless"), "the same")
+        self.assertEqual(comparison.row(made(3, 9), None, "useless"), "gone: 3 before")
         self.assertEqual(
-            compare.row(None, made(3, 9, useful=2), "useless"), "new: 3 useless and 2 useful"
+            comparison.row(None, made(3, 9, useful=2), "useless"), "new: 3 useless and 2 useful"
         )
-        self.assertEqual(compare.row(None, made(0, 9, useful=2), "useless"), "new: 2 useful")
+        self.assertEqual(comparison.row(None, made(0, 9, useful=2), "useless"), "new: 2 useful")
         told = "less: 300 before, 0 now; useful more: 1 before, 900 now"
         self.assertEqual(
-            compare.row(made(300, 9, useful=1), made(0, 9, useful=900), "useless"), told
+            comparison.row(made(300, 9, useful=1), made(0, 9, useful=900), "useless"), told
         )
 
     def test_what_was_saved_and_costs_more(self):
         view = view_of(
             [], "misses 64 0\naccesses 900\nlines 0\ntotal cold 4 useful 901 useless 0\nend\n"
         )
-        before = compare.Before(
+        before = comparison.Before(
             [made(300, 9, useful=1)], "exit 0", {"cold": 2, "useful": 1, "useless": 300}
         )
-        rows = list(compare.compared(view, before, "old"))
+        rows = list(comparison.compared(view, before, "old"))
         self.assertEqual(rows[1], "  all misses but cold ones: worse: 301 before, 901 now")
         self.assertEqual(
             rows[2:4],
@@ -134,8 +135,8 @@ class Compared(unittest.TestCase):
         self.assertEqual(
             rows[4:], ["  block made at ring.c:9: gone: 300 useless and 1 useful before"]
         )
-        nothing = compare.Before([made(0, 9)], "exit 0", {"cold": 2, "useful": 0, "useless": 0})
-        self.assertEqual(list(compare.compared(view, nothing, "old"))[4:], [])
+        nothing = comparison.Before([made(0, 9)], "exit 0", {"cold": 2, "useful": 0, "useless": 0})
+        self.assertEqual(list(comparison.compared(view, nothing, "old"))[4:], [])
 
 
 LOCK = OfSymbol("symbol", "lock", 0x1000)
@@ -357,11 +358,11 @@ class Objects(unittest.TestCase):
             "[vdso]",
             "libpthread-2.36.so",
         ):
-            self.assertTrue(library.LIBRARIES.search(path), path)
+            self.assertTrue(foreign_objects.LIBRARIES.search(path), path)
         for path in ("/usr/lib/libcap.so.2", "/home/me/libc/queue", "/usr/lib/libstdc++.so.6"):
-            self.assertFalse(library.LIBRARIES.search(path), path)
-        self.assertTrue(library.KIT.search("/opt/predator/guest/clib/heap.c"))
-        self.assertFalse(library.KIT.search("guest/examples/queue.c"))
+            self.assertFalse(foreign_objects.LIBRARIES.search(path), path)
+        self.assertTrue(foreign_objects.KIT.search("/opt/predator/guest/clib/heap.c"))
+        self.assertFalse(foreign_objects.KIT.search("guest/examples/queue.c"))
 
     def test_the_pair_that_takes_most_for_nothing_is_first(self):
         pairs = [Pair(1, 2, 90, 90), Pair(3, 4, 50, 10), Pair(5, 6, 45, 4), Pair(7, 8, 40, 10)]

@@ -7,14 +7,14 @@ import tempfile
 import unittest
 
 HERE = os.path.dirname(os.path.abspath(__file__))
-sys.path.insert(0, os.path.dirname(HERE))
+sys.path.insert(0, os.path.dirname(os.path.dirname(HERE)))
 
-from calls import Call  # noqa: E402
-from drawing import visible  # noqa: E402
-from faults import Fault, plain  # noqa: E402
-from page import PLACE  # noqa: E402
-from recording import parted  # noqa: E402
-from reports import Explained, Misses, Report  # noqa: E402
+from view.reading.calls import Call  # noqa: E402
+from view.output.drawings import visible  # noqa: E402
+from view.faults import Fault, plain  # noqa: E402
+from view.output.page import PLACE  # noqa: E402
+from view.reading.recording import parted  # noqa: E402
+from view.reading.reports import Explained, Misses, Report  # noqa: E402
 
 HEAD = "predator report 1\noutcome exit 0\nsteps 3\naccesses 3\nlayout 64 0\nthresholds 1 64 1\n"
 ROWS = """line observed 0x00001000 64 start 0 count 2 verdict false

@@ -14,14 +14,14 @@ from unittest import mock
 
 from calling import HERE, PROGRAM, STAND_IN, TURNS, built, has, joined, view
 
-sys.path[:0] = [os.path.dirname(HERE), os.path.join(HERE, "..", "..", "tools")]
+sys.path[:0] = [os.path.join(HERE, "..", ".."), os.path.join(HERE, "..", "..", "tools")]
 
-import main  # noqa: E402
-import patches  # noqa: E402
-from cutting import accesses_of, cut  # noqa: E402
-from fields import Program  # noqa: E402
+from view import main  # noqa: E402
+from view.repairs import patches  # noqa: E402
+from view.reading.trace_prefix import accesses_of, cut  # noqa: E402
+from view.names.fields import Program  # noqa: E402
 from judge_report import Access, Case, Ending, trace_of  # noqa: E402
-from layouts import (
+from view.repairs.layouts import (  # noqa: E402
     Change,
     Part,
     Shape,
@@ -30,14 +30,14 @@ from layouts import (
     in_words,
     laid,
     members_of,
-)  # noqa: E402
-from repairs import Repair, groupings  # noqa: E402
-from spelled import Uses  # noqa: E402
-from subjects import UNUSED, Whose, whose  # noqa: E402
+)
+from view.repairs.candidates import Repair, groupings  # noqa: E402
+from view.reading.trace_files import Uses  # noqa: E402
+from view.repairs.subjects import UNUSED, Whose, whose  # noqa: E402
 from traces import Access as Accessed  # noqa: E402
 from traces import Alloc, Symbol, placed, records, with_pcs  # noqa: E402
-from tried import Counted, Tried  # noqa: E402
-from trying import free, table, together_of  # noqa: E402
+from view.repairs.trial_results import Counted, Tried  # noqa: E402
+from view.repairs.trials import free, table, together_of  # noqa: E402
 
 
 class Folder(unittest.TestCase):
@@ -187,8 +187,8 @@ class Cut(Folder):
             os.path.join(HERE, "programs"),
         ]
         own = {"PREDATOR_PROGRAM": PROGRAM, "PREDATOR_BUILD": "no"}
-        with mock.patch("passes.LONG", 1000), mock.patch.multiple(
-            "trying", PART=900, FRONT=500
+        with mock.patch("view.reading.passes.LONG", 1000), mock.patch.multiple(
+            "view.repairs.trials", PART=900, FRONT=500
         ), mock.patch.dict(os.environ, own):
             with contextlib.redirect_stdout(text):
                 self.assertEqual(main.main(words), 0)

@@ -1,0 +1,299 @@
+"""How much of each line's takings is left in caches of some shapes: `predator view caches TRACE`. The program counts; this draws."""
+
+import concurrent.futures
+import os
+import re
+import subprocess
+from typing import Iterator, NamedTuple, Sequence
+
+from view.reading.calls import Call
+from view.output.drawings import Given, bar, templates
+from view.faults import Fault, plain
+from view.names.naming import Naming
+from view.model.objects import Spot, parties
+from view.reading.pipes import fed
+from view.reading.engine import REPORTED, Predator, copy
+from view.reading.reports import Report
+from view.output.screen import counted
+
+# The shapes that are counted where the call names none: 2, 8, 32 and 256 KiB, each in lines of 64 bytes.
+USUAL = ("64x16x2", "64x32x4", "64x64x8", "64x512x8")
+# So many lines are shown where the call doesn't say.
+LINES = 40
+LINE = re.compile(
+    r"^line (0x[0-9a-f]{8}) bounded (\d+) unbounded (\d+) evicted (\d+)$", re.MULTILINE
+)
+TOTAL = re.compile(r"^total bounded (\d+) unbounded (\d+) evicted (\d+)\nend\n\Z", re.MULTILINE)
+
+
+class Shape(NamedTuple):
+    """A cache of so many sets of so many ways, each with room for a line of so many bytes."""
+
+    size: int
+    sets: int
+    ways: int
+
+    def __str__(self) -> str:
+        return f"{self.size}x{self.sets}x{self.ways}"
+
+    def told(self) -> str:
+        held = self.size * self.sets * self.ways
+        return f"{held / 1024:g} KiB ({self})" if held >= 1024 else f"{held} bytes ({self})"
+
+    def words(self) -> list[str]:
+        return [
+            "caches",
+            "--size",
+            str(self.size),
+            "--sets",
+            str(self.sets),
+            "--ways",
+            str(self.ways),
+        ]
+
+
+class Counts(NamedTuple):
+    """How often a line, or all lines, are taken in caches of a shape and in those that lose no line, and how often they were evicted."""
+
+    bounded: int
+    unbounded: int
+    evicted: int
+
+
+def shape_of(text: str) -> Shape:
+    """A shape that a call names."""
+    found = re.fullmatch(r"([1-9]\d{0,3})x([1-9]\d{0,3})x([1-9]\d{0,3})", text)
+    size, sets, ways = map(int, found.groups()) if found else (0, 0, 0)
+    is_power = all(it & (it - 1) == 0 for it in (size, sets))
+    if (
+        not found
+        or not is_power
+        or not 4 <= size <= 1024
+        or sets > 1024
+        or ways > 64
+        or sets * ways > 4096
+    ):
+        told = "bytes of a line, a power of two from 4 to 1024; sets, a power of two up to 1024; ways, up to 64; at most 4096 lines in all"
+        raise Fault(f"'--shape' is as 64x64x8, and not '{text}': {told}")
+    return Shape(size, sets, ways)
+
+
+def shapes_of(call: Call) -> list[Shape]:
+    names = call.options["shape"] or USUAL
+    for it in names:
+        if names.count(it) > 1:
+            raise Fault(f"the shape {it} stands twice")
+    return [shape_of(it) for it in names]
+
+
+class Caches:
+    """What `caches` prints of a shape; of its lines, which come in the order of what is taken most, the first ones."""
+
+    def __init__(self, text: str, shape: Shape, most: int) -> None:
+        head = re.match(
+            rf"caches {shape.size} {shape.sets} {shape.ways}\naccesses (\d+)\nlines (\d+)\n", text
+        )
+        total = TOTAL.search(text, max(0, len(text) - 200))
+        if not head or not total or text.count("\nline ") != int(head[2]):
+            raise Fault(f"it isn't what `caches` prints of the shape {shape}")
+        self.shape, self.accesses, self.count = shape, int(head[1]), int(head[2])
+        self.total = Counts(*map(int, total.groups()))
+        self.lines: dict[int, Counts] = {}
+        for it in LINE.finditer(text):
+            if len(self.lines) == most:
+                break
+            self.lines[int(it[1], 16)] = Counts(int(it[2]), int(it[3]), int(it[4]))
+
+
+class Sized:
+    """The shapes of one size of lines: what is taken in caches that lose no line is the same for all of them."""
+
+    def __init__(self, shapes: list[Caches], names: dict[int, str]) -> None:
+        self.shapes, self.names = shapes, names
+        first = shapes[0]
+        self.size, self.accesses, self.count, self.unbounded = (
+            first.shape.size,
+            first.accesses,
+            first.count,
+            first.total.unbounded,
+        )
+        self.bases = list(first.lines)
+        for it in shapes:
+            whole = {base: own.unbounded for base, own in it.lines.items()}
+            if (
+                whole != {base: own.unbounded for base, own in first.lines.items()}
+                or it.total.unbounded != self.unbounded
+            ):
+                raise Fault(
+                    f"`caches` counts otherwise for the shape {it.shape} than for {first.shape}: the trace isn't the same any more"
+                )
+
+    def told(self) -> str:
+        """What is seen, in a sentence."""
+        if not self.count:
+            return f"no line of {self.size} bytes is taken, even in caches that lose none"
+        what = f"{counted(self.count, 'line')} of {self.size} bytes {'is' if self.count == 1 else 'are'}"
+        told = f"{what} taken {counted(self.unbounded, 'time')} in caches that lose no line"
+        few, many = (of(self.shapes, key=lambda it: it.total.bounded) for of in (min, max))
+        least, most = few.total.bounded, many.total.bounded
+        if least < most:
+            return f"{told}, {counted(least, 'time')} in those of {few.shape.told()} and {most} in those of {many.shape.told()}"
+        where = f"all {len(self.shapes)} shapes" if len(self.shapes) > 1 else few.shape.told()
+        return f"{told}, and {'as often' if least == self.unbounded else counted(least, 'time')} in those of {where}"
+
+    def is_nowhere(self, base: int) -> bool:
+        """Whether nothing of a line's takings is left in caches of any of the shapes."""
+        return not any(it.lines[base].bounded for it in self.shapes)
+
+    def note(self, base: int) -> str:
+        return "in none of these caches" if self.is_nowhere(base) else ""
+
+
+def texts(call: Call, calls: Sequence[list[str]]) -> list[str]:
+    """What the program says of the trace for each list of words, some of them side by side."""
+    predator = Predator()
+    if call.reads_once():
+        return texts_of_pipe(predator, call.subject, calls)
+    with concurrent.futures.ThreadPoolExecutor(max_workers=min(4, os.cpu_count() or 1)) as pool:
+        return list(
+            pool.map(
+                lambda words: predator.text(
+                    [*words, "--", call.subject], REPORTED, stderr=subprocess.PIPE
+                ),
+                calls,
+            )
+        )
+
+
+def texts_of_pipe(predator: Predator, path: str, calls: Sequence[list[str]]) -> list[str]:
+    """The same of a trace that can be read once: each call has a copy."""
+
+    def told(words: list[str], take: int) -> str:
+        with open(take, "rb", 0) as trace:
+            return predator.text([*words, "-"], REPORTED, stdin=trace, stderr=subprocess.PIPE)
+
+    with fed(path) as source, concurrent.futures.ThreadPoolExecutor(max_workers=len(calls)) as pool:
+        asked, ends = [], []
+        for words in calls:
+            take, give = os.pipe()
+            asked.append(pool.submit(told, words, take))
+            ends.append(open(give, "wb", 0))  # noqa: SIM115 (`copy` closes it)
+        copy(os.dup(source), ends)
+    return [it.result() for it in asked]
+
+
+def names_of(report: Report, bases: Sequence[int]) -> dict[int, str]:
+    """What each of some lines is called: by the object that most of its accesses went to, and how many others are beside that."""
+    naming, lines = Naming(report), report.at()
+    names: dict[int, str] = {}
+    for base in bases:
+        line = lines.get(base)
+        if line:
+            shares = parties(Spot(base, line, None), line.objects(), naming)
+            key = max(shares, key=lambda it: shares[it][1])
+            beside = f", beside {len(shares) - 1} more" if len(shares) > 1 else ""
+            names[base] = naming.names.shortened(naming.key_name(key, shares[key][0])) + beside
+    return names
+
+
+def found(call: Call) -> list[Sized]:
+    """What is counted for all shapes, by their size of lines."""
+    shapes, most = shapes_of(call), call.number("top", LINES)
+    sizes = list(dict.fromkeys(it.size for it in shapes))
+    each = [
+        ["replay", "--set", "tracking=1,report=1", "--size", str(it), "--shift", "0"]
+        for it in sizes
+    ]
+    told = texts(call, [*(it.words() for it in shapes), *each])
+    own = [Caches(text, shape, most) for text, shape in zip(told, shapes)]
+    made = []
+    for size, text in zip(sizes, told[len(shapes) :]):
+        of = [it for it in own if it.shape.size == size]
+        made.append(Sized(of, names_of(Report(text, "the report of replay"), list(of[0].lines))))
+    return made
+
+
+def rows(sized: Sized) -> Iterator[str]:
+    """The screen, for one size of lines."""
+    yield f"{sized.told()} ({sized.accesses} accesses)"
+    if not sized.count:
+        return
+    wide = [
+        max(9, *(len(str(cell)) + 1 for cell in (it.shape, it.total.bounded, it.total.evicted)))
+        for it in sized.shapes
+    ]
+
+    def row(first: object, cells: Sequence[object], rest: str) -> str:
+        return (
+            f"{first:>11}"
+            + "".join(f"{cell:>{width}}" for cell, width in zip(cells, wide))
+            + f"  {rest}".rstrip()
+        )
+
+    yield row("unbounded", [str(it.shape) for it in sized.shapes], "line        object")
+    for base in sized.bases:
+        cells = [it.lines[base] for it in sized.shapes]
+        note = f"  ({sized.note(base)})" if sized.note(base) else ""
+        yield row(
+            cells[0].unbounded,
+            [it.bounded for it in cells],
+            f"{base:#010x}  {sized.names.get(base, '')}{note}",
+        )
+    yield row(
+        sized.unbounded, [it.total.bounded for it in sized.shapes], f"all lines ({sized.count})"
+    )
+    yield row("-", [it.total.evicted for it in sized.shapes], "evicted")
+    more = sized.count - len(sized.bases)
+    if more:
+        yield f"{counted(more, 'more line')}: --top {sized.count} shows all"
+
+
+def drawn(sized: Sized) -> Given:
+    """One size of lines as the template has it."""
+    most = max((own.unbounded for own in sized.shapes[0].lines.values()), default=0)
+
+    def cell(own: Counts, greatest: int, of: str, shape: Shape) -> Given:
+        told = f"{of}: {own.bounded} of {own.unbounded} are left in caches of {shape.told()}"
+        return {
+            "left": own.bounded,
+            "evicted": own.evicted,
+            "told": told,
+            "bar": bar(own.bounded, own.unbounded, greatest),
+        }
+
+    lines = []
+    for base in sized.bases:
+        name, own = f"{base:#010x}", [(it.lines[base], it.shape) for it in sized.shapes]
+        cells = [cell(it, most, name, shape) for it, shape in own]
+        told = {"base": name, "name": sized.names.get(base, ""), "note": sized.note(base)}
+        lines.append({**told, "unbounded": own[0][0].unbounded, "cells": cells})
+    return {
+        "told": sized.told(),
+        "accesses": sized.accesses,
+        "count": sized.count,
+        "unbounded": sized.unbounded,
+        "shapes": [it.shape.told() for it in sized.shapes],
+        "all": [cell(it.total, sized.unbounded, "all lines", it.shape) for it in sized.shapes],
+        "lines": lines,
+        "more": sized.count - len(lines),
+    }
+
+
+def page(sizes: Sequence[Sized], name: str) -> str:
+    """The page: of each line a bar for each shape, the worst line first."""
+    title = f"{os.path.basename(name)}: {'; '.join(it.told() for it in sizes)}"
+    return (
+        templates()
+        .get_template("caches.html")
+        .render(title=title, sizes=[drawn(it) for it in sizes])
+    )
+
+
+def show(call: Call) -> tuple[list[str], str | None]:
+    """The lines of the screen, and the page where one is asked for."""
+    if "html" in call.options:
+        templates()
+    sizes = found(call)
+    return [plain(row) for it in sizes for row in rows(it)], page(
+        sizes, call.named
+    ) if "html" in call.options else None

@@ -1,0 +1,32 @@
+"""The patch of a call: the repairs of all objects that change declarations alone."""
+
+from typing import Callable
+
+from view.faults import Fault
+from view.model.view import View
+from view.repairs.patches import Edit, patch, why_not
+
+
+def finder(view: View) -> Callable[[str], str | None]:
+    """What tells where a source is on this machine."""
+    sources = view.naming.sources
+    return sources.path if sources else lambda _: None
+
+
+def patch_text(view: View) -> str:
+    """The patch. What it can't say is noted."""
+    if view.tried is None:
+        wanted = "a trace in a file, a program with debug information, and a predator with `move`"
+        raise Fault(
+            f"`--patch` writes repairs that were counted, and none could be: it takes {wanted}"
+        )
+    edits: list[Edit] = []
+    for it in view.tried.values():
+        if it.repair is None or not it.is_saving():
+            continue
+        why = why_not(it.repair.edits and [*edits, *it.repair.edits], finder(view))
+        if why:
+            view.notes.append(f"the patch says nothing of {it.thing.name}: {why}")
+        else:
+            edits += it.repair.edits or []
+    return patch(edits, finder(view))
