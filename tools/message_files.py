@@ -334,12 +334,11 @@ def faults() -> Iterator[Fault]:
             "a",
         ], 14, f"table BadLine {number}", f"wrong.{at}: line {number} {FORM}"
         yield ["move", "empty", f"right.{at}", "a"], 0, "move 0 0", ""
-    yield [
-        "move",
-        "t",
-        "way",
-        "a",
-    ], 14, "table Occupied 0x00001004", "t: an access at this address stays, and other accesses would move to it: move them elsewhere, or add a line for this address"
+    occupied = (
+        "t: an access at this address stays, and other accesses would move to it: "
+        "move them elsewhere, or add a line for this address"
+    )
+    yield ["move", "t", "way", "a"], 14, "table Occupied 0x00001004", occupied
     for name in ("t", "second"):
         yield ["blame", name], 5, "trace NoPcs", f"{name}: {NO_PCS}"
     none = "no object symbol of the trace has this name, and not exactly one block was allocated at that address: name another object"

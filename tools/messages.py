@@ -228,7 +228,8 @@ def number_said(name: str, at: str, value: int) -> str:
     if name == "explain":
         words = " ".join(str(value) if it == at else USUAL[it] for it in ("BASE", "SIZE", "START"))
         return (
-            f"'{words}' is not a line and a start: BASE must be a multiple of {numbers_of('BASE', name)['step']} below {power('BASE', name)}, "
+            f"'{words}' is not a line and a start: "
+            f"BASE must be a multiple of {numbers_of('BASE', name)['step']} below {power('BASE', name)}, "
             f"SIZE {told('SIZE', name)}, START a number below {power('START', name)}"
         )
     if name == "sweep":
@@ -244,7 +245,10 @@ def number_said(name: str, at: str, value: int) -> str:
 
 def shapes() -> str:
     sets = told("--sets", "caches").removeprefix("a power of two ")
-    return f"--size must be {told('--size', 'caches')}, --sets one {sets}, --ways {told('--ways', 'caches')}, and sets times ways at most 4096"
+    return (
+        f"--size must be {told('--size', 'caches')}, --sets one {sets}, "
+        f"--ways {told('--ways', 'caches')}, and sets times ways at most 4096"
+    )
 
 
 def layouts(name: str) -> str:

@@ -168,7 +168,8 @@ class Messages(unittest.TestCase):
         )
 
     def test_an_object_that_is_not_there(self):
-        said = "predator: no object symbol of the trace has this name, and not exactly one block was allocated at that address: name another object\n"
+        said = "predator: no object symbol of the trace has this name, "
+        said += "and not exactly one block was allocated at that address: name another object\n"
         said += "predator: objects on lines that are taken: ring, stats\n"
         self.assertEqual(
             self.predator("place", "ring.trace", "nosuch"), (13, "predator: place NoObject\n", said)
