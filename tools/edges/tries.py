@@ -179,7 +179,9 @@ def try_dash(bench: Bench) -> None:
         )
     remove("-")
     bench.kept = bench.inputs()
-    cut = b"predator: standard input: it ends after 10 bytes, before the trace does: write or copy it again\n"
+    cut = (
+        b"predator: standard input: the trace is cut off after 10 bytes: record or copy it again\n"
+    )
     for words in (
         "replay -",
         "misses -",

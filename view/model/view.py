@@ -169,7 +169,9 @@ class View:
 
     def note_lacked(self, predator: Predator) -> None:
         """Notes that a thread never ran since no hart was free."""
-        found = re.findall("^predator: (no hart was free for [^:\n]*)", predator.said, re.MULTILINE)
+        found = re.findall(
+            "^predator: (the last thread could not start)", predator.said, re.MULTILINE
+        )
         if found and self.call.how == "run":
             harts = setting(self.call.settings_words(), "harts")
             self.lacked = f"{found[-1]}, and what that shares isn't seen: `--set harts={min(2 * harts, 256)}` gives more"

@@ -160,7 +160,7 @@ class Call:
             key, is_set, _ = it.partition("=")
             if is_set and key not in KEYS:
                 raise Fault(
-                    f"'{it}' in --set names no key of the settings; {nearest(key, KEYS)}the keys are: {', '.join(KEYS)}"
+                    f"'{it}' in --set names an unknown key; {nearest(key, KEYS)}the keys are: {', '.join(KEYS)}"
                 )
 
     def split(self, words: Sequence[str]) -> tuple[list[str], list[str]]:
