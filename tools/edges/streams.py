@@ -35,8 +35,8 @@ PIPE, PAGE, DISK = 65536, 4096, 16384
 
 def closing(*numbers: int) -> Callable[[], None]:
     def close() -> None:
-        for it in numbers:
-            os.close(it)
+        for number in numbers:
+            os.close(number)
 
     return close
 
