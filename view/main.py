@@ -276,7 +276,7 @@ def keep_inputs(call: Call) -> None:
         if it is None or it == "-":
             continue
         if any(is_same(it, other) for other in (*taken, *([old] if old else []))):
-            raise Fault(f"{it}: the same file is in use under another name, and stays as it is")
+            raise Fault(f"{it}: the file is in use under another name and stays unchanged: name another file")
         if not os.path.isdir(os.path.dirname(it) or "."):
             raise Fault(f"{it}: No such file or directory")
         taken.append(it)
