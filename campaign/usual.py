@@ -10,7 +10,8 @@ with the greatest count in most seeds, and the objects that set the two apart: t
 fewer than a half of the seeds list, and those that seeds alone list; each with its count there, in how many seeds it is listed, its \
 counts in
 them, and the seed of the greatest. --lines takes each line by itself, and not all of an
-object as one. --renew puts the numbers of lines, and the objects, into the tables of docs/STUDIES.md."""
+object as one. --renew puts the numbers of lines, and the objects with
+the greatest counts, into the tables of docs/STUDIES.md."""
 
 import os
 import sys
@@ -131,6 +132,19 @@ def folded(rows: Iterable[Row]) -> list[Row]:
     return [(name, ", ".join(own), *rest) for (name, *rest), own in found.items()]
 
 
+def by_quantum(rows: Iterable[Row]) -> tuple[list[str], list[Row]]:
+    """A table of each program's objects, with a column for each quantum: the usual count, and the range of the seeds' counts."""
+    found: dict[Row, dict[str, str]] = {}
+    for program, quantum, name, usual, _, least, _, greatest, _ in rows:
+        own = found.setdefault((program, f"`{name}`"), {})
+        own[quantum] = f"{usual}; {least} to {greatest}"
+    quanta = dict.fromkeys(quantum for own in found.values() for quantum in own)
+    return (
+        ["Program", "Object", *(f"`quantum` {quantum}" for quantum in quanta)],
+        [(*key, *(own.get(quantum, "-") for quantum in quanta)) for key, own in found.items()],
+    )
+
+
 def renew_page(campaign: Record, part: Part) -> None:
     sys.path.append(os.path.join(HERE, "..", "guest", "studies"))
     import report  # (only here, since a campaign elsewhere has no page of studies)
@@ -139,33 +153,23 @@ def renew_page(campaign: Record, part: Part) -> None:
         return row[0], dict(it.split("=") for it in row[1].split(","))["quantum"], *row[2:]
 
     numbers = found_in(campaign, part, True)[0]
-    _, first, rows = found_in(campaign, part, False)
+    _, first, _ = found_in(campaign, part, False)
     heads = [
         "Program",
         "`quantum`",
-        "Seeds",
         "Usual",
         "in every seed",
         "in fewer than half",
-        "Others",
+        "Seeds alone",
         "in half or more",
         "in a tenth or fewer",
     ]
-    parts = {"usual": report.table(heads, folded(map(of_quantum, numbers)))}
-    heads = [
-        "Program",
-        "`quantum`",
-        "Object",
-        "Usual count",
-        "Seeds",
-        "least",
-        "middle",
-        "greatest",
-        "Seed of the greatest",
-    ]
-    for name, found in (("worst", first), ("apart", rows)):
-        named = [(*it[:2], f"`{it[2]}`", *it[3:]) for it in map(of_quantum, found)]
-        parts[name] = report.table(heads, named)
+    parts = {
+        "usual": report.table(
+            heads, [(*it[:2], *it[3:]) for it in folded(map(of_quantum, numbers))]
+        )
+    }
+    parts["worst"] = report.table(*by_quantum(map(of_quantum, first)))
     report.renew(parts)
 
 

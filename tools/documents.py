@@ -7,7 +7,7 @@ Prints `FILE:LINE: NAME` for each
 - path below a crate, as sharing_rules/specs/Lines, with or without crates/ before it, and a crate that crates.txt doesn't list; a path
   that begins with src/, specs/ or proofs/, or a name with the ending .rt, is below a crate that its paragraph or heading names before;
 - item of a crate, as `report::write_report`, that its src/ doesn't define;
-- clause in the tables of docs/PROMISES.md that no function of the row's crates has, and definition there that no file defines;
+- reference of docs/PROMISES.md that the crates don't have (promises.py), and mistake planted there that isn't found;
 - word in backquotes, a single name, that stands nowhere in the crates, the scripts and the kit for guests (but in the studies, which
   have words of other programs);
 - code that docs/PROMISES.md quotes and no source has; a line `..` stands for what is left out;
@@ -19,6 +19,8 @@ It ends with 1 where there are any."""
 import os
 import re
 import sys
+
+import promises
 
 TOP = os.path.abspath(os.path.join(os.path.dirname(os.path.abspath(__file__)), ".."))
 PARTS = ("src", "specs", "proofs", "must-fail", "data")
@@ -42,7 +44,7 @@ def documents():
 
 
 class Crate:
-    """What a crate defines: the text of its sources, and the names of its clauses."""
+    """What a crate defines: the text of its sources."""
 
     def __init__(self, name):
         self.texts = {part: "" for part in PARTS}
@@ -50,15 +52,6 @@ class Crate:
             for folder, _, files in os.walk(os.path.join(TOP, "crates", name, part)):
                 for it in files:
                     self.texts[part] += read(os.path.join(folder, it))
-        self.defined = set(
-            re.findall(r"^ *(?:[a-z]+ )*([^\s:({]+)\s*[:({]", self.texts["specs"], re.MULTILINE)
-        )
-        self.defined |= set(
-            re.findall(r"\b(?:fn|struct|enum|trait|const) (\w+)", self.texts["src"])
-        )
-        self.clauses = set(
-            re.findall(r"\b(?:ensures\*?|requires|ghost) (\w+)\s*[{=:]", self.texts["src"])
-        )
 
     def has_item(self, name):
         kinds = r"fn|struct|enum|trait|const|static|type|mod"
@@ -70,9 +63,6 @@ class Crate:
                 re.MULTILINE,
             )
         )
-
-    def defines(self, name):
-        return name in self.defined
 
 
 def has_path(path):
@@ -114,9 +104,13 @@ def words_of_sources():
 
 
 def headings(text):
+    """The names that a link may end with: those of headings, and older ones that a line `<a id="NAME"></a>` keeps."""
     return {
-        re.sub(r"[^\w\- ]", "", it.lower()).replace(" ", "-")
-        for it in re.findall(r"^#+ (.*)$", text, re.MULTILINE)
+        *(
+            re.sub(r"[^\w\- ]", "", it.lower()).replace(" ", "-")
+            for it in re.findall(r"^#+ (.*)$", text, re.MULTILINE)
+        ),
+        *re.findall(r'^<a id="([\w-]+)"></a>$', text, re.MULTILINE),
     }
 
 
@@ -177,18 +171,11 @@ def wrong_floors(text):
     return [f"{name}: floor {floor}" for name, floor in floors().items() if told.get(name) != floor]
 
 
-def of_promises(line, crates, before):
-    """What a row of docs/PROMISES.md names in vain, and the crates that it is about."""
-    cells = [it.strip() for it in line.strip().strip("|").split(" | ")]
-    if len(cells) < 3 or cells[0] == "Promise":
-        return [], before
-    about = [it for it in crates if re.search(rf"\b{it}\b", cells[1])]
-    about += before if "the same" in cells[1] else []
-    clauses = set().union(*(crates[it].clauses for it in about))
-    wrong = [it for it in re.findall(r"`(\w+)`", cells[2]) if it not in clauses]
-    found = [it for it in re.findall(r"`([\w-]+)`", cells[3])] if len(cells) > 3 else []
-    wrong += [it for it in found if not any(crate.defines(it) for crate in crates.values())]
-    return wrong, about
+def wrong_promises(text):
+    """The references of docs/PROMISES.md that the crates don't have, and the planted mistakes that aren't found."""
+    crates = promises.read_crates()
+    found = [f"{promises.PAGE}:{it}" for it in promises.wrong_references(crates, text)]
+    return found + [f"{promises.PAGE}:1: {it}" for it in promises.missed_mistakes(crates, text)]
 
 
 def words_twice(page):
@@ -202,9 +189,8 @@ def words_twice(page):
 
 def wrong_names(name, crates, everywhere):
     """The lines of a document, each with what it names in vain."""
-    about, heading, paragraph, columns = [], [], [], ""
+    heading, paragraph = [], []
     for number, line in enumerate(read(name).split("\n"), 1):
-        columns = (columns or line) if line.startswith("|") else ""
         named = [it for it in crates if re.search(rf"(?<![\w]){it}(?![\w])", line)]
         heading = named if line.startswith("#") else heading
         paragraph = named if line.startswith(("|", "- ")) or not line.strip() else paragraph + named
@@ -231,9 +217,6 @@ def wrong_names(name, crates, everywhere):
             for it in words
             if it not in everywhere and not it.endswith("_") and "STUDIES" not in name
         ]
-        if name == "docs/PROMISES.md" and columns.startswith("| Promise |"):
-            more, about = of_promises(line, crates, about)
-            found += more
         yield number, dict.fromkeys(found)
 
 
@@ -256,8 +239,9 @@ def main(words):
     ):
         wrong.append(f"docs/ARCHITECTURE.md:1: {it}")
     for name in words or sorted(documents()):
-        if name == "docs/PROMISES.md":
+        if name == promises.PAGE:
             wrong += [f"{name}:{number}: {line}" for number, line in quoted(read(name), crates)]
+            wrong += wrong_promises(read(name))
         wrong += [
             f"{name}:{number}: {it}"
             for number, found in wrong_names(name, crates, everywhere)

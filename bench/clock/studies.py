@@ -106,10 +106,10 @@ def all_kept() -> dict[str, Study]:
 
 def bands_beside(studies: Mapping[str, Study]) -> str:
     """The bands of all studies: how many cases each has, and its least, middle and greatest slowdown."""
-    heads = ["Useless misses by 1000 steps"]
+    heads = ["False-sharing misses per 1,000 steps"]
     rows: list[list[Cell]] = [[it[0]] for it in bands([])]
     for name, study in studies.items():
-        heads += [f"{name}: cases", "least", "middle", "greatest"]
+        heads += [f"{name}: cases", "least", "median", "greatest"]
         rows = [own + more[1:] for own, more in zip(rows, bands(study.judged()))]
     return table(heads, rows)
 
@@ -117,11 +117,11 @@ def bands_beside(studies: Mapping[str, Study]) -> str:
 def ranks(study: Study) -> list[tuple[str, Cell]]:
     """The rank correlations of the slowdown with some numbers."""
     chosen = {
-        "useless misses": rate(USUAL),
-        "the same in turns of 10": rate(10),
-        "the same in turns of 1": rate(1),
+        "false-sharing misses": rate(USUAL),
+        "the same, quantum 10": rate(10),
+        "the same, quantum 1": rate(1),
     }
-    chosen |= {"both kinds of misses": both, "the report's count": reported}
+    chosen |= {"false- and true-sharing misses": both, "invalidations": reported}
     return [
         (f"rank correlation with {name}", correlated(study.judged(), it))
         for name, it in chosen.items()
@@ -150,11 +150,11 @@ def of_bound(study: Study) -> list[tuple[str, Cell]]:
     over = sum(row.share() > it + 0.02 for row, it in most)
     return [
         (
-            "*at most* was passed by 2 points",
+            "*at most* exceeded by 2 points",
             f"{over} of {len(most)}: {', '.join(passed)}" if over else f"0 of {len(most)}",
         ),
         (
-            "the part of *at most* that padding saved, in the middle",
+            "share of *at most* that padding saved, median",
             median(saved) if saved else None,
         ),
     ]
@@ -168,12 +168,12 @@ def facts(study: Study) -> list[tuple[str, Cell]]:
         it.slowdown() > 1.05 for it in handed
     )
     return [
-        ("pairs that nothing disturbed", f"{len(rows)} of {len(study.rows)}"),
+        ("undisturbed pairs", f"{len(rows)} of {len(study.rows)}"),
         ("ns from one processor to another", f"{ways[0]:.0f} to {ways[-1]:.0f}"),
         *ranks(study),
         *of_bound(study),
         (
-            "of those with most misses useful, a pad cost 5% or more; saved it",
+            "of pairs with mostly true sharing, slower by 5% when padded; faster",
             f"{slower}; {gained} of {len(handed)}",
         ),
     ]
@@ -208,7 +208,7 @@ def programs_beside(studies: Mapping[str, Study], names: Sequence[str], is_told:
     heads = [
         "Program",
         *(["What it does"] if is_told else []),
-        "Useless by 1000 steps",
+        "False-sharing misses per 1,000 steps",
         *[f"{it}: slowdown" for it in studies],
     ]
     return table(heads, rows, 2 if is_told else 1)

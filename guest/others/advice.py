@@ -187,7 +187,7 @@ def main(words):
             row, bad = Study(name, folder).row()
         rows.append(row)
         wrong += bad
-    heads = ["Program", "What is advised", "Useless and useful before", "Foretold", "Counted"]
+    heads = ["Program", "Advice", "Before", "Tried on the trace", "After the change"]
     text = table(heads, rows)
     print(text)
     for it in wrong:

@@ -14,7 +14,7 @@ import tempfile
 HERE = os.path.dirname(os.path.abspath(__file__))
 sys.path.insert(0, os.path.join(HERE, "..", "studies"))
 from costs import Build, text  # noqa: E402
-from report import Run, block, renew, shown, table, with_objects  # noqa: E402
+from report import Run, renew, shown, table  # noqa: E402
 
 OUT = os.path.join(HERE, "out")
 # Of each study its builds: as it is, and after each repair.
@@ -35,29 +35,6 @@ LARGE = {"zstd": SETTINGS + "memory = 67108864\n", "xz": SETTINGS + "memory = 67
 # moved.
 PREDICTED = ["rte_ring", "rte_ring-together", "kt_for-apart"]
 MOVED = {"rte_ring-together": ("rte_ring-together-at-24", 24)}
-# How many lines of a report, and how many of the misses, are shown, and how many objects of each.
-MOST, MOST_OF_ONE = 2, 2
-
-
-def first(lines):
-    """The rows of the first lines of a list, each with the first objects on it."""
-    return [text for rows in with_objects(lines[:MOST], MOST_OF_ONE) for text in rows]
-
-
-def excerpt(name, run, build):
-    """The first observed lines of a report, and the lines of its misses that are the most useless."""
-    observed = run.report.of_kind("observed")
-    missed = [it for it in build.missed if it.useless > 0]
-    return block(
-        [
-            f"{name}: lines {len(run.report.lines)}, {len(observed)} of them observed",
-            *first([(it.text, it.objects) for it in observed]),
-        ]
-        + [
-            f"{name}: lines with useless misses {len(missed)}",
-            *first([(it.texts[0], it.texts[1:]) for it in missed]),
-        ]
-    )
 
 
 def useless(told, base, size):
@@ -107,7 +84,6 @@ def main(words):
     subprocess.run([os.path.join(HERE, "build.sh"), *names], check=True)
     runs, costs, fights, parts, wrong = {}, [], [], {}, []
     for study in names:
-        shown_here = []
         for name in STUDIES[study]:
             path = os.path.join(OUT, f"{name}.elf")
             settings = LARGE.get(study, SETTINGS)
@@ -118,40 +94,46 @@ def main(words):
                 run.report.sum("observed"),
                 run.by_word.sum("observed"),
             ]
-            costs.append([name, run.report.steps, *counts, *build.total, run.told()])
+            lines = sum(it.useless > 0 for it in build.missed)
+            costs.append([name, run.report.steps, *counts, *build.total, lines, run.told()])
             if build.pair and name == STUDIES[study][0]:
                 fights.append([name, f"`{shown(build.base)}`", build.count, *build.pair])
-            shown_here.append(excerpt(name, run, build))
             wrong += [f"{name}: {it}" for it in run.wrong + build.wrong]
-        parts[study] = "\n\n".join(shown_here)
     heads = [
         "Build",
         "Steps",
         "Observed lines",
-        "Counts",
+        "Invalidations",
         "By word",
         "Cold",
-        "Useful",
-        "Useless",
+        "True",
+        "False",
+        "Lines with false",
         "Recount",
     ]
     parts["others"] = table(heads, costs)
-    parts["others' fights"] = table(
-        ["Build", "Line", "Count", "Who takes it most", "From whom", "Taken", "For the same word"],
-        fights,
-    )
+    heads = [
+        "Build",
+        "Line",
+        "Invalidations",
+        "Most frequent invalidator",
+        "Invalidated",
+        "Times",
+        "Same word",
+    ]
+    parts["others' conflicts"] = table(heads, fights)
     heads = [
         "Build",
         "Kind",
         "Predicted line",
         "Size",
-        "Count",
-        "Useless there",
-        "Useless in its lines of 64",
+        "Invalidations",
+        "False there",
+        "False in its lines of 64",
         "Observed",
-        "Count",
+        "Invalidations",
     ]
-    parts["others foretold"] = table(heads, [foretold(it, runs) for it in PREDICTED if it in runs])
+    parts["others predicted"] = table(heads, [foretold(it, runs) for it in PREDICTED if it in runs])
     for name, told in parts.items():
         print(f"\n== {name}\n\n{told}")
     for it in wrong:

@@ -91,11 +91,10 @@ class Build:
 
 
 class Missed:
-    """A line of the text of misses, with what stands on it."""
+    """A line of the text of misses."""
 
     def __init__(self, told):
-        self.texts = [it for it in told.splitlines() if it.split()[0] in ("line", "object", "site")]
-        words = self.texts[0].split()
+        words = told.split()
         self.base, self.useful, self.useless = int(words[1], 16), int(words[5]), int(words[7])
 
 
@@ -117,15 +116,15 @@ def main(words):
     heads = [
         "Build",
         "Line",
-        "Count",
-        "Who takes it most",
-        "From whom",
-        "Taken",
-        "For the same word",
+        "Invalidations",
+        "Most frequent invalidator",
+        "Invalidated",
+        "Times",
+        "Same word",
     ]
     parts = {
-        "costs": table(["Build", "Cold", "Useful", "Useless"], costs),
-        "fights": table(heads, fights),
+        "costs": table(["Build", "Cold", "True sharing", "False sharing"], costs),
+        "conflicts": table(heads, fights),
     }
     for name, told in parts.items():
         print(f"\n== {name}\n\n{told}")

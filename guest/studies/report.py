@@ -32,13 +32,12 @@ def shown(addr):
 
 
 class Line:
-    """A listed line of a report: its own line, and the lines of what stands on it and of its words, as they are printed."""
+    """A listed line of a report."""
 
     def __init__(self, text):
         words = text.split()
         self.text, self.kind, self.base = text, words[1], int(words[2], 16)
         self.size, self.start, self.count = (int(words[it]) for it in (3, 5, 7))
-        self.verdict, self.objects, self.words = words[9], [], []
 
 
 class Report:
@@ -52,10 +51,6 @@ class Report:
                 self.outcome = line
             elif words[:1] == ["steps"]:
                 self.steps = int(words[1])
-            elif words[:1] in (["object"], ["site"]):
-                self.lines[-1].objects.append(line)
-            elif words[:1] == ["word"]:
-                self.lines[-1].words.append(line)
 
     def of_kind(self, *kinds):
         return [it for it in self.lines if it.kind in kinds]
@@ -137,21 +132,6 @@ def table(heads, rows):
     rows = [[str(it) for it in row] for row in rows]
     right = ["-:" if all(row[at].isdigit() for row in rows) else "-" for at in range(len(heads))]
     return "\n".join(f"| {' | '.join(row)} |" for row in [heads, right, *rows])
-
-
-def with_objects(lines, most=100):
-    """The rows of some lines, each given as its text and what stands on it: at most so many objects, without their call sites, and none
-    where they are those of the line before."""
-    made, before = [], None
-    for text, rows in lines:
-        shown_here = [it for it in rows if it.startswith("object ")][:most]
-        made.append([text, *(shown_here if shown_here != before else [])])
-        before = shown_here
-    return made
-
-
-def block(lines):
-    return "\n".join(f"    {it}" for it in lines)
 
 
 def commit():

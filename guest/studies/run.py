@@ -7,17 +7,18 @@ where a program doesn't end with exit 0, or a recount says otherwise than a repo
 import os
 import sys
 
-from report import BUILT, SETTINGS, Run, block, builds, commit, renew, shown, table, with_objects
+from report import BUILT, SETTINGS, Run, builds, commit, renew, shown, table
 
-# How many lines of a report a study shows.
-MOST = 4
-# The studies that show a prediction, and the place of their build where nothing is observed.
+# The studies that show predictions, and the offset of their build where nothing is observed; and how many predictions each shows.
 PREDICTED = {"linear_regression": 0, "word_count": 0, "string_match": 0}
+MOST_PREDICTED = 2
 
 
 def summary(runs):
     rows = []
     for name, run in runs.items():
+        if "-at-" in name:
+            continue
         counts = [
             len(run.report.of_kind("observed")),
             run.report.sum("observed"),
@@ -33,26 +34,14 @@ def summary(runs):
             "Build",
             "Steps",
             "Observed lines",
-            "Counts",
+            "Invalidations",
             "By word",
             "Predicted lines",
-            "Counts",
+            "Invalidations",
             "Recount",
         ],
         rows,
     )
-
-
-def excerpt(name, run):
-    """The first observed lines of a report with what stands on them, or else the first predicted ones, as the program printed them."""
-    lines, observed = run.report.lines, run.report.of_kind("observed")
-    first = (observed or lines)[:MOST]
-    made = [
-        f"{name}: lines {len(lines)}" + (f", {len(observed)} of them observed" if lines else "")
-    ]
-    for rows in with_objects([(it.text, it.objects) for it in first]):
-        made += rows
-    return block(made + [".."] * (len(observed or lines) > MOST))
 
 
 def placements(runs):
@@ -66,13 +55,22 @@ def placements(runs):
                 + [len(report.of_kind("shifted")), report.sum("shifted")]
                 + [len(report.of_kind("doubled")), report.sum("doubled")]
             )
-    return table(["Place", "Observed", "Counts", "Shifted", "Counts", "Doubled", "Counts"], rows)
+    heads = [
+        "Offset",
+        "Observed",
+        "Invalidations",
+        "Shifted",
+        "Invalidations",
+        "Doubled",
+        "Invalidations",
+    ]
+    return table(heads, rows)
 
 
 def foretold(study, place, runs):
-    """Each shifted line that was predicted at a place, beside the line that is observed where the data lie so."""
+    """The first shifted lines that are predicted at an offset, each beside the line that is observed where the data lie so."""
     rows = []
-    for line in runs[f"{study}-at-{place}"].report.of_kind("shifted"):
+    for line in runs[f"{study}-at-{place}"].report.of_kind("shifted")[:MOST_PREDICTED]:
         moved = (place - line.base) % 64
         other = runs.get(f"{study}-at-{moved}")
         seen = (
@@ -100,19 +98,16 @@ def main(words):
             print(f"{name}: {it}")
     parts = {"suite": summary(runs)}
     for study in names:
-        parts[study] = "\n\n".join(
-            excerpt(it, runs[it]) for it in studies[study] if "-at-" not in it
-        )
         if any("-at-" in it for it in studies[study]):
-            parts[f"{study} by place"] = placements({it: runs[it] for it in studies[study]})
+            parts[f"{study} by offset"] = placements({it: runs[it] for it in studies[study]})
     heads = [
         "Study",
-        "Place",
+        "Offset",
         "Predicted line",
-        "Count",
-        "Place of the other run",
+        "Invalidations",
+        "Offset of the other run",
         "Observed line",
-        "Count",
+        "Invalidations",
     ]
     rows = [
         row
@@ -120,7 +115,7 @@ def main(words):
         if study in names
         for row in foretold(study, place, runs)
     ]
-    parts["foretold"] = table(heads, rows)
+    parts["predicted"] = table(heads, rows)
     slowest = max(runs, key=lambda it: runs[it].seconds)
     parts["commit"] = f"Made at commit {commit()}."
     for name, text in parts.items():

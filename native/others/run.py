@@ -310,7 +310,7 @@ def main(words: Sequence[str]) -> int:
         if it not in STUDIES:
             sys.exit(f"run.py: {it}: the studies are {', '.join(STUDIES)}")
     built(names)
-    heads = ["Program", "Accesses", "Bytes each", "Useful", "Useless", "Of the object", "Named"]
+    heads = ["Program", "Accesses", "Bytes each", "True", "False", "Of the object", "Named"]
     found = [row(STUDIES[name], build) for name in names for build in STUDIES[name].builds]
     text, rows = table(heads, [cells for cells, _ in found]), "".join(it for _, it in found)
     print(text, rows, sep="\n")

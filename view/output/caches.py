@@ -80,9 +80,9 @@ def shape_of(text: str) -> Shape:
 
 def shapes_of(call: Call) -> list[Shape]:
     names = call.options["shape"] or USUAL
-    for it in names:
-        if names.count(it) > 1:
-            raise Fault(f"the shape {it} stands twice")
+    for name in names:
+        if names.count(name) > 1:
+            raise Fault(f"the shape {name} stands twice")
     return [shape_of(it) for it in names]
 
 
@@ -99,10 +99,10 @@ class Caches:
         self.shape, self.accesses, self.count = shape, int(head[1]), int(head[2])
         self.total = Counts(*map(int, total.groups()))
         self.lines: dict[int, Counts] = {}
-        for it in LINE.finditer(text):
+        for match in LINE.finditer(text):
             if len(self.lines) == most:
                 break
-            self.lines[int(it[1], 16)] = Counts(int(it[2]), int(it[3]), int(it[4]))
+            self.lines[int(match[1], 16)] = Counts(int(match[2]), int(match[3]), int(match[4]))
 
 
 class Sized:
@@ -118,14 +118,14 @@ class Sized:
             first.total.unbounded,
         )
         self.bases = list(first.lines)
-        for it in shapes:
-            whole = {base: own.unbounded for base, own in it.lines.items()}
+        for shape in shapes:
+            whole = {base: own.unbounded for base, own in shape.lines.items()}
             if (
                 whole != {base: own.unbounded for base, own in first.lines.items()}
-                or it.total.unbounded != self.unbounded
+                or shape.total.unbounded != self.unbounded
             ):
                 raise Fault(
-                    f"`caches` counts otherwise for the shape {it.shape} than for {first.shape}: the trace isn't the same any more"
+                    f"`caches` counts otherwise for the shape {shape.shape} than for {first.shape}: the trace isn't the same any more"
                 )
 
     def told(self) -> str:
@@ -134,7 +134,7 @@ class Sized:
             return f"no line of {self.size} bytes is taken, even in caches that lose none"
         what = f"{counted(self.count, 'line')} of {self.size} bytes {'is' if self.count == 1 else 'are'}"
         told = f"{what} taken {counted(self.unbounded, 'time')} in caches that lose no line"
-        few, many = (of(self.shapes, key=lambda it: it.total.bounded) for of in (min, max))
+        few, many = (of(self.shapes, key=lambda shape: shape.total.bounded) for of in (min, max))
         least, most = few.total.bounded, many.total.bounded
         if least < most:
             return f"{told}, {counted(least, 'time')} in those of {few.shape.told()} and {most} in those of {many.shape.told()}"
@@ -190,7 +190,7 @@ def names_of(report: Report, bases: Sequence[int]) -> dict[int, str]:
         line = lines.get(base)
         if line:
             shares = parties(Spot(base, line, None), line.objects(), naming)
-            key = max(shares, key=lambda it: shares[it][1])
+            key = max(shares, key=lambda candidate: shares[candidate][1])
             beside = f", beside {len(shares) - 1} more" if len(shares) > 1 else ""
             names[base] = naming.names.shortened(naming.key_name(key, shares[key][0])) + beside
     return names
@@ -201,8 +201,8 @@ def found(call: Call) -> list[Sized]:
     shapes, most = shapes_of(call), call.number("top", LINES)
     sizes = list(dict.fromkeys(it.size for it in shapes))
     each = [
-        ["replay", "--set", "tracking=1,report=1", "--size", str(it), "--shift", "0"]
-        for it in sizes
+        ["replay", "--set", "tracking=1,report=1", "--size", str(size), "--shift", "0"]
+        for size in sizes
     ]
     told = texts(call, [*(it.words() for it in shapes), *each])
     own = [Caches(text, shape, most) for text, shape in zip(told, shapes)]
@@ -219,8 +219,14 @@ def rows(sized: Sized) -> Iterator[str]:
     if not sized.count:
         return
     wide = [
-        max(9, *(len(str(cell)) + 1 for cell in (it.shape, it.total.bounded, it.total.evicted)))
-        for it in sized.shapes
+        max(
+            9,
+            *(
+                len(str(cell)) + 1
+                for cell in (shape.shape, shape.total.bounded, shape.total.evicted)
+            ),
+        )
+        for shape in sized.shapes
     ]
 
     def row(first: object, cells: Sequence[object], rest: str) -> str:

@@ -39,7 +39,7 @@ class Sweep:
         self.size, self.accesses = int(head[1]), int(head[2])
         self.own = self.shifts[0]
         self.least = next((it for it in self.shifts if it.shift == int(least[1])), self.own)
-        self.most = max(self.shifts, key=lambda it: it.total)
+        self.most = max(self.shifts, key=lambda shift: shift.total)
         self.objects: list[Crossed] = []
 
     def ends(self) -> list[Shift]:
@@ -75,15 +75,15 @@ class Sweep:
             return f", and under no shift less often; {most}"
         return f", and {least}"
 
-    def mark(self, it: Shift) -> str:
+    def mark(self, shift: Shift) -> str:
         """What a shift is marked as."""
-        marks = ["as data lies"] if it is self.own else []
-        marks += ["the most"] if it is self.most and self.most.total > self.least.total else []
-        return ", ".join([*marks, *(["the least"] if it is self.least else [])])
+        marks = ["as data lies"] if shift is self.own else []
+        marks += ["the most"] if shift is self.most and self.most.total > self.least.total else []
+        return ", ".join([*marks, *(["the least"] if shift is self.least else [])])
 
-    def heading(self, it: Shift) -> str:
-        mark = self.mark(it)
-        return f"shift {it.shift}" + (f" ({mark})" if mark else "")
+    def heading(self, shift: Shift) -> str:
+        mark = self.mark(shift)
+        return f"shift {shift.shift}" + (f" ({mark})" if mark else "")
 
 
 @contextlib.contextmanager
@@ -108,8 +108,8 @@ def rows(sweep: Sweep, most: int) -> Iterator[str]:
     """The screen."""
     yield f"{sweep.title()} ({sweep.accesses} accesses)"
     yield "   shift    total  lines"
-    for it in sweep.shifts:
-        yield f"{it.shift:>8} {it.total:>8} {it.lines:>6}  {sweep.mark(it)}".rstrip()
+    for shift in sweep.shifts:
+        yield f"{shift.shift:>8} {shift.total:>8} {shift.lines:>6}  {sweep.mark(shift)}".rstrip()
     if not sweep.objects:
         return
     ends = sweep.ends()
@@ -129,18 +129,18 @@ def marks(sweep: Sweep) -> list[tuple[str, int, str]]:
     found = [("square", sweep.own, "as data lies")]
     if sweep.most.total > sweep.least.total:
         found += [
-            (shape, it, what)
-            for shape, it, what in (
+            (shape, shift, what)
+            for shape, shift, what in (
                 ("triangle", sweep.most, "most"),
                 ("circle", sweep.least, "least"),
             )
         ]
     places = {it.shift: at for at, it in enumerate(sweep.shifts)}
     told: list[tuple[str, int, str]] = []
-    for shape, it, what in found:
-        if it is not sweep.own or shape == "square":
-            where = "" if shape == "square" else f", shift {it.shift}"
-            told.append((shape, places[it.shift], f"{what}{where}: {it.total}"))
+    for shape, shift, what in found:
+        if shift is not sweep.own or shape == "square":
+            where = "" if shape == "square" else f", shift {shift.shift}"
+            told.append((shape, places[shift.shift], f"{what}{where}: {shift.total}"))
     return told
 
 
@@ -152,8 +152,8 @@ def page(sweep: Sweep, name: str, most: int = OBJECTS) -> str:
     given: Given = curve(
         [it.total for it in sweep.shifts], [(at, text) for _, at, text in found], shifts
     )
-    for it, (shape, _, _) in zip(given["marks"], found):
-        it["shape"] = shape
+    for mark, (shape, _, _) in zip(given["marks"], found):
+        mark["shape"] = shape
     return (
         templates()
         .get_template("sweep.html")

@@ -111,7 +111,7 @@ class Messages(unittest.TestCase):
         )
         self.assertEqual(
             heard[len(said) :],
-            "predator: own: the file is an ELF file for x86-64: build it for RV32IMA with guest/build.sh\n",
+            "predator: own: an ELF file for x86-64: guest/build.sh builds for RV32IMA\n",
         )
         self.is_refused(
             "./own is a program of this machine: `predator view ./own` records it", "run", "./own"
@@ -136,21 +136,19 @@ class Messages(unittest.TestCase):
 
     def test_a_trace_that_was_cut(self):
         said = "predator: cut.trace: where a kill or Ctrl-C cut it, `predator native --mend cut.trace` gives it an end\n"
-        said += (
-            "predator: cut.trace: the trace is cut off after 3000 bytes: record or copy it again\n"
-        )
+        said += "predator: cut.trace: it ends after 3000 bytes, before the trace does: write or copy it again\n"
         said += "predator view: `predator replay` was refused: trace Truncated 3000\n"
         self.assertEqual(self.view("cut.trace"), (2, "", said))
 
     def test_slips_in_words(self):
         keys = "harts, memory, stack, tracking, prediction, report, quantum, budget, line, seed"
-        said = f"'quantom=3' in --set names an unknown key; did you mean `quantum`? the keys are: {keys}"
+        said = f"'quantom=3' in --set names no key of the settings; did you mean `quantum`? the keys are: {keys}"
         self.is_refused(said, "run", "ring.elf", "--set", "quantom=3")
         status, out, heard = self.predator("run", "ring.elf", "--set", "quantom=3")
         said = f"predator: did you mean `quantum`? The keys are: {keys.replace(',', '')}\n"
         self.assertEqual(
             (status, out, heard),
-            (1, "", f"{said}predator: 'quantom=3' in --set names an unknown key\n"),
+            (1, "", f"{said}predator: 'quantom=3' in --set names no key of the settings\n"),
         )
         # (before the program runs, which would put something out)
         status, out, heard = self.view("run", "ring.elf", "--html-page", "x")
@@ -168,8 +166,7 @@ class Messages(unittest.TestCase):
         )
 
     def test_an_object_that_is_not_there(self):
-        said = "predator: no object symbol of the trace has this name, "
-        said += "and not exactly one block was allocated at that address: name another object\n"
+        said = "predator: no object symbol of the trace has this name, nor was exactly one block made at that address\n"
         said += "predator: objects on lines that are taken: ring, stats\n"
         self.assertEqual(
             self.predator("place", "ring.trace", "nosuch"), (13, "predator: place NoObject\n", said)

@@ -110,20 +110,18 @@ class Screens(Shown):
         )
 
     def test_a_thread_for_which_no_hart_was_free(self):
-        says = "predator: the last thread could not start: all 8 harts are in use (setting `harts`, at most 256)\n"
+        says = "predator: no hart was free for the last thread that was to start: `harts` is 8, and in the settings it may be up to 256\n"
         words = ("run", built("ring.elf"), *TURNS, "--explain", "0")
         for lacks in ("", "pipes"):
             status, text, _ = view(*words, STAND_IN_SAYS=says, lacks=lacks)
             self.assertEqual(status, 0)
             self.shows(
                 text,
-                "note: the last thread could not start, and what that shares isn't seen",
+                "note: no hart was free for the last thread that was to start, and what that shares isn't seen",
             )
             self.shows(text, "`--set harts=16` gives more")
             status, _, said = view(*words, "--fail-above", "9999", STAND_IN_SAYS=says, lacks=lacks)
-            self.assertEqual(
-                (status, "predator view: the last thread could not start" in said), (3, True)
-            )
+            self.assertEqual((status, "predator view: no hart was free" in said), (3, True))
 
     def test_all_that_fight(self):
         _, text, _ = view("run", built("ring.elf"), *TURNS, "--explain", "1", "--words")

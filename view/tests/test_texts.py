@@ -269,10 +269,10 @@ class Words(unittest.TestCase):
             "'--saves=1' is no option of view replay; did you mean `--save`?",
             self.refused("replay", "t", "--saves=1"),
         )
-        near = "names an unknown key; did you mean `quantum`? the keys are: harts"
+        near = "names no key of the settings; did you mean `quantum`? the keys are: harts"
         self.assertIn(near, self.refused("run", "p", "--set=quantom=3"))
         self.assertIn(
-            "'x=3' in --set names an unknown key; the keys are",
+            "'x=3' in --set names no key of the settings; the keys are",
             self.refused("run", "p", "--set", "quantum=1,x=3"),
         )
         self.assertIn("a report is wanted", self.refused())

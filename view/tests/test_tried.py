@@ -107,7 +107,7 @@ class Used(Folder):
 
     def test_the_front_of_a_long_trace(self):
         accesses = [(0, W, 0x2000, 4)] * 9 + [(1, W, 0x1000, 4), (2, W, 0x1004, 4)] * 200
-        with mock.patch.multiple("spelled", PART=16, FEW=4, MANY=4):
+        with mock.patch.multiple("view.reading.trace_files", PART=16, FEW=4, MANY=4):
             front = self.uses(*accesses).front
             self.assertEqual(self.uses(*accesses[:40]).front, b"")
         self.assertEqual(self.uses(*accesses).front, b"")
@@ -497,11 +497,11 @@ class Screens(unittest.TestCase):
             self.assertEqual((status, "a predator with `move`" in said), (2, True))
 
     def test_what_a_run_says_is_heard(self):
-        says = "predator: the last thread could not start: all 8 harts are in use (setting `harts`, at most 256)\n"
+        says = "predator: no hart was free for the last thread that was to start: `harts` is 8, and in the settings it may be up to 256\n"
         words = ("run", built("ring.elf"), *TURNS, "--explain", "0", "--fail-above", "9999")
         status, text, said = view(*words, STAND_IN_HAS="move", STAND_IN_SAYS=says)
         self.assertEqual((status, said.startswith(says), said.count(says)), (3, True, 1))
-        self.assertIn("note: the last thread could not start", joined(text))
+        self.assertIn("note: no hart was free for the last thread that was to start", joined(text))
         self.assertEqual(view(*words, STAND_IN_HAS="move", STAND_IN_PUTS="put out")[2], "put out\n")
 
     def test_a_trace_is_read_as_a_run_is(self):
