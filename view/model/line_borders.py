@@ -1,4 +1,4 @@
-"""Which objects make the totals of a sweep: the lines of some of its shifts, put together by what lies on them."""
+"""The objects behind the totals of a sweep: the lines of some of its shifts, grouped by the objects on them."""
 
 import concurrent.futures
 from collections import Counter
@@ -16,7 +16,7 @@ HELD = 3
 
 
 class Crossed(NamedTuple):
-    """An object whose lines are taken: how often under each of the shifts, and what the worst of them holds under the peak's."""
+    """An object on contended lines: its invalidations under each of the shifts, and what its worst line holds at the peak."""
 
     name: str
     counts: list[int]

@@ -176,7 +176,7 @@ class View:
         )
         if found and self.call.how == "run":
             harts = setting(self.call.settings_words(), "harts")
-            self.lacked = f"a thread never ran, as all {harts} harts were in use: use `--set harts={min(2 * harts, 256)}`"
+            self.lacked = f"the last thread never ran, because all {harts} harts were in use: use `--set harts={min(2 * harts, 256)}`"
             self.notes.append(self.lacked)
 
     def look_for_overflow(self, predator: Predator | None) -> None:

@@ -6,7 +6,6 @@ from typing import Iterator, NamedTuple, Sequence
 
 from view.reading.calls import TOP
 from view.output.drawings import Given, templates
-from view.model.object_keys import Key
 from view.model.foreign_objects import row_of
 from view.model.view import Seen, View
 from view.names.naming import shown
