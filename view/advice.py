@@ -254,9 +254,7 @@ def cost(thing: Thing, words: Iterable[Told]) -> str:
     return f"; its own line for each word would cost {more:,} misses more" if more > 0 else ""
 
 
-def placing(
-    placed: Placed | None, name: Callable[[int], str], owner: Callable[[int], str]
-) -> str:
+def placing(placed: Placed | None, name: Callable[[int], str], owner: Callable[[int], str]) -> str:
     """The placement that `place` counted of the object, or nothing; `name` gives a word's name by its address."""
     if placed is None:
         return ""
@@ -306,7 +304,9 @@ def truly(thing: Thing, words: Sequence[Told], own: Sequence[Told], is_counted: 
     said = f"{written_most(own) or thing.name}: true sharing{much}"
     if packed and packed_most(own):
         how = "where threads use different ones, give each its own line and run again"
-        return f"{said} by whole 4-byte words, and several fields or elements lie in one word: {how}"
+        return (
+            f"{said} by whole 4-byte words, and several fields or elements lie in one word: {how}"
+        )
     less = f"{said}: write less often, or give each thread its own copy"
     if packed:
         return f"{less}; several fields or elements lie in one word of {packed}: where threads use different ones, give each its own line"

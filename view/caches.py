@@ -1,4 +1,4 @@
-"""How many of each line's invalidations are left in finite caches of some shapes: `predator view caches TRACE`. The program counts; this draws."""
+"""The invalidations of each line in finite caches of some shapes: `predator view caches TRACE`. The program counts; this draws."""
 
 import concurrent.futures
 import os
@@ -138,7 +138,9 @@ class Sized:
         if least < most:
             return f"{told}, {least:,} in caches of {few.shape.told()}, {most:,} in caches of {many.shape.told()}"
         where = f"all {len(self.shapes)} shapes" if len(self.shapes) > 1 else few.shape.told()
-        return f"{told}, {'as many' if least == self.unbounded else f'{least:,}'} in caches of {where}"
+        return (
+            f"{told}, {'as many' if least == self.unbounded else f'{least:,}'} in caches of {where}"
+        )
 
     def is_nowhere(self, base: int) -> bool:
         """Whether no invalidation of a line is left in caches of any of the shapes."""
@@ -251,7 +253,9 @@ def drawn(sized: Sized) -> Given:
     most = max((own.unbounded for own in sized.shapes[0].lines.values()), default=0)
 
     def cell(own: Counts, greatest: int, of: str, shape: Shape) -> Given:
-        told = f"{of}: {own.bounded:,} of {own.unbounded:,} invalidations in caches of {shape.told()}"
+        told = (
+            f"{of}: {own.bounded:,} of {own.unbounded:,} invalidations in caches of {shape.told()}"
+        )
         return {
             "left": own.bounded,
             "evicted": own.evicted,

@@ -146,9 +146,7 @@ class Call:
         """Refuses words that what is done with the file doesn't take, and a file with which it can't be done."""
         what = how_of(self.subject)
         if what not in ("file", "replay" if self.how in ALONE else self.how):
-            raise Fault(
-                f"{self.subject} is {IS[what]}: use `predator view {self.subject}`"
-            )
+            raise Fault(f"{self.subject} is {IS[what]}: use `predator view {self.subject}`")
         known = (
             OPTIONS.get(self.how, [])
             if self.how != "native"

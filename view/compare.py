@@ -172,9 +172,7 @@ class Row(NamedTuple):
 
 def row(before: Record | None, after: Record | None, names: Sequence[str]) -> Row:
     """What became of an object."""
-    numbers = [
-        (before[it] if before else None, after[it] if after else None) for it in names
-    ]
+    numbers = [(before[it] if before else None, after[it] if after else None) for it in names]
     name = (after or before or {})["name"]
     if before is None or after is None:
         return Row(numbers, f"{name} ({'gone' if before else 'new'})")

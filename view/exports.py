@@ -199,7 +199,9 @@ def thing(view: View, it: Thing) -> Record:
         ],
         "harts": [
             {"victim": victim, "invalidator": invalidator, "invalidations": much}
-            for (victim, invalidator), much in (sorted(explained.harts.items()) if explained else [])
+            for (victim, invalidator), much in (
+                sorted(explained.harts.items()) if explained else []
+            )
         ],
     }
 
@@ -313,7 +315,12 @@ def result(view: View, it: Thing) -> Record:
         },
         "locations": locations(view, it)[:1],
         "relatedLocations": [
-            {**one, "message": {"text": f"{'allocated' if isinstance(it.example, Block) else 'declared'} here"}}
+            {
+                **one,
+                "message": {
+                    "text": f"{'allocated' if isinstance(it.example, Block) else 'declared'} here"
+                },
+            }
             for one in ([location(view, *declared)] if declared else [])
         ],
         "partialFingerprints": {"object/v1": view.keys[it.key]},

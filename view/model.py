@@ -106,9 +106,7 @@ class View:
             )
             return
         if not predator.has("misses"):
-            self.notes.append(
-                "this predator has no command `misses`, so misses are unknown"
-            )
+            self.notes.append("this predator has no command `misses`, so misses are unknown")
             return
         if self.call.reads_once():
             self.notes.append(
@@ -146,7 +144,7 @@ class View:
         self.by_layout = dict(zip(foreseen, cast(list[Misses], counted[len(asked) :])))
         if brief:
             self.notes.append(
-                "the trace is long: fixes were tried on its first part, and predicted lines weren't counted; --words does both in full"
+                "the trace is long: fixes were tried on its first part, predicted lines weren't counted; --words does both in full"
             )
 
     def foreseen_layouts(self) -> list[Layout]:
@@ -394,7 +392,7 @@ class View:
             )
         elif is_brief(self.call) and "explain" not in self.call.options:
             self.notes.append(
-                "the trace is long and has no program counters: --explain N finds the conflicting instructions of N objects, with a run each"
+                "the trace is long and has no program counters: --explain N finds the instructions of N objects, with a run each"
             )
         elif program is not None and predator is not None and most:
             self.explain_by_runs(predator, program, things[:most])
@@ -514,9 +512,7 @@ class View:
             ]
             fix, tried = self.advised(thing, words), self.trial(thing)
             explained = self.explained.get(thing.worst().base)
-            self.cached[thing.key] = Seen(
-                thing, words, explained, fix, tried, self.declared(thing)
-            )
+            self.cached[thing.key] = Seen(thing, words, explained, fix, tried, self.declared(thing))
         return self.cached[thing.key]
 
     def type_of(self, thing: Thing) -> str:
@@ -530,7 +526,8 @@ class View:
             variable = program.variable(it.addr)
             of = variable.type if variable else None
         else:
-            of = sound(lambda: self.naming.type_of_block(it), None)
+            block = it
+            of = sound(lambda: self.naming.type_of_block(block), None)
         return sound(lambda: type_name(of), "").replace(" (unnamed)", "") if of is not None else ""
 
     def invalidations_of(self, spot: Spot) -> int | None:

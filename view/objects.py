@@ -256,7 +256,8 @@ def things_of(
 
 class Told(NamedTuple):
     """A word on an object's lines: its line, its names, the object and where that begins, and how it was accessed; `useful` are its misses
-    on a line of its own, `kind` is what is known of its type, and `owner` the thread that alone accesses it, by its name."""
+    on a line of its own, `kind` is what is known of its type, and `owner` the thread that alone accesses it, by its name.
+    """
 
     addr: int
     base: int

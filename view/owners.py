@@ -125,9 +125,7 @@ def own_words(view: View, thing: Thing, own: Sequence[Told]) -> str:
     # (the group of the most written word is always named)
     first = sorted(groups, key=lambda it: not any(one is worst for one in groups[it]))
     named = [it for it in groups if len(groups) <= GROUPS + 1 or it in first[:GROUPS]]
-    parts = [
-        group_text(it, names_of(thing, groups[it], elements[it], worst)) for it in named
-    ]
+    parts = [group_text(it, names_of(thing, groups[it], elements[it], worst)) for it in named]
     more = len(groups) - len(named)
     text = "; ".join(parts) + (f"; and {more} more" if more else "")
     if len(groups) < 2 or any(it.does != "own" for it in groups):

@@ -6,7 +6,6 @@ from typing import Iterator, NamedTuple, Sequence
 
 from calls import TOP
 from drawing import Given, templates
-from keys import Key
 from library import row_of
 from model import Seen, View
 from naming import shown
@@ -50,7 +49,7 @@ def colour(hart: int) -> str:
 
 
 class Users(NamedTuple):
-    """The thread that alone writes or uses a word, or none where they are several; and the threads that read it, or write it with others."""
+    """The thread that alone writes or uses a word, or none where several do; and the other threads that use it."""
 
     owner: int | None
     others: tuple[int, ...]
@@ -128,9 +127,7 @@ def cells(
 def row(view: View, spot: Spot, seen: Seen, size: int) -> Given:
     """A line, in rows of words."""
     words = [it for it in seen.words if spot.base <= it.addr < spot.base + size]
-    own = (
-        cells(view, spot.base, size, words, seen.thing, seen.thing.name) if spot.told() else []
-    )
+    own = cells(view, spot.base, size, words, seen.thing, seen.thing.name) if spot.told() else []
     numbers = []
     if spot.missed:
         numbers.append(counted(spot.missed.useless, "false-sharing miss"))
@@ -250,7 +247,9 @@ def strip(view: View, foretold: Foretold, observed: dict[int, Spot]) -> Given:
     name = view.name_of(next(iter(foretold.keys))) if len(foretold.keys) == 1 else ""
     told = counted(line.count, "invalidation")
     if foretold.useless is not None:
-        told = f"{counted(foretold.useless, 'false-sharing miss')} instead of {foretold.inside or 0:,}"
+        told = (
+            f"{counted(foretold.useless, 'false-sharing miss')} instead of {foretold.inside or 0:,}"
+        )
     key = next(iter(foretold.keys), None)
     return {
         "name": ", ".join(view.name_of(key) for key in foretold.keys) or "memory",

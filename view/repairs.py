@@ -353,7 +353,9 @@ def arenas(subject: Subject, uses: Uses, line: int) -> Repair | None:
         parts += [Part(word, 4, to + 4 * at) for at, word in enumerate(words)]
         to = rounded(to + 4 * len(words), line)
     if subject.is_blocks() or subject.shape is not None and subject.shape.dims():
-        how = f"give each thread its own arena, with start and size rounded up to multiples of {line}"
+        how = (
+            f"give each thread its own arena, with start and size rounded up to multiples of {line}"
+        )
     else:
         where = " on the element's type" if subject.shape is None else ""
         how = f"give each thread's words their own line: `{attribute(line)}`{where}"

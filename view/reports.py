@@ -261,7 +261,9 @@ class Report:
         self.thresholds = told.groups()
         self.lines, place = listed(text, LINE, Line, of)
         if len(self.lines) != number(fields, "lines", of):
-            raise Fault(f"{of}: the header says {fields['lines']} lines, the file has {len(self.lines)}")
+            raise Fault(
+                f"{of}: the header says {fields['lines']} lines, the file has {len(self.lines)}"
+            )
         if {(it.kind == "doubled", it.size) for it in self.lines} - {
             (False, self.size),
             (True, 2 * self.size),

@@ -322,7 +322,9 @@ def prediction(view: View, group: Sequence[Foretold]) -> str:
         ", ".join(names[:MOST]) + (f" and {len(names) - MOST} more" if len(names) > MOST else "")
     ) or "memory"
     size, at = first.line.size, listing(bases)
-    how = f"{size}-byte lines at {at}" if first.line.kind == "doubled" else f"lines starting at {at}"
+    how = (
+        f"{size}-byte lines at {at}" if first.line.kind == "doubled" else f"lines starting at {at}"
+    )
     if first.useless is None or view.misses is None:
         much = counted(sum(it.line.count for it in group), "invalidation")
     else:

@@ -139,12 +139,15 @@ class Tried:
 
     def outcome(self, is_mixed: bool) -> str:
         """What trying the repairs came to: the numbers before and after the one that is named, or how little the best one saves; or
-        nothing. `is_mixed` says whether threads use different bytes of words, so that the numbers don't judge the fix."""
+        nothing. `is_mixed` says whether threads use different bytes of words, so that the numbers don't judge the fix.
+        """
         if self.is_rare() or self.after is None:
             return ""
         if self.is_saving():
             return self.before.beside(self.after) + self.there() + self.otherwise()
         if is_mixed:
             return ""
-        what = f"{self.many} layouts, the best saves" if self.many > 1 else "one layout, which saves"
+        what = (
+            f"{self.many} layouts, the best saves" if self.many > 1 else "one layout, which saves"
+        )
         return f"{what} {max(self.saved(), 0):,} of {self.own():,} misses{self.there()}"

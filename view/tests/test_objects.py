@@ -183,7 +183,9 @@ class Advised(unittest.TestCase):
         for turns in (1, 3, 100):
             for useless, useful in ((0, 300), (100, 300), (300, 20)):
                 told = self.todo(state, flags, useless=useless, useful=useful, turns=turns)
-                self.assertIn("several fields or elements lie in one word of lock.ready, .done", told)
+                self.assertIn(
+                    "several fields or elements lie in one word of lock.ready, .done", told
+                )
                 self.assertNotIn("padding", told)
             self.assertIn(
                 "several fields or elements lie in one word: where", self.todo(flags, turns=turns)
@@ -203,9 +205,13 @@ class Advised(unittest.TestCase):
             used("lock.own+4", 12, 0, hart="1"),
         ]
         told = self.todo(*words, useless=200, useful=90)
-        self.assertIn("after the first field of each: lock.sum (several threads); lock.own (hart 1)", told)
+        self.assertIn(
+            "after the first field of each: lock.sum (several threads); lock.own (hart 1)", told
+        )
         self.assertNotIn("+4", told)
-        self.assertIn("lock.sum: true sharing (300 of 300 misses): write less", self.todo(*words[:2]))
+        self.assertIn(
+            "lock.sum: true sharing (300 of 300 misses): write less", self.todo(*words[:2])
+        )
         # (each load brings both of its words)
         self.assertNotIn("misses more", self.todo(*words[:2], useful=90))
         self.assertIn(
@@ -699,7 +705,9 @@ class Objects(unittest.TestCase):
             "hart 1 overflowed its stack of 65,536 bytes: it wrote 98,288 bytes below the top",
             self.overflow(*down),
         )
-        self.assertIn("use `--set stack=131072`, unless it recurses without end", self.overflow(*down))
+        self.assertIn(
+            "use `--set stack=131072`, unless it recurses without end", self.overflow(*down)
+        )
         deep = [(7, True, at) for at in range(0xF9FFF0, 0xF9FFF0 - 0x200000, -1024)]
         self.assertIn("hart 7 overflowed its stack of 65,536 bytes", self.overflow(*deep))
         self.assertIn("exceed the largest stack, 1,048,576 bytes", self.overflow(*deep))

@@ -21,7 +21,7 @@ import patches  # noqa: E402
 from cutting import accesses_of, cut  # noqa: E402
 from fields import Program  # noqa: E402
 from judge_report import Access, Case, Ending, trace_of  # noqa: E402
-from layouts import (
+from layouts import (  # noqa: E402
     Change,
     Part,
     Shape,
@@ -30,7 +30,7 @@ from layouts import (
     in_words,
     laid,
     members_of,
-)  # noqa: E402
+)
 from repairs import Repair, groupings  # noqa: E402
 from spelled import Uses  # noqa: E402
 from subjects import UNUSED, Whose, whose  # noqa: E402
@@ -204,8 +204,8 @@ class Cut(Folder):
         ).stdout
         self.assertIn(f" useful {useful} useless {useless}\n", total)
         self.assertTrue(1000 < accesses < 2111 and after < useless / 5, shown)
-        said = "note: the trace is long: fixes were tried on its first part, and predicted lines weren't counted; --words does both in full "
-        said += "note: the trace is long and has no program counters: --explain N finds the conflicting instructions of N objects, with a run each "
+        said = "note: the trace is long: fixes were tried on its first part, predicted lines weren't counted; --words does both in full "
+        said += "note: the trace is long and has no program counters: --explain N finds the instructions of N objects, with a run each "
         self.assertIn(said, shown)
 
 
@@ -446,9 +446,7 @@ class Sentences(unittest.TestCase):
         self.assertEqual(self.tried(2188, 2457, 90000, (23, 2458), own_there=4645), ("do it", told))
         none = "none: no layout change helps on this trace; write shared data less often"
         told = "one layout, which saves 3 of 4,000 misses (first 90,000 accesses)"
-        self.assertEqual(
-            self.tried(2188, 2457, 90000, (2185, 2457), own_there=4000), (none, told)
-        )
+        self.assertEqual(self.tried(2188, 2457, 90000, (2185, 2457), own_there=4000), (none, told))
 
     def test_the_other_way(self):
         before = Counted({"useless": 900, "useful": 10}, 9)
@@ -512,7 +510,8 @@ class Screens(unittest.TestCase):
             self.assertEqual((status, said), (0, ""))
             text = joined(text)
             self.assertIn(
-                "fix give each element of stats its own line: struct __attribute__((aligned(64))) stats (ring.c:24), 16 → 64 bytes each, 64 → 256 bytes in all",
+                "fix give each element of stats its own line: struct __attribute__((aligned(64))) stats (ring.c:24), "
+                "16 → 64 bytes each, 64 → 256 bytes in all tried",
                 text,
             )
             self.assertIn(
@@ -530,7 +529,10 @@ class Screens(unittest.TestCase):
         words = ("run", built("ring.elf"), *TURNS, "--explain", "0", "--fail-above", "9999")
         status, text, said = view(*words, STAND_IN_HAS="move", STAND_IN_SAYS=says)
         self.assertEqual((status, said.startswith(says), said.count(says)), (3, True, 1))
-        self.assertIn("note: the last thread never ran, because all 8 harts were in use: use `--set harts=16`", joined(text))
+        self.assertIn(
+            "note: the last thread never ran, because all 8 harts were in use: use `--set harts=16`",
+            joined(text),
+        )
         self.assertEqual(view(*words, STAND_IN_HAS="move", STAND_IN_PUTS="put out")[2], "put out\n")
 
     def test_a_trace_is_read_as_a_run_is(self):
