@@ -3,7 +3,7 @@
 import json
 import os
 import urllib.parse
-from typing import Any
+from typing import TYPE_CHECKING, Any
 
 from bands import STEP
 from calls import TOP
@@ -16,9 +16,12 @@ from owners import who
 from predicted import Foretold
 from reports import Block, Site
 from screen import counted
-from tried import Counted
 from versions import downgrade
 from worth import latency_of
+
+if TYPE_CHECKING:
+    # (which needs pyelftools)
+    from tried import Counted
 
 # What is written, as `json` has it.
 Record = dict[str, Any]
@@ -138,7 +141,7 @@ def time_of(view: View) -> Record:
     }
 
 
-def numbers_of(counted: Counted) -> Record:
+def numbers_of(counted: "Counted") -> Record:
     return {
         "false_sharing": counted.total["useless"],
         "true_sharing": counted.total["useful"],

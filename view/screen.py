@@ -166,9 +166,10 @@ def next_step(view: View) -> str:
 
 def type_and_place(view: View, thing: Thing, seen: Seen) -> str:
     """The type of an object and where it is declared, or how many blocks a call site has; or nothing."""
-    if isinstance(thing.key, OfBlocks):
-        return f" ({len(thing.lives):,} blocks)" if len(thing.lives) > 1 else ""
     parts = [view.type_of(thing)]
+    if isinstance(thing.key, OfBlocks):
+        many = f" ({len(thing.lives):,} blocks)" if len(thing.lives) > 1 else ""
+        return (f": {parts[0]}" if parts[0] else "") + many
     if seen.declared:
         parts.append(f"{os.path.basename(seen.declared[0])}:{seen.declared[1]}")
     found = ", ".join(filter(None, parts))

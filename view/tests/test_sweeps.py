@@ -18,10 +18,7 @@ from judge_report import Access, Case, Ending, trace_of  # noqa: E402
 from sweep import Sweep, page  # noqa: E402
 from traces import Symbol  # noqa: E402
 
-TITLE = (
-    "lines of 8 bytes are taken 39 times as data lies, and 0 times, the least, with the shift 4; "
-    "most of the difference is in memory at 0x00001000"
-)
+TITLE = "8-byte lines: 39 invalidations as placed; the least are 0 at shift 4; most of the difference is in memory at 0x00001000"
 TEXT = "sweep 8\naccesses 9\nshift 0 total {} lines 1\nshift 4 total {} lines 1\nleast {} total {}\nend\n"
 
 
