@@ -227,7 +227,8 @@ class Screens(Shown):
                 "odd.elf isn't the program of this report and isn't used: it has no symbol ring of 72 bytes at ",
             )
             self.shows(
-                text, "1 298 0 299 1 stats who each thread writes its own words: hart 1: +20 and +28; hart 2: +36"
+                text,
+                "1 298 0 299 1 stats who each thread writes its own words: hart 1: +20 and +28; hart 2: +36",
             )
             with open(report, "wb") as file:
                 file.write(
