@@ -369,7 +369,8 @@ def minors(view: View, rows: Sequence[Thing]) -> str:
     more = len(names) - MOST
     listed = ", ".join(names[:MOST]) + f" and {more} more" if more > 0 else ", ".join(names)
     much = sum(it.useless + it.useful for it in rows)
-    return f"not worth a change: {listed} ({counted(much, 'miss')} together)"
+    together = " together" if len(rows) > 1 else ""
+    return f"not worth a change: {listed} ({counted(much, 'miss')}{together})"
 
 
 def screen(view: View, paint: Paint, width: int = WIDTH) -> Iterator[str]:

@@ -256,7 +256,8 @@ class Advised(unittest.TestCase):
             view = view_of(rows, memory=Memory((0xF90000, 0x1010000), 8), program=program)
             (told,) = view.seen(view.things[0]).words
             self.assertEqual(
-                (told.name, told.kind), ("0x0100ffc0, 64 below its top", WordKind(False, False))
+                (told.name, told.kind),
+                ("0x0100ffc0, 64 bytes below its top", WordKind(False, False)),
             )
             self.assertNotIn("several fields", view.seen(view.things[0]).fix)
 

@@ -104,13 +104,13 @@ class Screens(Shown):
             self.shows(
                 text,
                 f"fix {OF_STACK}; saves up to 77 of 77 misses address ",
-                "60 61 0 threads 0x0100fff8, 8 below its top",
+                "60 61 0 threads 0x0100fff8, 8 bytes below its top",
             )
             for it in (
                 "several fields",
                 "separate these",
                 "padding",
-                "order the fields",
+                "group the fields",
                 "memory at",
             ):
                 self.assertNotIn(it, joined(text), program)
@@ -265,7 +265,7 @@ class Screens(Shown):
             _, text, _ = view("replay", trace)
             self.shows(
                 text,
-                "not worth a change: memory at 0x00012000 (1 miss together)",
+                "not worth a change: memory at 0x00012000 (1 miss)",
             )
             self.assertNotIn("2 1 0", joined(text))
             _, text, _ = view("replay", trace, "--object", "memory at 0x00012000")
