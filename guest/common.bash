@@ -119,8 +119,13 @@ make_kit() {
 }
 
 # The headers of LLVM's C++ library: those of the compiler's own version, else the newest that is installed; none where there is none.
+# LIBCXX names another folder, or `none`.
 cxx_headers() {
     local version it found=""
+    if [ -n "${LIBCXX:-}" ]; then
+        [ "$LIBCXX" = none ] || echo "$LIBCXX"
+        return
+    fi
     version=$(clang -dumpversion 2>/dev/null)
     for it in "/usr/lib/llvm-${version%%.*}" $(printf '%s\n' /usr/lib/llvm-* | sort -V -r); do
         if [ -e "$it/include/c++/v1/__config" ]; then
