@@ -186,7 +186,6 @@ static _Atomic(struct ending *) of_program;
 static _Thread_local struct ending *of_thread;
 static pthread_key_t of_threads;
 
-void *__dso_handle = &__dso_handle;
 int __cxa_atexit(void (*destroy)(void *), void *object, void *unused);
 int __cxa_thread_atexit(void (*destroy)(void *), void *object, void *unused);
 
