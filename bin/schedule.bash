@@ -31,17 +31,20 @@ begin_run() {
 # The processes that a part, or any part of this run, has left: they have its folder in their environment.
 processes_of() { grep -l -s -z -E -e "^PREDATOR_PART=$work/$1\$" /proc/[0-9]*/environ | sed 's|/proc/||; s|/.*||'; }
 
-# end_processes NAME: ends what is left of a part, or of all with `.*`; its status is 0 if there was anything.
+# end_processes NAME: ends what is left of a part, or of all with `.*`; its status is 0 if there was anything. A part gets five seconds to clean up.
 end_processes() {
-    local left signal found=1
-    for signal in TERM TERM KILL; do
+    local left count
+    mapfile -t left < <(processes_of "$1")
+    ((${#left[@]} > 0)) || return 1
+    kill -TERM "${left[@]}" 2>/dev/null
+    for count in {1..50}; do
+        sleep 0.1
         mapfile -t left < <(processes_of "$1")
-        ((${#left[@]} > 0)) || return "$found"
-        found=0
-        kill -"$signal" "${left[@]}" 2>/dev/null
-        sleep 0.3
+        ((${#left[@]} > 0)) || return 0
     done
-    return "$found"
+    echo "note: killed after $((count / 10)) s: ${left[*]}"
+    kill -KILL "${left[@]}" 2>/dev/null
+    sleep 0.1
 }
 
 remove_folder() {
