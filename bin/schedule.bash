@@ -63,7 +63,7 @@ end_run() {
 stop_run() { # STATUS WHY
     local pid
     trap '' INT TERM HUP
-    # (each is `timeout`, which passes the signal on to its group, and kills that ten seconds later)
+    # (`timeout` passes the signal on to the group of its part)
     for pid in "${!running[@]}"; do kill -TERM "$pid" 2>/dev/null; done
     end_processes '.*'
     wait
@@ -107,9 +107,11 @@ start_part() {
     shift 2
     mkdir -p "$work/$name"
     # (bash has a job in the background ignore Ctrl-C, and parts try what a program does then)
-    PREDATOR_PART=$work/$name TMPDIR=$work/$name XDG_CACHE_HOME=$work/$name/cache PYTHONDONTWRITEBYTECODE=1 \
-        env --default-signal=INT,QUIT timeout -k 10 "$seconds" "$@" \
-        >"$work/$name.log" 2>&1 </dev/null 9<&- &
+    {
+        TIMEFORMAT='%U %S'
+        time PREDATOR_PART=$work/$name TMPDIR=$work/$name XDG_CACHE_HOME=$work/$name/cache PYTHONDONTWRITEBYTECODE=1 \
+            env --default-signal=INT,QUIT timeout -k 10 "$seconds" "$@" >"$work/$name.log" 2>&1 </dev/null
+    } 2>"$work/$name.time" 9<&- &
     running[$!]=$name began[$name]=$SECONDS
 }
 
@@ -143,28 +145,37 @@ tell_skips() {
     for it in ${skip_reasons[@]+"${skip_reasons[@]}"}; do echo "    ${skipped_for[$it]}: $it"; done
 }
 
+# The seconds that a part took, and how many of processors that were, which says more on a busy machine.
+time_of() { # NAME
+    local user='' system=''
+    read -r user system <"$work/$1.time"
+    user=${user%.*} system=${system%.*}
+    echo "$((SECONDS - began[$1])) s; processor $((${user:-0} + ${system:-0})) s"
+}
+
 # finish_part NAME STATUS: counts a part that has ended, and tells of it.
 finish_part() {
-    local name=$1 status=$2 log=$work/$1.log took=$((SECONDS - began[$1])) number=${try_numbers[$1]:-1} it
+    local name=$1 status=$2 log=$work/$1.log took number=${try_numbers[$1]:-1} it
+    took=$(time_of "$name")
     if end_processes "$name"; then echo "note: $name left processes behind, which were ended"; fi
     case $status in
         0)
             passed=$((passed + 1))
-            echo "passed: $name ($took s$([ "$number" = 1 ] || echo ", at the second try"))"
+            echo "passed: $name ($took$([ "$number" = 1 ] || echo ", at the second try"))"
             # (of what a part skipped by itself)
             while IFS= read -r it; do note_skip "$name (in part)" "$it"; done < <(sed -n -E 's/^skipped[,:]? *//p' "$log" | grep -v '^$' | sort -u)
             ;;
         77) skip_part "$name" "$(tail -n 1 "$log")" ;;
         *)
             tail -n 40 "$log"
-            if [ "$status" = 124 ] || [ "$status" = 137 ]; then echo "it took more than $took s"; fi
+            if [ "$status" = 124 ] || [ "$status" = 137 ]; then echo "it took too long: $took"; fi
             if [ "$number" -lt "${part_tries[$name]}" ]; then
-                echo "failed at first (status $status, $took s), and is tried once more: $name"
+                echo "failed at first (status $status, $took), and is tried once more: $name"
                 try_numbers[$name]=$((number + 1))
                 again+=("$name")
             else
                 failed=$((failed + 1))
-                echo "FAILED: $name (status $status, $took s): ${part_commands[$name]}"
+                echo "FAILED: $name (status $status, $took): ${part_commands[$name]}"
             fi
             ;;
     esac

@@ -62,7 +62,7 @@ call() {
     status=$?
     same "the status of ${*##*/}" "$wanted" "$status"
     # (times differ)
-    sed -i -E 's/\([0-9]+ s/(T s/; s/, [0-9]+ s\)/, T s)/' out
+    sed -i -E 's/[0-9]+ s(; processor [0-9]+ s)?([,)])/T s\2/' out
     same "what ${*##*/} leaves" "" "$(ls -A tmp; grep -l -s -z -e "^PREDATOR_PART=$work/" /proc/[0-9]*/environ)"
 }
 has() { same "$1: line '$2'" 1 "$(grep -c -x -F -e "$2" out)"; }
