@@ -28,8 +28,8 @@ part() {
 declare_parts() {
     local kit="program clang ld.lld llvm-readelf llvm-objcopy" picolibc=/usr/lib/picolibc/riscv64-unknown-elf
     # The forms of some parts: the everyday ones, and those of the long run.
-    local long=() all=() reports=300 judges=200 seeds=3 studies=(histogram bounded_queue)
-    if [ -n "${is_long:-}" ]; then long=(--long) all=(--all) reports=2000 judges=1000 seeds=20 studies=(); fi
+    local long=() short=(--short) all=() reports=300 judges=200 seeds=3 studies=(histogram bounded_queue)
+    if [ -n "${is_long:-}" ]; then long=(--long) short=() all=(--all) reports=2000 judges=1000 seeds=20 studies=(); fi
     part shell daily 1 1 9 shellcheck tools/lint.sh shell
     part python daily 1 1 5 python3 tools/lint.sh python
     part types daily 1 1 14 "mypy python3:jinja2 python3:elftools" tools/lint.sh types
@@ -62,7 +62,7 @@ declare_parts() {
     part clock daily 1 1 30 "python3 gcc" bench/clock/run.py --check
     part campaign daily all 2 60 "" campaign/try.sh
     part dist daily 1 2 20 "" dist/try.sh
-    part native daily 1 2 120 "gcc python3 /usr/bin/valgrind.bin" native/try.sh
+    part native daily 1 2 120 "gcc python3 /usr/bin/valgrind.bin" native/try.sh "${short[@]}"
     part view daily all 2 120 "" view/try.sh
     # (this one fetches its packages)
     part bare long all 1 600 "mmdebstrap git dpkg-deb" dist/bare.sh

@@ -163,7 +163,7 @@ finish_part() {
             passed=$((passed + 1))
             echo "passed: $name ($took$([ "$number" = 1 ] || echo ", at the second try"))"
             # (of what a part skipped by itself)
-            while IFS= read -r it; do note_skip "$name (in part)" "$it"; done < <(sed -n -E 's/^skipped[,:]? *//p' "$log" | grep -v '^$' | sort -u)
+            while IFS= read -r it; do note_skip "$name (in part)" "$it"; done < <(sed -n -E 's/^skipped[,:]? *([0-9]+: )?//p' "$log" | grep -v '^$' | sort -u)
             ;;
         77) skip_part "$name" "$(tail -n 1 "$log")" ;;
         *)
