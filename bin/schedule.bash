@@ -13,7 +13,7 @@ declare -A running=() began=() try_numbers=()
 # Parts that failed at first, to be tried once more.
 again=()
 # A part may take so many seconds.
-part_seconds_most=${PART_SECONDS:-1200}
+part_seconds_most=${PART_SECONDS:-1800}
 
 # Makes the folder for what this run writes. Descriptor 9 holds a lock where the caller has one, and no part gets it.
 begin_run() {

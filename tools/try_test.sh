@@ -21,6 +21,7 @@ export PATH=/usr/bin:/bin TMPDIR=$work/tmp
 mkdir checkout tmp kit
 (cd "$top" && tar -c --exclude=out bin dist crates crates.txt VERSION guest/built/apart.elf) | tar -x -C checkout
 # (whatever sources dist/ is of)
+# shellcheck source=bin/sources.bash
 . checkout/bin/sources.bash
 sed -i "s/^sources .*/sources $(sources checkout)/" checkout/dist/manifest
 cat >checkout/bin/parts.bash <<'PARTS'
