@@ -1,5 +1,6 @@
 #!/usr/bin/env bash
-# Tries the tool and its launcher on good and bad input (Debian: gcc, valgrind, python3; no part of the gate).
+# Tries the tool and its launcher on good and bad input (Debian: gcc, valgrind, python3). With --short it tries what is recorded, and how
+# programs end; without, also what is refused, what a full disk or a signal does, and the reports, for some minutes.
 # Its last line is `N passed, M failed, K skipped`.
 set -u
 here=$(dirname "$(readlink -f "$0")")
@@ -175,6 +176,10 @@ else
     skip_checks 1 "a static program: it can't be linked here"
 fi
 rm -f t t3 w same* whole part
+if [ "${1:-}" = --short ]; then
+    finish_checks
+    exit
+fi
 
 # What is refused before the program runs.
 refused() { # NAME STATUS PART WORDS ..
