@@ -4,13 +4,13 @@ import os
 import sys
 from typing import Iterator, Literal, NamedTuple, Sequence, Union
 
-sys.path.insert(0, os.path.join(os.path.dirname(os.path.abspath(__file__)), "..", "view"))
+sys.path.insert(0, os.path.join(os.path.dirname(os.path.abspath(__file__)), ".."))
 
-import reports  # noqa: E402
+from view.reading import reports  # noqa: E402
 from folder import Record  # noqa: E402
-from naming import Memory, Naming, shown  # noqa: E402
-from objects import Spot, parties  # noqa: E402
-from reports import Block, LineKind, Misses, Report, Site, Symbol  # noqa: E402
+from view.names.naming import Memory, Naming, shown  # noqa: E402
+from view.model.objects import Spot, parties  # noqa: E402
+from view.reading.reports import Block, LineKind, Misses, Report, Site, Symbol  # noqa: E402
 from takings import Blame  # noqa: E402
 
 

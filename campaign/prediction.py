@@ -17,13 +17,13 @@ import sys
 from typing import Iterable, NamedTuple
 
 HERE = os.path.dirname(os.path.abspath(__file__))
-sys.path[:0] = [HERE, os.path.join(HERE, "..", "view")]
+sys.path[:0] = [HERE, os.path.join(HERE, "..")]
 
 import results  # noqa: E402
 from folder import Record, campaign_of, seeds_in  # noqa: E402
 from lines import Told  # noqa: E402
-from naming import Memory  # noqa: E402
-from predicted import inside  # noqa: E402
+from view.names.naming import Memory  # noqa: E402
+from view.model.predicted_lines import inside  # noqa: E402
 from table import settings_of  # noqa: E402
 
 HEADS = (

@@ -13,14 +13,14 @@ from collections import Counter
 from typing import Any, Iterable, Iterator, Mapping, Sequence, cast
 
 HERE = os.path.dirname(os.path.abspath(__file__))
-sys.path[:0] = [HERE, os.path.join(HERE, "..", "view")]
+sys.path[:0] = [HERE, os.path.join(HERE, "..")]
 
 import results  # noqa: E402
 from commands import command_of, settings_text  # noqa: E402
 from folder import Record, campaign_of, seeds_in  # noqa: E402
 from lines import At, InBlock, Key, Layout, Party, Taking, Told  # noqa: E402
-from naming import Memory, shown as address  # noqa: E402
-from program import Predator, setting, stacks  # noqa: E402
+from view.names.naming import Memory, shown as address  # noqa: E402
+from view.reading.engine import Predator, setting, stacks  # noqa: E402
 
 KINDS = ("observed", "shifted", "doubled")
 # The numbers of a row that are a least, a middle and a greatest one.

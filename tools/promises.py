@@ -206,6 +206,8 @@ def wrong_functions(crates: dict[str, Crate], match: re.Match[str]) -> Iterator[
                 yield f"{name} is private"
             if is_law and function.takes_or_gives:
                 yield f"{name} is no law: it has arguments or a result"
+            if not is_law and not function.takes_or_gives:
+                yield f"{name} is a law: it has neither arguments nor a result"
             yield from wrong_clauses(name, function, match[3] or "", is_law)
 
 
@@ -258,13 +260,13 @@ MISTAKES = [
     ),
     (
         "- `command_line/specs`: `trace_of`, `trace_read`",
-        "- `command_files/specs`: `words_in`, `trace_read`",
-        "crate command_files has no definition trace_read",
+        "- `shelf/specs`: `trace_of`, `trace_read`",
+        "crate shelf has no definition trace_read",
     ),
     (
         "- `misses/specs`: `missed`, `HasMissed`, `misses_of_records`",
-        "- `sightings/specs`: `HasSeen`, `misses_of_records`",
-        "crate sightings has no definition misses_of_records",
+        "- `report/specs`: `missed`, `HasMissed`, `misses_of_records`",
+        "crate report has no definition misses_of_records",
     ),
     (
         "- `predator_cli::predator`: law `within`",
@@ -305,6 +307,11 @@ MISTAKES = [
         "- `predator_cli::predator`: `complete`\n",
         "",
         "the promise names no function",
+    ),
+    (
+        "- law `misses::word_lines_waste_nothing`",
+        "- `misses::word_lines_waste_nothing`",
+        "misses::word_lines_waste_nothing is a law: it has neither arguments nor a result",
     ),
     (
         "- `line_tracks::Tracks::mark`, `restore`: `undoes`",

@@ -8,27 +8,27 @@ import sys
 import traceback
 from typing import TYPE_CHECKING, Callable
 
-sys.path.insert(0, os.path.dirname(os.path.abspath(__file__)))
+sys.path.insert(0, os.path.dirname(os.path.dirname(os.path.abspath(__file__))))
 
-import compare  # noqa: E402
-import worth  # noqa: E402
-from calls import ALONE, BY, HELP, MISSES, OUTPUTS, TOP, Call, nearest  # noqa: E402
-from faults import Fault, plain  # noqa: E402
-from model import View, memory_of  # noqa: E402
-from naming import Naming  # noqa: E402
-from objects import Thing  # noqa: E402
-from passes import Passes, begun  # noqa: E402
-from pipes import fed, kept  # noqa: E402
-from program import Predator  # noqa: E402
-from recording import recorded, traced  # noqa: E402
-from reports import Report, Symbol  # noqa: E402
-from screen import Paint, counted, screen, width_of_screen  # noqa: E402
-from source_lines import Sources  # noqa: E402
-from worth import Worth  # noqa: E402
+from view.model import comparison  # noqa: E402
+from view.model import miss_rates  # noqa: E402
+from view.reading.calls import ALONE, BY, HELP, MISSES, OUTPUTS, TOP, Call, nearest  # noqa: E402
+from view.faults import Fault, plain  # noqa: E402
+from view.model.view import View, memory_of  # noqa: E402
+from view.names.naming import Naming  # noqa: E402
+from view.model.objects import Thing  # noqa: E402
+from view.reading.passes import Passes, begun  # noqa: E402
+from view.reading.pipes import fed, kept  # noqa: E402
+from view.reading.engine import Predator  # noqa: E402
+from view.reading.recording import recorded, traced  # noqa: E402
+from view.reading.reports import Report, Symbol  # noqa: E402
+from view.output.screen import Paint, counted, screen, width_of_screen  # noqa: E402
+from view.names.source_lines import Sources  # noqa: E402
+from view.model.miss_rates import Worth  # noqa: E402
 
 if TYPE_CHECKING:
-    from fields import Program
-    from native import NativeProgram
+    from view.names.fields import Program
+    from view.names.native import NativeProgram
 
 ABOVE, ENDED = 1, 3
 
@@ -54,12 +54,12 @@ def program_of(call: Call) -> "tuple[Program | NativeProgram | None, Sources | N
     program: "Program | NativeProgram"
     sources: Sources
     if table:
-        from native import Back, NativeProgram, NativeSources
+        from view.names.native import Back, NativeProgram, NativeSources
 
         program = native = NativeProgram(Back(table))
         sources = NativeSources(native, folders)
     elif call.program:
-        from fields import Program
+        from view.names.fields import Program
 
         program = guest = Program(call.program)
         sources = Sources(call.program, folders, guest.code())
@@ -67,8 +67,8 @@ def program_of(call: Call) -> "tuple[Program | NativeProgram | None, Sources | N
         return None, None
     if program.dwarf is None:
         say(f"{program.path} has {lacking(native if table else None)}")
-    for it in call.options["type"]:
-        program.type_named(it.partition("=")[2])
+    for assignment in call.options["type"]:
+        program.type_named(assignment.partition("=")[2])
     return program, sources
 
 
@@ -90,7 +90,7 @@ def native_of(program: "Program | NativeProgram | None") -> "NativeProgram | Non
     """A program where it is one of this machine."""
     if program is None:
         return None
-    from fields import Program
+    from view.names.fields import Program
 
     return None if isinstance(program, Program) else program
 
@@ -99,22 +99,22 @@ def table_of(call: Call) -> str | None:
     """The address map of a native program: the one that is named, or that beside the trace."""
     if "map" in call.options or call.program or call.how != "replay":
         return call.options.get("map")
-    from native import beside
+    from view.names.native import beside
 
     return beside(call.subject)
 
 
 def stranger(program: "Program | NativeProgram", report: Report) -> str | None:
     """A symbol of the report that the program hasn't, or none."""
-    from fields import Program
+    from view.names.fields import Program
 
     if not isinstance(program, Program):
         return program.stranger(report)
     known = program.symbols()
     for line in report.lines[:1000]:
-        for it in line.objects():
-            if isinstance(it, Symbol) and (it.addr, it.size) not in known:
-                return f"no symbol {it.name} of {it.size:,} bytes at {it.addr:#010x}"
+        for obj in line.objects():
+            if isinstance(obj, Symbol) and (obj.addr, obj.size) not in known:
+                return f"no symbol {obj.name} of {obj.size:,} bytes at {obj.addr:#010x}"
     return None
 
 
@@ -154,7 +154,7 @@ def trial_of(view: View, predator: Predator | None) -> Callable[[list[Thing]], N
     program = view.naming.program
     if program is None or program.dwarf is None:
         return None
-    from trying import begin, try_all
+    from view.repairs.trials import begin, try_all
 
     return functools.partial(try_all, view, predator, reading=begin(view, predator))
 
@@ -162,7 +162,7 @@ def trial_of(view: View, predator: Predator | None) -> Callable[[list[Thing]], N
 def look(call: Call) -> View:
     """All that is found."""
     if "html" in call.options:
-        from drawing import templates
+        from view.output.drawings import templates
 
         templates()
     predator = Predator() if call.how != "file" else None
@@ -186,12 +186,12 @@ def found(call: Call, predator: Predator | None, passes: Passes | None) -> View:
         call.program = program = sources = None
     memory = memory_of(call, predator, native_of(program))
     view = View(call, report, Naming(report, program, sources, call.options["type"], memory))
-    view.worth = Worth(view, worth.begin(call, predator, (report.size, report.offset)))
+    view.worth = Worth(view, miss_rates.begin(call, predator, (report.size, report.offset)))
     trial = trial_of(view, predator)
     view.count(predator, passes)
     view.look_for_overflow(predator)
     if report.outcome in ("deadlock", "budget"):
-        from waiting import note_waiting
+        from view.model.waiting_harts import note_waiting
 
         note_waiting(view, predator)
     view.arrange()
@@ -216,12 +216,14 @@ def is_above(view: View) -> bool:
             "false-sharing misses are unknown here: use '--fail-above' with '--by invalidations'"
         )
     found = False
-    for it in view.chosen():
+    for obj in view.chosen():
         # (`count` is the former name, of what the report lists)
-        much = it.useless if by in MISSES else it.count if by == "count" else view.invalidations(it)
+        much = (
+            obj.useless if by in MISSES else obj.count if by == "count" else view.invalidations(obj)
+        )
         if much > most:
             what = counted(much, "false-sharing miss" if by in MISSES else "invalidation")
-            say(f"{view.label(it)} has {what}, more than {most:,}")
+            say(f"{view.label(obj)} has {what}, more than {most:,}")
             found = True
     return found
 
@@ -258,46 +260,48 @@ def is_same(one: str, other: str) -> bool:
 def keep_inputs(call: Call) -> None:
     """Refuses an output that is an input, an output of the program or another output, and one without a folder."""
     taken = [
-        it
-        for it in (
+        path
+        for path in (
             call.subject,
             call.program,
             table_of(call),
             *call.words,
             *(word.partition("=")[2] for word in call.words),
         )
-        if it and it != "-"
+        if path and path != "-"
     ]
     if [call.options.get(name) for name in OUTPUTS].count("-") > 1:
         raise Fault("only one output can be `-`, standard output")
     for name in OUTPUTS:
-        it, old = call.options.get(name), call.options.get("against") if name != "json" else None
-        if it is None or it == "-":
+        path, old = call.options.get(name), call.options.get("against") if name != "json" else None
+        if path is None or path == "-":
             continue
-        if any(is_same(it, other) for other in (*taken, *([old] if old else []))):
-            raise Fault(f"{it} is used twice: outputs must differ from each other and from inputs")
-        if not os.path.isdir(os.path.dirname(it) or "."):
-            raise Fault(f"{it}: No such file or directory")
-        taken.append(it)
+        if any(is_same(path, other) for other in (*taken, *([old] if old else []))):
+            raise Fault(
+                f"{path} is used twice: outputs must differ from each other and from inputs"
+            )
+        if not os.path.isdir(os.path.dirname(path) or "."):
+            raise Fault(f"{path}: No such file or directory")
+        taken.append(path)
 
 
 def outputs(view: View) -> None:
     """Writes the files that the call names."""
     options = view.call.options
     if "patch" in options:
-        from mending import patch_text
+        from view.repairs.call_patch import patch_text
 
         write(options["patch"], patch_text(view))
     if "json" in options:
-        from exports import json_text
+        from view.output.exports import json_text
 
         write(options["json"], json_text(view))
     if "sarif" in options:
-        from exports import sarif_text
+        from view.output.exports import sarif_text
 
         write(options["sarif"], sarif_text(view))
     if "html" in options:
-        from page import page
+        from view.output.page import page
 
         write(options["html"], page(view))
 
@@ -308,7 +312,7 @@ def show(call: Call) -> int:
     if call.how in ALONE:
         return show_alone(call)
     # (before --json writes to the same file)
-    old = compare.loaded(call.options["against"], call) if "against" in call.options else None
+    old = comparison.loaded(call.options["against"], call) if "against" in call.options else None
     with kept(call), recorded(call), traced(call):
         view = look(call)
         outputs(view)
@@ -319,8 +323,8 @@ def show(call: Call) -> int:
 
 
 def show_alone(call: Call) -> int:
-    from caches import show as caches
-    from sweep import show as sweep
+    from view.output.caches import show as caches
+    from view.output.sweep import show as sweep
 
     rows, page = (sweep if call.how == "sweep" else caches)(call)
     if page is not None:
@@ -331,21 +335,21 @@ def show_alone(call: Call) -> int:
     return 0
 
 
-def tell(view: View, old: compare.Before | None) -> None:
+def tell(view: View, old: comparison.Before | None) -> None:
     """Prints the screen, and the comparison."""
-    for it in screen(view, Paint(), width_of_screen()):
-        print(it)
+    for row in screen(view, Paint(), width_of_screen()):
+        print(row)
     if old is not None:
-        for it in compare.compared(view, old, view.call.options["against"]):
-            print(it)
+        for row in comparison.compared(view, old, view.call.options["against"]):
+            print(row)
 
 
 def main(words: list[str]) -> int:
     # (millions of lines live as long as the call, and none goes round in a ring)
     gc.disable()
-    for it in (sys.stdout, sys.stderr):
-        if isinstance(it, io.TextIOWrapper):
-            it.reconfigure(errors="backslashreplace")
+    for stream in (sys.stdout, sys.stderr):
+        if isinstance(stream, io.TextIOWrapper):
+            stream.reconfigure(errors="backslashreplace")
     try:
         call = Call(words)
         if "help" in call.options:

@@ -7,12 +7,12 @@ import sys
 import tempfile
 import unittest
 
-from calling import HERE, PROGRAM, STAND_IN, TOP, TURNS, built, has, joined, view
+from calling import PROGRAM, STAND_IN, TOP, TURNS, built, has, joined, view
 
-sys.path[:0] = [os.path.dirname(HERE)]
+sys.path[:0] = [TOP]
 
-from faults import Fault  # noqa: E402
-from reports import Blame, Pair  # noqa: E402
+from view.faults import Fault  # noqa: E402
+from view.reading.reports import Blame, Pair  # noqa: E402
 
 TEXT = (
     "predator blame 1\naccesses 19\nlayout 64 0\nlines 2\n"

@@ -1,17 +1,16 @@
 """Completion offers exactly the options that a call of view takes."""
 
-import os
 import subprocess
 import sys
 import unittest
 
 from calling import HERE, TOP, built
 
-sys.path.insert(0, os.path.dirname(HERE))
+sys.path.insert(0, TOP)
 
-from calls import FLAGS, LISTS, MARKS, RECORDS, VALUES, Call  # noqa: E402
-from faults import Fault  # noqa: E402
-from settings import OPTIONS  # noqa: E402
+from view.reading.calls import FLAGS, LISTS, MARKS, RECORDS, VALUES, Call  # noqa: E402
+from view.faults import Fault  # noqa: E402
+from view.reading.settings import OPTIONS  # noqa: E402
 
 # What each way to look takes besides an option.
 WAYS = {"run": (), "replay": (), "native": (), "sweep": ("--size", "64"), "caches": ()}

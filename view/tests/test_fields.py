@@ -8,11 +8,11 @@ import tempfile
 import unittest
 
 HERE = os.path.dirname(os.path.abspath(__file__))
-sys.path.insert(0, os.path.dirname(HERE))
+sys.path.insert(0, os.path.dirname(os.path.dirname(HERE)))
 
-from faults import Fault  # noqa: E402
-from fields import Program, are_several, size_of, type_name, words_of  # noqa: E402
-from source_lines import Sources  # noqa: E402
+from view.faults import Fault  # noqa: E402
+from view.names.fields import Program, are_several, size_of, type_name, words_of  # noqa: E402
+from view.names.source_lines import Sources  # noqa: E402
 
 
 def built(name):

@@ -22,7 +22,9 @@ BROWSER = shutil.which("chromium")
 
 
 def schema(*path):
-    with open(os.path.join(HERE, *(path or ("..", "schema.json"))), encoding="utf-8") as file:
+    with open(
+        os.path.join(HERE, *(path or ("..", "output", "schema.json"))), encoding="utf-8"
+    ) as file:
         return json.load(file)
 
 
@@ -190,7 +192,7 @@ print(len({it.addr: it for it in (Word(int(it[1], 16), int(it[2]), int(it[3])) f
 # So many times as long may view take at most. (It takes twice as long.)
 TIMES = 4
 # What view does with it; its folder is the first word.
-SHOWS = "import sys; sys.argv[0:1] = []; sys.path.insert(0, sys.argv[0]); import main; main.main(sys.argv[1:])"
+SHOWS = "import sys; sys.argv[0:1] = []; sys.path.insert(0, sys.argv[0]); from view import main; main.main(sys.argv[1:])"
 
 
 class Ran:
@@ -242,7 +244,7 @@ class Large(unittest.TestCase):
             self.write(path, lines)
             # (a slow or busy processor makes both take longer; a second try is for work that came between one and the other)
             for _ in range(2):
-                read, shown = Ran(READS, path), Ran(SHOWS, os.path.join(HERE, ".."), path)
+                read, shown = Ran(READS, path), Ran(SHOWS, os.path.join(HERE, "..", ".."), path)
                 self.assertEqual(read.text, f"{2 * lines}\n")
                 self.assertIn(f"{7 * lines // 8}  table", shown.text)
                 self.assertIn("block made in work < begin, by 0x00010408 (25000 lives)", shown.text)

@@ -16,24 +16,24 @@ import time
 import unittest
 from unittest import mock
 
-from calling import HERE, TOP
+from calling import TOP
 
-sys.path[:0] = [os.path.dirname(HERE), os.path.join(TOP, "native", "others")]
+sys.path[:0] = [TOP, os.path.join(TOP, "native", "others")]
 
-import golang  # noqa: E402
-import mangled  # noqa: E402
-from fields import sound  # noqa: E402
-from golang import Table, table_of  # noqa: E402
-from keys import OfFile  # noqa: E402
-from main import lacking  # noqa: E402
-from naming import Naming  # noqa: E402
-from native import NativeProgram, NativeSources, Site  # noqa: E402
-from objects import Thing  # noqa: E402
+from view.names import go  # noqa: E402
+from view.names import demangling  # noqa: E402
+from view.names.fields import sound  # noqa: E402
+from view.names.go import Table, table_of  # noqa: E402
+from view.model.object_keys import OfFile  # noqa: E402
+from view.main import lacking  # noqa: E402
+from view.names.naming import Naming  # noqa: E402
+from view.names.native import NativeProgram, NativeSources, Site  # noqa: E402
+from view.model.objects import Thing  # noqa: E402
 from pclntab import MODULE, OWN, TABLE, TEXT, Made, encoded  # noqa: E402
-from reports import Site as Called  # noqa: E402
+from view.reading.reports import Site as Called  # noqa: E402
 from run import is_named  # noqa: E402
-from source_lines import Place  # noqa: E402
-from unnamed import is_unnamed, name  # noqa: E402
+from view.names.source_lines import Place  # noqa: E402
+from view.names.unnamed_memory import is_unnamed, name  # noqa: E402
 
 VERSIONS, WAYS = ("1.16", "1.18", "1.20"), ("fixed", "addends", "packed")
 A, B, C = "/src/a.go", "/src/b.go", "lib/c.go"
@@ -254,7 +254,7 @@ class Strange(OfBytes):
 
     def test_how_deep_calls_are(self):
         for deep, wanted in ((2, TOLD[64]), (1, [("", B, 50)])):
-            with mock.patch.object(golang, "DEEP", deep):
+            with mock.patch.object(go, "DEEP", deep):
                 self.assertEqual([tuple(it) for it in self.table(Made()).frames(TEXT + 64)], wanted)
 
     def test_a_tree_elsewhere(self):
@@ -272,9 +272,9 @@ class Strange(OfBytes):
         self.assertEqual(self.table(made).frames(TEXT), [Place("", B, 7)])
         made.put(made.records[1] + 4, struct.pack("<I", made.get(made.records[1] + 4) + 1))
         self.assertEqual(self.table(made).frames(TEXT + 48), [Place("", B, 20)])
-        with mock.patch.object(golang, "NAME", len("main.plain")):
+        with mock.patch.object(go, "NAME", len("main.plain")):
             self.assertEqual(self.table(Made()).frames(TEXT), [Place("", B, 7)])
-        with mock.patch.object(golang, "NAME", len("main.plain") + 1):
+        with mock.patch.object(go, "NAME", len("main.plain") + 1):
             self.assertEqual(self.table(Made()).frames(TEXT), [Place("main.plain", B, 7)])
 
     def test_files(self):
@@ -370,7 +370,7 @@ class Strange(OfBytes):
                 None if grown[:4] == head[:4] else [Place("main.plain", B, 7)],
             )
             self.assertLess(time.process_time() - begin, 4)
-        with mock.patch.object(golang, "FUNCTIONS", len(OWN) - 1):
+        with mock.patch.object(go, "FUNCTIONS", len(OWN) - 1):
             self.assertIsNone(self.table(Made()))
 
     def test_steps(self):
@@ -388,9 +388,9 @@ class Strange(OfBytes):
         # (steps of one byte, and a number of too many)
         for values in (b"\2\1" * (1 << 22), b"\xff" * (1 << 19)):
             begin = time.process_time()
-            table.begin, table.data, table.values, table.left = 0, values, 0, golang.STEPS
+            table.begin, table.data, table.values, table.left = 0, values, 0, go.STEPS
             table.steps.cache_clear()
-            self.assertEqual(len(table.steps(0)[0]), golang.STEPS if values[0] == 2 else 0)
+            self.assertEqual(len(table.steps(0)[0]), go.STEPS if values[0] == 2 else 0)
             self.assertEqual(table.steps(2), ([], []))
             self.assertLess(time.process_time() - begin, 4)
 
@@ -468,7 +468,7 @@ class Names(OfBytes):
             )
         ]
         with mock.patch(
-            "native.subprocess.run",
+            "view.names.native.subprocess.run",
             return_value=mock.Mock(stdout="\n".join(map(json.dumps, (*told, *told))).encode()),
         ):
             sources = NativeSources(native)
@@ -479,7 +479,8 @@ class Names(OfBytes):
         self.assertEqual(sources.frames(TEXT + 144), [Place("own", "/own.c", 3)])
         self.assertEqual(sources.frames(TEXT + 164), [Place("own", "", 0)])
         with mock.patch(
-            "native.subprocess.run", return_value=mock.Mock(stdout=json.dumps(told[1]).encode())
+            "view.names.native.subprocess.run",
+            return_value=mock.Mock(stdout=json.dumps(told[1]).encode()),
         ):
             sources = NativeSources(native)
             self.assertEqual(sources.frames(TEXT + 144), [Place("recorded", "r.c", 1)])
@@ -488,7 +489,7 @@ class Names(OfBytes):
             self.assertEqual(sources.frames(TEXT + 144), [Place("own", "", 0)])
 
     def test_short_names(self):
-        names = mangled.Names()
+        names = demangling.Names()
         for whole, wanted in (
             ("github.com/junegunn/fzf/src.(*Matcher).scan.func1", "src.(*Matcher).scan.func1"),
             ("gopkg.in/yaml%2ev3.(*parser).parse", "yaml.v3.(*parser).parse"),

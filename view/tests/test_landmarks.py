@@ -11,13 +11,13 @@ import time
 import unittest
 
 TOP = os.path.join(os.path.dirname(os.path.abspath(__file__)), "..", "..")
-sys.path.insert(0, os.path.join(TOP, "view"))
+sys.path.insert(0, TOP)
 
 from elftools.elf.elffile import ELFFile  # noqa: E402
 
-from landmarks import Landmarks  # noqa: E402
-from native import Back, NativeProgram  # noqa: E402
-from panics import Near, Panic  # noqa: E402
+from view.names.cpp import Landmarks  # noqa: E402
+from view.names.native import Back, NativeProgram  # noqa: E402
+from view.names.rust import Near, Panic  # noqa: E402
 
 # (what is called and what refers to something is never inlined but where that is wanted, and stands in this order)
 SOURCE = r"""

@@ -5,15 +5,15 @@ import sys
 import unittest
 
 TOP = os.path.join(os.path.dirname(os.path.abspath(__file__)), "..", "..")
-sys.path.insert(0, os.path.join(TOP, "view"))
+sys.path.insert(0, TOP)
 
-import asserted  # noqa: E402
-import classes  # noqa: E402
-import exports  # noqa: E402
-from landmarks import ASSERTION, CLASS, TEXT, Landmark, Marks, text_shown  # noqa: E402
-from naming import Naming  # noqa: E402
-from panics import Near, Panic  # noqa: E402
-from reports import Site  # noqa: E402
+from view.names import cpp_assertions  # noqa: E402
+from view.names import cpp_classes  # noqa: E402
+from view.output import exports  # noqa: E402
+from view.names.cpp import ASSERTION, CLASS, TEXT, Landmark, Marks, text_shown  # noqa: E402
+from view.names.naming import Naming  # noqa: E402
+from view.names.rust import Near, Panic  # noqa: E402
+from view.reading.reports import Site  # noqa: E402
 
 sys.path.insert(0, os.path.join(TOP, "native", "others"))
 from run import is_named  # noqa: E402
@@ -37,7 +37,7 @@ class Texts(unittest.TestCase):
             ),
             ("a::get(T) const [with T = b<c>; U = int]::<lambda(int)>", None),
         ):
-            found = asserted.function_named(whole)
+            found = cpp_assertions.function_named(whole)
             self.assertEqual(found, told or found)
 
     def test_files_from_their_package_on(self):
@@ -49,10 +49,12 @@ class Texts(unittest.TestCase):
             ("/build/reproducible-path/zstd-1.5.4/lib/a.c", "lib/a.c"),
             ("/home/me/own/a.c", "/home/me/own/a.c"),
         ):
-            self.assertEqual(asserted.built(file), told)
-        header = asserted.Assertion(0, 0, "/usr/include/eigen3/Eigen/src/Core/Block.h", 7, "", ())
+            self.assertEqual(cpp_assertions.built(file), told)
+        header = cpp_assertions.Assertion(
+            0, 0, "/usr/include/eigen3/Eigen/src/Core/Block.h", 7, "", ()
+        )
         self.assertTrue(header.is_library() and header.is_header())
-        own = asserted.Assertion(0, 0, "src/h.c", 7, "", ())
+        own = cpp_assertions.Assertion(0, 0, "src/h.c", 7, "", ())
         self.assertFalse(own.is_library() or own.is_header())
         self.assertEqual(own.told(), "near an assertion at src/h.c:7")
 
@@ -83,7 +85,7 @@ class Texts(unittest.TestCase):
             ("std::ctype<char>", "std::ctype<char>"),
             ("x::all(int)::Local", "x::all::Local"),
         ):
-            self.assertEqual(classes.told(whole), told)
+            self.assertEqual(cpp_classes.told(whole), told)
         for whole, is_library in (
             ("std::ctype<char>", True),
             (
@@ -98,7 +100,7 @@ class Texts(unittest.TestCase):
             ("mystd::Own", False),
             ("File", False),
         ):
-            self.assertEqual(classes.is_library(whole), is_library, whole)
+            self.assertEqual(cpp_classes.is_library(whole), is_library, whole)
 
     def test_texts(self):
         for text, shown in (

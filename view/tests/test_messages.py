@@ -113,9 +113,7 @@ class Messages(unittest.TestCase):
             heard[len(said) :],
             "predator: own: an ELF file for x86-64: guest/build.sh builds for RV32IMA\n",
         )
-        self.is_refused(
-            "./own is a native program: use `predator view ./own`", "run", "./own"
-        )
+        self.is_refused("./own is a native program: use `predator view ./own`", "run", "./own")
         self.is_refused(
             "./ring.elf is a program for RV32: use `predator view ./ring.elf`",
             "native",
@@ -221,7 +219,9 @@ class Messages(unittest.TestCase):
             "pthread.c:N",
             joined(text).partition("note: ")[2].partition(" no line is contended")[0],
         )
-        wanted = "waiting at the end: hart 0 at pthread.c:N (unlock < claim), after waits.c:13 (main); "
+        wanted = (
+            "waiting at the end: hart 0 at pthread.c:N (unlock < claim), after waits.c:13 (main); "
+        )
         self.assertEqual(
             said,
             f"{wanted}hart 1 at pthread.c:N (lock < pthread_mutex_lock), after waits.c:4 (work)",

@@ -7,26 +7,26 @@ import unittest
 from types import SimpleNamespace
 
 HERE = os.path.dirname(os.path.abspath(__file__))
-sys.path[:0] = [os.path.dirname(HERE), os.path.join(HERE, "..", "..", "tools")]
+sys.path[:0] = [os.path.join(HERE, "..", ".."), os.path.join(HERE, "..", "..", "tools")]
 
-import advice  # noqa: E402
-import compare  # noqa: E402
-import library  # noqa: E402
+from view.repairs import advice  # noqa: E402
+from view.model import comparison  # noqa: E402
+from view.model import foreign_objects  # noqa: E402
 from calling import built  # noqa: E402
-from calls import Call  # noqa: E402
-from fields import Program  # noqa: E402
-from model import Seen, View  # noqa: E402
+from view.reading.calls import Call  # noqa: E402
+from view.names.fields import Program  # noqa: E402
+from view.model.view import Seen, View  # noqa: E402
 from judge_report import Access, Case, Ending, trace_of  # noqa: E402
-from keys import OfSymbol  # noqa: E402
-from mangled import Names, short  # noqa: E402
-from naming import Memory, Naming, WordKind  # noqa: E402
-from objects import Spot, Thing, Told, holder  # noqa: E402
-from overflow import overflow  # noqa: E402
-from predicted import can_lie, judged, together  # noqa: E402
-from reports import Block, Line, Misses, Pair, Report, Site, Symbol  # noqa: E402
-from screen import Paint, prediction, screen  # noqa: E402
-from source_lines import Place  # noqa: E402
-from unnamed import HEAP, name  # noqa: E402
+from view.model.object_keys import OfSymbol  # noqa: E402
+from view.names.demangling import Names, short  # noqa: E402
+from view.names.naming import Memory, Naming, WordKind  # noqa: E402
+from view.model.objects import Spot, Thing, Told, holder  # noqa: E402
+from view.model.stack_overflow import overflow  # noqa: E402
+from view.model.predicted_lines import can_lie, judged, together  # noqa: E402
+from view.reading.reports import Block, Line, Misses, Pair, Report, Site, Symbol  # noqa: E402
+from view.output.screen import Paint, prediction, screen  # noqa: E402
+from view.names.source_lines import Place  # noqa: E402
+from view.names.unnamed_memory import HEAP, name  # noqa: E402
 
 HEAD = (
     "predator report 1\noutcome exit 0\nsteps 9\naccesses 900\nlayout 64 0\nthresholds 16 64 100\n"
@@ -82,7 +82,7 @@ class Compared(unittest.TestCase):
     def pairs(self, old, new):
         return sorted(
             (a and a["false_sharing"] or 0, b and b["false_sharing"] or 0)
-            for a, b in compare.pairs(old, new)
+            for a, b in comparison.pairs(old, new)
         )
 
     def test_blocks_whose_lines_have_moved(self):
@@ -113,7 +113,7 @@ class Compared(unittest.TestCase):
 
     def test_rows(self):
         def row(before, after):
-            return tuple(compare.row(before, after, compare.MISSES))
+            return tuple(comparison.row(before, after, comparison.MISSES))
 
         name = "block made at ring.c:9"
         self.assertEqual(row(made(3, 9), made(3, 9)), ([(3, 3), (0, 0)], name))
@@ -131,7 +131,7 @@ class Compared(unittest.TestCase):
             [], "misses 64 0\naccesses 900\nlines 0\ntotal cold 4 useful 901 useless 0\nend\n"
         )
         total = {"true_sharing": 1, "false_sharing": 300}
-        before = compare.Before([made(300, 9, useful=1)], "exit 0", total)
+        before = comparison.Before([made(300, 9, useful=1)], "exit 0", total)
         self.assertEqual(
             list(compare.compared(view, before, "old")),
             [
@@ -183,7 +183,9 @@ class Advised(unittest.TestCase):
         for turns in (1, 3, 100):
             for useless, useful in ((0, 300), (100, 300), (300, 20)):
                 told = self.todo(state, flags, useless=useless, useful=useful, turns=turns)
-                self.assertIn("several fields or elements lie in one word of lock.ready, .done", told)
+                self.assertIn(
+                    "several fields or elements lie in one word of lock.ready, .done", told
+                )
                 self.assertNotIn("padding", told)
             self.assertIn(
                 "several fields or elements lie in one word: where", self.todo(flags, turns=turns)
@@ -203,9 +205,13 @@ class Advised(unittest.TestCase):
             used("lock.own+4", 12, 0, hart="1"),
         ]
         told = self.todo(*words, useless=200, useful=90)
-        self.assertIn("after the first field of each: lock.sum (several threads); lock.own (hart 1)", told)
+        self.assertIn(
+            "after the first field of each: lock.sum (several threads); lock.own (hart 1)", told
+        )
         self.assertNotIn("+4", told)
-        self.assertIn("lock.sum: true sharing (300 of 300 misses): write less", self.todo(*words[:2]))
+        self.assertIn(
+            "lock.sum: true sharing (300 of 300 misses): write less", self.todo(*words[:2])
+        )
         # (each load brings both of its words)
         self.assertNotIn("misses more", self.todo(*words[:2], useful=90))
         self.assertIn(
@@ -379,11 +385,11 @@ class Objects(unittest.TestCase):
             "[vdso]",
             "libpthread-2.36.so",
         ):
-            self.assertTrue(library.LIBRARIES.search(path), path)
+            self.assertTrue(foreign_objects.LIBRARIES.search(path), path)
         for path in ("/usr/lib/libcap.so.2", "/home/me/libc/queue", "/usr/lib/libstdc++.so.6"):
-            self.assertFalse(library.LIBRARIES.search(path), path)
-        self.assertTrue(library.KIT.search("/opt/predator/guest/clib/heap.c"))
-        self.assertFalse(library.KIT.search("guest/examples/queue.c"))
+            self.assertFalse(foreign_objects.LIBRARIES.search(path), path)
+        self.assertTrue(foreign_objects.KIT.search("/opt/predator/guest/clib/heap.c"))
+        self.assertFalse(foreign_objects.KIT.search("guest/examples/queue.c"))
 
     def test_the_pair_that_takes_most_for_nothing_is_first(self):
         pairs = [Pair(1, 2, 90, 90), Pair(3, 4, 50, 10), Pair(5, 6, 45, 4), Pair(7, 8, 40, 10)]
@@ -699,7 +705,9 @@ class Objects(unittest.TestCase):
             "hart 1 overflowed its stack of 65,536 bytes: it wrote 98,288 bytes below the top",
             self.overflow(*down),
         )
-        self.assertIn("use `--set stack=131072`, unless it recurses without end", self.overflow(*down))
+        self.assertIn(
+            "use `--set stack=131072`, unless it recurses without end", self.overflow(*down)
+        )
         deep = [(7, True, at) for at in range(0xF9FFF0, 0xF9FFF0 - 0x200000, -1024)]
         self.assertIn("hart 7 overflowed its stack of 65,536 bytes", self.overflow(*deep))
         self.assertIn("exceed the largest stack, 1,048,576 bytes", self.overflow(*deep))

@@ -9,17 +9,17 @@ import tempfile
 import unittest
 
 TOP = os.path.join(os.path.dirname(os.path.abspath(__file__)), "..", "..")
-sys.path.insert(0, os.path.join(TOP, "view"))
+sys.path.insert(0, TOP)
 
 from elftools.elf.elffile import ELFFile  # noqa: E402
 
-import unnamed  # noqa: E402
-from image import packed  # noqa: E402
-from keys import OfBlocks  # noqa: E402
-from naming import Naming  # noqa: E402
-from objects import Thing  # noqa: E402
-from panics import Near, Panic, Panics  # noqa: E402
-from reports import Block, Site  # noqa: E402
+from view.names import unnamed_memory  # noqa: E402
+from view.names.x86_image import packed  # noqa: E402
+from view.model.object_keys import OfBlocks  # noqa: E402
+from view.names.naming import Naming  # noqa: E402
+from view.model.objects import Thing  # noqa: E402
+from view.names.rust import Near, Panic, Panics  # noqa: E402
+from view.reading.reports import Block, Site  # noqa: E402
 
 sys.path.insert(0, os.path.join(TOP, "native", "others"))
 from run import is_named  # noqa: E402
@@ -353,10 +353,10 @@ class Names(unittest.TestCase):
                 else f"{thing.name}, used at"
             )
             self.assertEqual(
-                (naming.is_told(block.sites), unnamed.is_unnamed(thing, naming)),
+                (naming.is_told(block.sites), unnamed_memory.is_unnamed(thing, naming)),
                 (is_told, not is_told),
             )
-            unnamed.name(thing, [0x70, 0x10], naming)
+            unnamed_memory.name(thing, [0x70, 0x10], naming)
             used = "" if is_told else " fd+0x70 and fd+0x10 (near a panic at src/a.rs:7)"
             self.assertEqual(thing.name, own + used)
 

@@ -79,7 +79,9 @@ class Screens(Shown):
             "1 1,187 1 797 1 block made at arena.c:17 < main: struct node (4 blocks)",
             "fix allocate each of these blocks on its own lines: aligned_alloc(64, ..) with sizes rounded up to multiples of 64",
         )
-        self.shows(text, "address reads writes alone thread field", "0x00011014 199 200 0 hart 2 .count")
+        self.shows(
+            text, "address reads writes alone thread field", "0x00011014 199 200 0 hart 2 .count"
+        )
 
     def test_a_trap_is_loud(self):
         _, text, _ = view(
@@ -123,7 +125,8 @@ class Screens(Shown):
         self.assertEqual(view(*words, "298")[0], 0)
         status, _, said = view(*words, "297")
         self.assertEqual(
-            (status, said), (1, "predator view: stats has 298 false-sharing misses, more than 297\n")
+            (status, said),
+            (1, "predator view: stats has 298 false-sharing misses, more than 297\n"),
         )
         self.assertEqual(view(*words, "297", "--object", "ring")[0], 0)
         self.assertEqual(
@@ -136,9 +139,14 @@ class Screens(Shown):
         for lacks in ("", "pipes"):
             status, text, _ = view(*words, STAND_IN_SAYS=says, lacks=lacks)
             self.assertEqual(status, 0)
-            self.shows(text, "note: the last thread never ran, because all 8 harts were in use: use `--set harts=16`")
+            self.shows(
+                text,
+                "note: the last thread never ran, because all 8 harts were in use: use `--set harts=16`",
+            )
             status, _, said = view(*words, "--fail-above", "9999", STAND_IN_SAYS=says, lacks=lacks)
-            self.assertEqual((status, "predator view: the last thread never ran" in said), (3, True))
+            self.assertEqual(
+                (status, "predator view: the last thread never ran" in said), (3, True)
+            )
 
     def test_all_that_fight(self):
         _, text, _ = view("run", built("ring.elf"), *TURNS, "--explain", "1", "--words")
@@ -218,7 +226,9 @@ class Screens(Shown):
                 said,
                 "odd.elf isn't the program of this report and isn't used: it has no symbol stats of 64 bytes at ",
             )
-            self.shows(text, "1 298 0 299 1 stats who each thread writes its own words: hart 1: +24")
+            self.shows(
+                text, "1 298 0 299 1 stats who each thread writes its own words: hart 1: +24"
+            )
             with open(report, "wb") as file:
                 file.write(
                     subprocess.run(
@@ -231,7 +241,9 @@ class Screens(Shown):
             self.assertEqual(status, 2)
             self.assertIn("ring.elf has no variable 'stat'; did you mean `stats`?", said)
             status, _, said = view(report, "--object", "stat", "--by", "count", "--fail-above", "0")
-            self.assertEqual((status, "'stat' isn't in the report: add '--program'" in said), (2, True))
+            self.assertEqual(
+                (status, "'stat' isn't in the report: add '--program'" in said), (2, True)
+            )
             _, text, _ = view(report)
             self.shows(
                 text,
@@ -280,8 +292,14 @@ class Screens(Shown):
             (("run", "missing.elf"), "missing.elf: No such file or directory"),
             (("replay", __file__), "`predator replay` failed: "),
             (("replay", built("ring.elf")), "ring.elf is a program for RV32: use `predator view"),
-            (("run", built("ring.elf"), "--object", "stat"), "ring.elf has no variable 'stat'; did you mean `stats`?"),
-            (("run", built("ring.elf"), "--json", "-", "--html", "-"), "only one output can be `-`, standard output"),
+            (
+                ("run", built("ring.elf"), "--object", "stat"),
+                "ring.elf has no variable 'stat'; did you mean `stats`?",
+            ),
+            (
+                ("run", built("ring.elf"), "--json", "-", "--html", "-"),
+                "only one output can be `-`, standard output",
+            ),
             ((__file__,), "isn't a report: the first line isn't"),
             (
                 ("run", built("ring.elf"), "--html", "/no/where"),
@@ -634,7 +652,9 @@ class Against(unittest.TestCase):
                 "run", built("shards.elf"), *TURNS, "--explain", "0", "--against", old
             )
             told = joined(text.partition(f"against {old}:")[2])
-            self.assertIn(f"{total['false_sharing']} 2,147 {total['true_sharing']} 0 all: worse", told)
+            self.assertIn(
+                f"{total['false_sharing']} 2,147 {total['true_sharing']} 0 all: worse", told
+            )
             self.assertIn("- 2,147 - 0 shards (new)", told)
             self.assertIn(f"{objects['stats']['false_sharing']} - 0 - stats (gone)", told)
             status, text, _ = view(

@@ -9,13 +9,13 @@ import unittest
 
 from calling import PROGRAM, STAND_IN, TOP, has, view
 
-sys.path[:0] = [os.path.join(TOP, "view"), os.path.join(TOP, "tools")]
+sys.path[:0] = [TOP, os.path.join(TOP, "tools")]
 
-from borders import Under, ordered  # noqa: E402
-from drawing import curve  # noqa: E402
-from faults import Fault  # noqa: E402
+from view.model.line_borders import Under, ordered  # noqa: E402
+from view.output.drawings import curve  # noqa: E402
+from view.faults import Fault  # noqa: E402
 from judge_report import Access, Case, Ending, trace_of  # noqa: E402
-from sweep import Sweep, page  # noqa: E402
+from view.output.sweep import Sweep, page  # noqa: E402
 from traces import Symbol  # noqa: E402
 
 TITLE = (

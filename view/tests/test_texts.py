@@ -7,14 +7,14 @@ import tempfile
 import unittest
 
 HERE = os.path.dirname(os.path.abspath(__file__))
-sys.path.insert(0, os.path.dirname(HERE))
+sys.path.insert(0, os.path.dirname(os.path.dirname(HERE)))
 
-from calls import Call  # noqa: E402
-from drawing import visible  # noqa: E402
-from faults import Fault, plain  # noqa: E402
-from page import PLACE  # noqa: E402
-from recording import parted  # noqa: E402
-from reports import Explained, Misses, Report  # noqa: E402
+from view.reading.calls import Call  # noqa: E402
+from view.output.drawings import visible  # noqa: E402
+from view.faults import Fault, plain  # noqa: E402
+from view.output.page import PLACE  # noqa: E402
+from view.reading.recording import parted  # noqa: E402
+from view.reading.reports import Explained, Misses, Report  # noqa: E402
 
 HEAD = "predator report 1\noutcome exit 0\nsteps 3\naccesses 3\nlayout 64 0\nthresholds 1 64 1\n"
 ROWS = """line observed 0x00001000 64 start 0 count 2 verdict false
@@ -84,19 +84,36 @@ class Texts(unittest.TestCase):
     def test_bad_reports(self):
         self.fault("", "r is empty")
         self.fault("\n", "r is empty")
-        self.fault("predator report 2\nend\n", "r has an unknown report version: the first line isn't")
+        self.fault(
+            "predator report 2\nend\n", "r has an unknown report version: the first line isn't"
+        )
         self.fault("\x7fELF", "r isn't a report: the first line isn't `predator report 1`")
-        self.fault("PRDTRC01\1", "r isn't a report but a trace: use `predator view replay -` to read one")
-        self.fault('{"format": 1}', "r isn't a report but JSON of `predator view --json`: use `--against`")
+        self.fault(
+            "PRDTRC01\1", "r isn't a report but a trace: use `predator view replay -` to read one"
+        )
+        self.fault(
+            '{"format": 1}', "r isn't a report but JSON of `predator view --json`: use `--against`"
+        )
         self.fault("PRDSTA01", "r isn't a report but a saved state: use `predator replay --resume`")
         self.fault("predator: trace BadMagic\n", "r isn't a report: ")
         for cut in range(30, len(WHOLE) - 4, 11):
             self.fault(WHOLE[:cut], "r is cut short: the last line `end` is missing")
-        self.fault(HEAD + "lines 3\n" + ROWS + "end\n", "r: the header says 3 lines, the file has 2")
+        self.fault(
+            HEAD + "lines 3\n" + ROWS + "end\n", "r: the header says 3 lines, the file has 2"
+        )
         self.fault(WHOLE.replace("exit 0", "exit well"), "r has no valid line `outcome`")
-        self.fault(WHOLE.replace("layout 64 0", "layout 64"), "r has no valid line `layout` or `thresholds`")
-        self.fault(WHOLE.replace("layout 64 0", "layout 63 0"), "r has no valid line `layout` or `thresholds`")
-        self.fault(WHOLE.replace("layout 64 0", "layout 64 64"), "r has no valid line `layout` or `thresholds`")
+        self.fault(
+            WHOLE.replace("layout 64 0", "layout 64"),
+            "r has no valid line `layout` or `thresholds`",
+        )
+        self.fault(
+            WHOLE.replace("layout 64 0", "layout 63 0"),
+            "r has no valid line `layout` or `thresholds`",
+        )
+        self.fault(
+            WHOLE.replace("layout 64 0", "layout 64 64"),
+            "r has no valid line `layout` or `thresholds`",
+        )
         self.fault(WHOLE.replace("steps 3", "steps \xb2"), "r has no line `steps N` in its head")
         self.fault(
             WHOLE.replace("0x00001000 64 start", "0x00001000 32 start"), "lines of another size"
@@ -110,7 +127,9 @@ class Texts(unittest.TestCase):
             rows = WHOLE.split("\n")
             rows[row - 1] = bad
             self.fault("\n".join(rows), f"r, line {row}: unexpected `{bad}`")
-        self.fault(WHOLE.replace("count 2", f"count {'9' * 5000}"), "r, line 8: unexpected `line observed")
+        self.fault(
+            WHOLE.replace("count 2", f"count {'9' * 5000}"), "r, line 8: unexpected `line observed"
+        )
 
     def test_where_rows_end(self):
         for row, wanted in (
@@ -211,7 +230,9 @@ class Words(unittest.TestCase):
         self.assertEqual(
             (call.how, call.subject, call.words), ("sweep", "t", ["t", "--size", "64"])
         )
-        self.assertEqual("`view sweep` needs a line size, such as '--size 64'", self.refused("sweep", "t"))
+        self.assertEqual(
+            "`view sweep` needs a line size, such as '--size 64'", self.refused("sweep", "t")
+        )
         self.assertIn(
             "`view sweep` has no option '--json'; it takes --html, --top",
             self.refused("sweep", "t", "--size=64", "--json=f"),
@@ -252,7 +273,8 @@ class Words(unittest.TestCase):
             )
             for how, name, said in strange:
                 self.assertIn(
-                    f"{at(name)} is {said}: use `predator view {at(name)}`", self.refused(how, at(name))
+                    f"{at(name)} is {said}: use `predator view {at(name)}`",
+                    self.refused(how, at(name)),
                 )
             self.assertIn(
                 "view run has no option '--quantum'", self.refused(at("guest"), "--quantum", "10")
@@ -261,7 +283,8 @@ class Words(unittest.TestCase):
                 "'--all' applies to native programs only", self.refused(at("guest"), "--all")
             )
             self.assertIn(
-                "'--sources' takes a folder, and ", self.refused(at("guest"), "--sources", at("trace"))
+                "'--sources' takes a folder, and ",
+                self.refused(at("guest"), "--sources", at("trace")),
             )
 
     def test_refusals(self):
@@ -284,7 +307,8 @@ class Words(unittest.TestCase):
         self.assertIn("'--top' needs a value", self.refused("a", "--top"))
         self.assertIn("view has no option '--fast=1'", self.refused("a", "--fast=1"))
         self.assertIn(
-            "'--by' takes false-sharing or invalidations, not 'size'", self.refused("a", "--by", "size")
+            "'--by' takes false-sharing or invalidations, not 'size'",
+            self.refused("a", "--by", "size"),
         )
         self.assertIn(
             "'--json-version' takes 1 or 2, not '3'", self.refused("a", "--json-version", "3")
@@ -295,7 +319,9 @@ class Words(unittest.TestCase):
             "'--type' needs a program's types: name the program with '--program'",
             self.refused("a", "--type", "a.c:7=node"),
         )
-        self.assertIn("'--fail-above' takes a number", self.refused("a", "--fail-above", "9" * 5000))
+        self.assertIn(
+            "'--fail-above' takes a number", self.refused("a", "--fail-above", "9" * 5000)
+        )
         self.assertIn("'--fail-above' takes a number", self.refused("a", "--fail-above", "\u0663"))
         self.assertIn("'--by' needs '--fail-above'", self.refused("a", "--by", "count"))
         self.assertIn(

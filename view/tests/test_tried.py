@@ -14,14 +14,14 @@ from unittest import mock
 
 from calling import HERE, PROGRAM, STAND_IN, TURNS, built, has, joined, view
 
-sys.path[:0] = [os.path.dirname(HERE), os.path.join(HERE, "..", "..", "tools")]
+sys.path[:0] = [os.path.join(HERE, "..", ".."), os.path.join(HERE, "..", "..", "tools")]
 
-import main  # noqa: E402
-import patches  # noqa: E402
-from cutting import accesses_of, cut  # noqa: E402
-from fields import Program  # noqa: E402
+from view import main  # noqa: E402
+from view.repairs import patches  # noqa: E402
+from view.reading.trace_prefix import accesses_of, cut  # noqa: E402
+from view.names.fields import Program  # noqa: E402
 from judge_report import Access, Case, Ending, trace_of  # noqa: E402
-from layouts import (
+from view.repairs.layouts import (  # noqa: E402
     Change,
     Part,
     Shape,
@@ -30,14 +30,14 @@ from layouts import (
     in_words,
     laid,
     members_of,
-)  # noqa: E402
-from repairs import Repair, groupings  # noqa: E402
-from spelled import Uses  # noqa: E402
-from subjects import UNUSED, Whose, whose  # noqa: E402
+)
+from view.repairs.candidates import Repair, groupings  # noqa: E402
+from view.reading.trace_files import Uses  # noqa: E402
+from view.repairs.subjects import UNUSED, Whose, whose  # noqa: E402
 from traces import Access as Accessed  # noqa: E402
 from traces import Alloc, Symbol, placed, records, with_pcs  # noqa: E402
-from tried import Counted, Tried  # noqa: E402
-from trying import free, table, together_of  # noqa: E402
+from view.repairs.trial_results import Counted, Tried  # noqa: E402
+from view.repairs.trials import free, table, together_of  # noqa: E402
 
 
 class Folder(unittest.TestCase):
@@ -107,7 +107,7 @@ class Used(Folder):
 
     def test_the_front_of_a_long_trace(self):
         accesses = [(0, W, 0x2000, 4)] * 9 + [(1, W, 0x1000, 4), (2, W, 0x1004, 4)] * 200
-        with mock.patch.multiple("spelled", PART=16, FEW=4, MANY=4):
+        with mock.patch.multiple("view.reading.trace_files", PART=16, FEW=4, MANY=4):
             front = self.uses(*accesses).front
             self.assertEqual(self.uses(*accesses[:40]).front, b"")
         self.assertEqual(self.uses(*accesses).front, b"")
@@ -187,8 +187,8 @@ class Cut(Folder):
             os.path.join(HERE, "programs"),
         ]
         own = {"PREDATOR_PROGRAM": PROGRAM, "PREDATOR_BUILD": "no"}
-        with mock.patch("passes.LONG", 1000), mock.patch.multiple(
-            "trying", PART=900, FRONT=500
+        with mock.patch("view.reading.passes.LONG", 1000), mock.patch.multiple(
+            "view.repairs.trials", PART=900, FRONT=500
         ), mock.patch.dict(os.environ, own):
             with contextlib.redirect_stdout(text):
                 self.assertEqual(main.main(words), 0)
@@ -446,9 +446,7 @@ class Sentences(unittest.TestCase):
         self.assertEqual(self.tried(2188, 2457, 90000, (23, 2458), own_there=4645), ("do it", told))
         none = "none: no layout change helps on this trace; write shared data less often"
         told = "one layout, which saves 3 of 4,000 misses (first 90,000 accesses)"
-        self.assertEqual(
-            self.tried(2188, 2457, 90000, (2185, 2457), own_there=4000), (none, told)
-        )
+        self.assertEqual(self.tried(2188, 2457, 90000, (2185, 2457), own_there=4000), (none, told))
 
     def test_the_other_way(self):
         before = Counted({"useless": 900, "useful": 10}, 9)
@@ -530,7 +528,10 @@ class Screens(unittest.TestCase):
         words = ("run", built("ring.elf"), *TURNS, "--explain", "0", "--fail-above", "9999")
         status, text, said = view(*words, STAND_IN_HAS="move", STAND_IN_SAYS=says)
         self.assertEqual((status, said.startswith(says), said.count(says)), (3, True, 1))
-        self.assertIn("note: the last thread never ran, because all 8 harts were in use: use `--set harts=16`", joined(text))
+        self.assertIn(
+            "note: the last thread never ran, because all 8 harts were in use: use `--set harts=16`",
+            joined(text),
+        )
         self.assertEqual(view(*words, STAND_IN_HAS="move", STAND_IN_PUTS="put out")[2], "put out\n")
 
     def test_a_trace_is_read_as_a_run_is(self):

@@ -5,15 +5,15 @@ import sys
 import unittest
 from types import SimpleNamespace
 
-sys.path.insert(0, os.path.join(os.path.dirname(os.path.abspath(__file__)), ".."))
+sys.path.insert(0, os.path.join(os.path.dirname(os.path.abspath(__file__)), "..", ".."))
 
-import library  # noqa: E402
-from keys import OfMemory, OfStack, OfSymbol  # noqa: E402
-from naming import Naming  # noqa: E402
-from native import NativeSources  # noqa: E402
-from reports import Pair, Takings  # noqa: E402
-from source_lines import Place  # noqa: E402
-from unnamed import SOUGHT, of_runtime, worst_users  # noqa: E402
+from view.model import foreign_objects  # noqa: E402
+from view.model.object_keys import OfMemory, OfStack, OfSymbol  # noqa: E402
+from view.names.naming import Naming  # noqa: E402
+from view.names.native import NativeSources  # noqa: E402
+from view.reading.reports import Pair, Takings  # noqa: E402
+from view.names.source_lines import Place  # noqa: E402
+from view.names.unnamed_memory import SOUGHT, of_runtime, worst_users  # noqa: E402
 
 
 class Unnamed(unittest.TestCase):
@@ -111,11 +111,12 @@ class Unnamed(unittest.TestCase):
             (True, "the C library or Go's runtime"),
         ):
             self.assertEqual(
-                library.row_of([thing] * 1200, has_runtime),
+                foreign_objects.row_of([thing] * 1200, has_runtime),
                 f"1,200 objects of {whose} (--library shows them)",
             )
             self.assertEqual(
-                library.row_of([thing], has_runtime), f"1 object of {whose} (--library shows it)"
+                foreign_objects.row_of([thing], has_runtime),
+                f"1 object of {whose} (--library shows it)",
             )
 
     def test_lines_near_an_instruction(self):

@@ -9,11 +9,11 @@ import unittest
 
 from calling import HERE, PROGRAM, TOP, has, joined, view
 
-sys.path[:0] = [os.path.dirname(HERE), os.path.join(HERE, "..", "..", "tools")]
+sys.path[:0] = [os.path.join(HERE, "..", ".."), os.path.join(HERE, "..", "..", "tools")]
 
 import traces  # noqa: E402
 from judge_report import Access, Case, Ending, trace_of  # noqa: E402
-from waiting import ENDS, instructions, last_ones, named  # noqa: E402
+from view.model.waiting_harts import ENDS, instructions, last_ones, named  # noqa: E402
 
 LACKS = [it for it in ("clang", "ld.lld", "llvm-symbolizer") if shutil.which(it) is None]
 # Two threads lock two mutexes in two orders, and one ends; with SPINS one spins for ever.

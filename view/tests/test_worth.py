@@ -11,13 +11,13 @@ from types import SimpleNamespace
 
 from calling import HERE, PROGRAM, STAND_IN, built, has, joined, view
 
-sys.path[:0] = [os.path.dirname(HERE)]
+sys.path[:0] = [os.path.dirname(os.path.dirname(HERE))]
 
-import instructions  # noqa: E402
-import worth  # noqa: E402
-from bands import BANDS, at_most, band_of  # noqa: E402
-from calls import Call  # noqa: E402
-from instructions import (
+from view.model import instruction_pairs  # noqa: E402
+from view.model import miss_rates  # noqa: E402
+from view.model.rate_bands import BANDS, at_most, band_of  # noqa: E402
+from view.reading.calls import Call  # noqa: E402
+from view.model.instruction_pairs import (  # noqa: E402
     ATOMIC,
     LOAD,
     STORE,
@@ -26,10 +26,10 @@ from instructions import (
     kind_of,
     kinds_of,
     told,
-)  # noqa: E402
-from model import View  # noqa: E402
-from naming import Naming  # noqa: E402
-from reports import Misses, Pair, Report, Takings, Word  # noqa: E402
+)
+from view.model.view import View  # noqa: E402
+from view.names.naming import Naming  # noqa: E402
+from view.reading.reports import Misses, Pair, Report, Takings, Word  # noqa: E402
 
 REPORT = "predator report 1\noutcome exit 0\nsteps {}\naccesses 2000\nlayout 64 0\nthresholds 16 64 100\nlines 0\nend\n"
 LINE = "line 0x0001{} cold 2 useful {} useless {}\nobject symbol {} 0x0001{} 64\n"
@@ -84,9 +84,9 @@ def view_of(*lines, steps=1000, words=("run", "p"), alternating=None):
     made = View(SimpleNamespace(**vars_of(words)), report, Naming(report))
     made.misses = misses_of(*lines)
     made.arrange()
-    made.worth = worth.Worth(made, None)
+    made.worth = miss_rates.Worth(made, None)
     if alternating:
-        made.worth.known, made.worth.alternating = True, worth.Alternating(
+        made.worth.known, made.worth.alternating = True, miss_rates.Alternating(
             alternating[0], misses_of(*alternating[1:])
         )
         made.worth.of = made.worth.alternating.useless_of(made.naming)
@@ -128,7 +128,7 @@ class InTime(unittest.TestCase):
         self.assertEqual(at_most(0, 140, 0.4), 0)
         self.assertAlmostEqual(at_most(10, 40, 0.4), 0.5)
         self.assertEqual(
-            [worth.percent(it) for it in (0, 0.001, 0.014, 0.5, 1)],
+            [miss_rates.percent(it) for it in (0, 0.001, 0.014, 0.5, 1)],
             ["0%", "less than 1%", "1%", "50%", "100%"],
         )
 
@@ -177,7 +177,7 @@ class InTime(unittest.TestCase):
 
     def test_the_words_of_a_run_in_turns_of_one_step(self):
         def words_of(*words):
-            return worth.in_turns_of_one(SimpleNamespace(**vars_of(("run", *words))))
+            return miss_rates.in_turns_of_one(SimpleNamespace(**vars_of(("run", *words))))
 
         self.assertEqual(words_of("p"), ["run", "--set", "quantum=1,seed=0", "p"])
         self.assertEqual(
@@ -322,17 +322,17 @@ class Kinds(unittest.TestCase):
         }
         own.put_dear_first()
         self.assertEqual([it.name for it in own.things], ["loaded", "stored", "other"])
-        self.assertTrue(instructions.is_read([Word(0, 2, 10, "1")]))
-        self.assertFalse(instructions.is_read([Word(0, 1, 10, "1"), Word(4, 0, 9, "2")]))
+        self.assertTrue(instruction_pairs.is_read([Word(0, 2, 10, "1")]))
+        self.assertFalse(instruction_pairs.is_read([Word(0, 1, 10, "1"), Word(4, 0, 9, "2")]))
 
     @unittest.skipUnless(shutil.which("llvm-objdump"), "llvm-objdump isn't installed")
     def test_a_guest(self):
-        found = instructions.of_file(
+        found = instruction_pairs.of_file(
             built("shards.elf"), built("shards.elf"), range(0x10000, 0x10400, 4)
         )
         self.assertTrue(any(it.is_atomic for it in found.values()))
         self.assertEqual(
-            instructions.of_file(built("missing.elf"), built("missing.elf"), [0x10000]), {}
+            instruction_pairs.of_file(built("missing.elf"), built("missing.elf"), [0x10000]), {}
         )
         words = ["explain", built("shards.elf"), "0x00011000", "64", "0"]
         text = subprocess.run([STAND_IN, *words], capture_output=True, text=True, check=True).stdout
@@ -357,7 +357,7 @@ class Kinds(unittest.TestCase):
                 ).stdout.partition(" T f\n")[0][-16:],
                 16,
             )
-            found = instructions.of_file(path, path, range(begin, begin + 32))
+            found = instruction_pairs.of_file(path, path, range(begin, begin + 32))
         if os.uname().machine == "x86_64":
             self.assertEqual(
                 (
