@@ -18,7 +18,7 @@ PICTURES = {
     "view": (
         [["view", "run", f"{TOP}/guest/built/counters.elf", "--html", "page.html"]],
         1000,
-        650,
+        672,
     ),
     "sweep": (
         [
@@ -60,6 +60,7 @@ def draw(name: str, browser: str) -> str:
             "--no-sandbox",
             "--disable-gpu",
             "--hide-scrollbars",
+            "--force-device-scale-factor=0.9",
             f"--user-data-dir={folder}/user",
         ]
         ran(
