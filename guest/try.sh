@@ -70,13 +70,13 @@ try_completion() {
     completes "--sources --sarif --settings --set --schedule" view run p --s
     completes "--sources --sarif --settings --set --size --shift --save" view replay t --s
     completes "--sources --sarif --settings --set --size --shift" view native p --s
-    completes "" view run p --ba
+    completes "" view run p --ma
     completes "--sources --sarif --settings --set --schedule" view "$here/built/counters.elf" --s
-    completes "--back" view r --ba
+    completes "--map" view r --ma
     completes "--size --top --html --help" view sweep t --
     completes "--shape --top --html --help" view caches t --
-    completes "--back" view replay t --ba
-    completes "useless count" view run p --fail-above 3 --by ""
+    completes "--map" view replay t --ma
+    completes "false-sharing invalidations" view run p --fail-above 3 --by ""
     completes "run" view ru
     completes "--cores --check" campaign p.yaml --c
     completes "--trace --table" native --t
@@ -154,7 +154,7 @@ try_refusals() {
 try_outputs() {
     ln -s programs/counters.elf soft.elf
     expect_status "a link as a trace" 8 "$predator" run programs/counters.elf --trace soft.elf
-    expect_error "a link as a trace" "soft.elf: the same file is in use under another name, and stays as it is"
+    expect_error "a link as a trace" "soft.elf: the file is in use under another name and stays unchanged: name another file"
     same "a link as a trace"
     expect_status "a device" 0 "$predator" run programs/counters.elf --trace /dev/null --output /dev/./null
     expect_silent "a device"
@@ -290,7 +290,7 @@ try_shown() {
 
 # Pipes, and files that are missing, closed, endless or full.
 try_streams() {
-    local once="a pipe or a terminal can be read once; write it to a file first" words
+    local once="a pipe or a terminal can be read only once: write it to a file first" words
     local -a programs traces tables twice settings schedules states written
     calls programs PROGRAM
     calls traces TRACE
@@ -370,7 +370,7 @@ try_streams() {
     expect_status "a closed input" 5 timeout 10 bash -c '"$0" replay - <&-' "$predator"
     expect_status "a closed standard error" 7 timeout 10 bash -c '"$0" replay missing 2>&-' "$predator"
     rm -f both
-    fails "a report over its trace" 8 "both: the same file is in use under another name, and stays as it is" \
+    fails "a report over its trace" 8 "both: the file is in use under another name and stays unchanged: name another file" \
         bash -c '"$0" run programs/counters.elf --trace both >both' "$predator"
 }
 

@@ -464,7 +464,9 @@ if /usr/bin/python3 -c 'import elftools, jinja2' 2>/dev/null && command -v llvm-
     "$run" --built --trace b -- ./heap.tsan
     expect_part "view: a block, built" "block made at heap.c:13 < main" "$(view replay b --explain 0)"
     expect_part "view: a block's fields" ".sum" "$(view replay h --explain 0 --type heap.c:13=tally --words)"
-    expect_part "view: another table" "isn't the table of this report" "$(view replay h --back b.table --explain 0)"
+    # (another program's table may have the report's pages by chance)
+    grep -v "^0x" b.table >pageless.table
+    expect_part "view: another table" "isn't the table of this report" "$(view replay h --back pageless.table --explain 0)"
     said=$(view replay t --back few)
     expect_equal "view: no table: status" 2 "$?"
     expect_part "view: no table" "it is no table back" "$said"

@@ -7,7 +7,7 @@ Prints `FILE:LINE: NAME` for each
 - path below a crate, as sharing_rules/specs/Lines, with or without crates/ before it, and a crate that crates.txt doesn't list; a path
   that begins with src/, specs/ or proofs/, or a name with the ending .rt, is below a crate that its paragraph or heading names before;
 - item of a crate, as `report::write_report`, that its src/ doesn't define;
-- clause in the tables of docs/PROMISES.md that no function of the row's crates has, and definition there that no file defines;
+- reference of docs/PROMISES.md that the crates don't have (promises.py), and mistake planted there that isn't found;
 - word in backquotes, a single name, that stands nowhere in the crates, the scripts and the kit for guests (but in the studies, which
   have words of other programs);
 - code that docs/PROMISES.md quotes and no source has; a line `..` stands for what is left out;
@@ -19,6 +19,8 @@ It ends with 1 where there are any."""
 import os
 import re
 import sys
+
+import promises
 
 TOP = os.path.abspath(os.path.join(os.path.dirname(os.path.abspath(__file__)), ".."))
 PARTS = ("src", "specs", "proofs", "must-fail", "data")
@@ -32,35 +34,24 @@ def read(path):
 def documents():
     for folder, folders, files in os.walk(TOP):
         folders[:] = [
-            name
-            for name in folders
-            if name not in ("out", "fetched", ".git", "crates", "__pycache__")
+            it for it in folders if it not in ("out", "fetched", ".git", "crates", "__pycache__")
         ]
         yield from (
-            os.path.relpath(os.path.join(folder, name), TOP)
-            for name in files
-            if name.endswith((".md", ".1"))
+            os.path.relpath(os.path.join(folder, it), TOP)
+            for it in files
+            if it.endswith((".md", ".1"))
         )
 
 
 class Crate:
-    """What a crate defines: the text of its sources, and the names of its clauses."""
+    """What a crate defines: the text of its sources."""
 
     def __init__(self, name):
         self.texts = {part: "" for part in PARTS}
         for part in ("src", "specs", "proofs"):
             for folder, _, files in os.walk(os.path.join(TOP, "crates", name, part)):
-                for path in files:
-                    self.texts[part] += read(os.path.join(folder, path))
-        self.defined = set(
-            re.findall(r"^ *(?:[a-z]+ )*([^\s:({]+)\s*[:({]", self.texts["specs"], re.MULTILINE)
-        )
-        self.defined |= set(
-            re.findall(r"\b(?:fn|struct|enum|trait|const) (\w+)", self.texts["src"])
-        )
-        self.clauses = set(
-            re.findall(r"\b(?:ensures\*?|requires|ghost) (\w+)\s*[{=:]", self.texts["src"])
-        )
+                for it in files:
+                    self.texts[part] += read(os.path.join(folder, it))
 
     def has_item(self, name):
         kinds = r"fn|struct|enum|trait|const|static|type|mod"
@@ -72,9 +63,6 @@ class Crate:
                 re.MULTILINE,
             )
         )
-
-    def defines(self, name):
-        return name in self.defined
 
 
 def has_path(path):
@@ -88,14 +76,12 @@ def words_of_sources():
     found = set()
     for folder, folders, files in os.walk(TOP):
         folders[:] = [
-            name
-            for name in folders
-            if name not in ("out", "fetched", ".git", "docs", "__pycache__")
+            it for it in folders if it not in ("out", "fetched", ".git", "docs", "__pycache__")
         ]
-        for name in files:
-            found.add(name)
+        for it in files:
+            found.add(it)
             if (
-                name.endswith(
+                it.endswith(
                     (
                         ".rt",
                         ".antt",
@@ -110,17 +96,21 @@ def words_of_sources():
                         ".case",
                     )
                 )
-                or "." not in name
+                or "." not in it
             ):
-                with open(os.path.join(folder, name), encoding="utf-8", errors="ignore") as file:
+                with open(os.path.join(folder, it), encoding="utf-8", errors="ignore") as file:
                     found.update(re.findall(r"[\w≢-]+", file.read()))
     return found
 
 
 def headings(text):
+    """The names that a link may end with: those of headings, and older ones that a line `<a id="NAME"></a>` keeps."""
     return {
-        re.sub(r"[^\w\- ]", "", heading.lower()).replace(" ", "-")
-        for heading in re.findall(r"^#+ (.*)$", text, re.MULTILINE)
+        *(
+            re.sub(r"[^\w\- ]", "", it.lower()).replace(" ", "-")
+            for it in re.findall(r"^#+ (.*)$", text, re.MULTILINE)
+        ),
+        *re.findall(r'^<a id="([\w-]+)"></a>$', text, re.MULTILINE),
     }
 
 
@@ -146,8 +136,7 @@ def relative(line, about):
 def quoted(text, crates):
     """The lines at which the quotes of a document begin that no source has, whatever its spaces and comments."""
     sources = [
-        " ".join(re.sub(r"(?m)^\s*//.*$", "", crate.texts["src"]).split())
-        for crate in crates.values()
+        " ".join(re.sub(r"(?m)^\s*//.*$", "", it.texts["src"]).split()) for it in crates.values()
     ]
     begin, quote = 0, []
     for number, line in enumerate([*text.split("\n"), ""], 1):
@@ -163,9 +152,9 @@ def quoted(text, crates):
 def floors():
     """How many crates the longest chain has that ends with a crate, by crates.txt."""
     below = {
-        row.split(":")[0].split()[0]: row.split(":")[1].split()
-        for row in read("crates.txt").split("\n")
-        if re.match(r"[a-z]", row)
+        it.split(":")[0].split()[0]: it.split(":")[1].split()
+        for it in read("crates.txt").split("\n")
+        if re.match(r"[a-z]", it)
     }
 
     def floor(name):
@@ -182,18 +171,11 @@ def wrong_floors(text):
     return [f"{name}: floor {floor}" for name, floor in floors().items() if told.get(name) != floor]
 
 
-def of_promises(line, crates, before):
-    """What a row of docs/PROMISES.md names in vain, and the crates that it is about."""
-    cells = [it.strip() for it in line.strip().strip("|").split(" | ")]
-    if len(cells) < 3 or cells[0] == "Promise":
-        return [], before
-    about = [it for it in crates if re.search(rf"\b{it}\b", cells[1])]
-    about += before if "the same" in cells[1] else []
-    clauses = set().union(*(crates[it].clauses for it in about))
-    wrong = [it for it in re.findall(r"`(\w+)`", cells[2]) if it not in clauses]
-    found = [it for it in re.findall(r"`([\w-]+)`", cells[3])] if len(cells) > 3 else []
-    wrong += [it for it in found if not any(crate.defines(it) for crate in crates.values())]
-    return wrong, about
+def wrong_promises(text):
+    """The references of docs/PROMISES.md that the crates don't have, and the planted mistakes that aren't found."""
+    crates = promises.read_crates()
+    found = [f"{promises.PAGE}:{it}" for it in promises.wrong_references(crates, text)]
+    return found + [f"{promises.PAGE}:1: {it}" for it in promises.missed_mistakes(crates, text)]
 
 
 def words_twice(page):
@@ -207,9 +189,8 @@ def words_twice(page):
 
 def wrong_names(name, crates, everywhere):
     """The lines of a document, each with what it names in vain."""
-    about, heading, paragraph, columns = [], [], [], ""
+    heading, paragraph = [], []
     for number, line in enumerate(read(name).split("\n"), 1):
-        columns = (columns or line) if line.startswith("|") else ""
         named = [it for it in crates if re.search(rf"(?<![\w]){it}(?![\w])", line)]
         heading = named if line.startswith("#") else heading
         paragraph = named if line.startswith(("|", "- ")) or not line.strip() else paragraph + named
@@ -220,25 +201,22 @@ def wrong_names(name, crates, everywhere):
         )
         found += [it for it in paths if not has_path(it)]
         found += [
-            f"crates/{crate}"
-            for crate in re.findall(r"\bcrates/([a-z_0-9]+)", line)
-            if crate not in crates and crate != "NAME"
+            f"crates/{it}"
+            for it in re.findall(r"\bcrates/([a-z_0-9]+)", line)
+            if it not in crates and it != "NAME"
         ]
         items = re.findall(r"`([a-z_0-9]+)::(\w+)", line)
         found += [
-            f"{crate}::{item}"
-            for crate, item in items
-            if crate not in crates or not crates[crate].has_item(item)
+            f"{it}::{item}"
+            for it, item in items
+            if it not in crates or not crates[it].has_item(item)
         ]
         words = re.findall(r"`([A-Za-z][\w-]*)`", line)
         found += [
-            word
-            for word in words
-            if word not in everywhere and not word.endswith("_") and "STUDIES" not in name
+            it
+            for it in words
+            if it not in everywhere and not it.endswith("_") and "STUDIES" not in name
         ]
-        if name == "docs/PROMISES.md" and columns.startswith("| Promise |"):
-            more, about = of_promises(line, crates, about)
-            found += more
         yield number, dict.fromkeys(found)
 
 
@@ -247,26 +225,27 @@ def main(words):
         print(__doc__)
         return 0
     listed = [
-        row.split(":")[0].split()[0]
-        for row in read("crates.txt").split("\n")
-        if re.match(r"[a-z]", row)
+        it.split(":")[0].split()[0]
+        for it in read("crates.txt").split("\n")
+        if re.match(r"[a-z]", it)
     ]
     crates = {it: Crate(it) for it in listed}
     everywhere, wrong = words_of_sources(), []
     page = read("docs/ARCHITECTURE.md")
-    for fault in (
+    for it in (
         []
         if words
         else [*wrong_floors(page), *(f"{it}: twice in the glossary" for it in words_twice(page))]
     ):
-        wrong.append(f"docs/ARCHITECTURE.md:1: {fault}")
+        wrong.append(f"docs/ARCHITECTURE.md:1: {it}")
     for name in words or sorted(documents()):
-        if name == "docs/PROMISES.md":
+        if name == promises.PAGE:
             wrong += [f"{name}:{number}: {line}" for number, line in quoted(read(name), crates)]
+            wrong += wrong_promises(read(name))
         wrong += [
-            f"{name}:{number}: {text}"
+            f"{name}:{number}: {it}"
             for number, found in wrong_names(name, crates, everywhere)
-            for text in found
+            for it in found
         ]
     print("\n".join(wrong), end="\n" if wrong else "")
     return 1 if wrong else 0

@@ -1,8 +1,8 @@
 #!/usr/bin/env python3
 """The studies that are kept, beside each other.
 
-usage: bench/clock/studies.py                prints the tables of docs/STUDIES.md and docs/GUIDE.md
-       bench/clock/studies.py --renew        puts them into both
+usage: bench/clock/studies.py                prints the tables of docs/STUDIES.md
+       bench/clock/studies.py --renew        puts them there
        bench/clock/studies.py --html FILE    writes a page with the points of all, which wants python3-jinja2
 
 A study is kept as results/NAME.tsv, which is the study.tsv that run.py writes."""
@@ -24,8 +24,6 @@ from timing import Timed
 RESULTS = os.path.join(HERE, "results")
 # The programs of the table: of the first band and of the last, and those on which the bands and the bound mislead.
 NAMED = ("nodes", "atomics", "readers", "stores", "blocks", "bytes", "guarded", "ring")
-# Those that GUIDE shows: one of the last band and one of the first.
-SHOWN = ("atomics", "guarded")
 
 
 def number(text: str) -> int:
@@ -205,32 +203,27 @@ def slowdowns(study: Study, name: str) -> str:
     )
 
 
-def programs_beside(studies: Mapping[str, Study], names: Sequence[str], is_told: bool) -> str:
-    """Some programs: what they do, if that is told, their useless misses, and their slowdowns."""
+def programs_beside(studies: Mapping[str, Study], names: Sequence[str]) -> str:
+    """The false-sharing misses of some programs, and their slowdowns."""
     first, rows = next(iter(studies.values())), []
     for name in names:
         own = sorted(
             (it for it in first.rows if it.program.name == name), key=lambda row: row.threads
         )
         rates = ", ".join(shown(it.rate()) for it in own)
-        what = [own[0].program.text] if is_told else []
-        rows.append([f"`{name}`", *what, rates, *[slowdowns(it, name) for it in studies.values()]])
+        rows.append([f"`{name}`", rates, *[slowdowns(it, name) for it in studies.values()]])
     heads = [
         "Program",
-        *(["What it does"] if is_told else []),
         "False-sharing misses per 1,000 steps",
         *[f"{it}: slowdown" for it in studies],
     ]
-    return table(heads, rows, 2 if is_told else 1)
+    return table(heads, rows)
 
 
 def parts(studies: Mapping[str, Study]) -> dict[str, dict[str, str]]:
     """The texts between the marks of each document."""
-    told = [bands_beside(studies), facts_beside(studies), programs_beside(studies, NAMED, False)]
-    return {
-        "STUDIES.md": {"clock": "\n\n".join(told)},
-        "GUIDE.md": {"clock": programs_beside(studies, SHOWN, True)},
-    }
+    told = [bands_beside(studies), facts_beside(studies), programs_beside(studies, NAMED)]
+    return {"STUDIES.md": {"clock": "\n\n".join(told)}}
 
 
 def renewed(text: str, found: Mapping[str, str], of: str) -> str:
