@@ -457,21 +457,21 @@ if /usr/bin/python3 -c 'import elftools, jinja2' 2>/dev/null && command -v llvm-
     expect_part "view: a field" "counters[1].count" "$said"
     # (enough misses for a repair to be named)
     "$run" --quantum 100 --most 60000 --trace u -- ./counters >/dev/null 2>&1
-    expect_part "view: its type" "by \`struct __attribute__((aligned(64))) own\` (counters.c:" "$(view replay u --settings few --explain 0 | tr -s '\n ' ' ')"
+    expect_part "view: its type" "its own line: struct __attribute__((aligned(64))) own (counters.c:" "$(view replay u --settings few --explain 0 | tr -s '\n ' ' ')"
     "$run" --trace h -- ./heap
     said=$(view replay h --explain 0)
     expect_part "view: a block" "block made at heap.c:13 < main" "$said"
     "$run" --built --trace b -- ./heap.tsan
     expect_part "view: a block, built" "block made at heap.c:13 < main" "$(view replay b --explain 0)"
     expect_part "view: a block's fields" ".sum" "$(view replay h --explain 0 --type heap.c:13=tally --words)"
-    # (another program's table may have the report's pages by chance)
+    # (another program's map may have the report's pages by chance)
     grep -v "^0x" b.table >pageless.table
-    expect_part "view: another table" "isn't the table of this report" "$(view replay h --back pageless.table --explain 0)"
-    said=$(view replay t --back few)
+    expect_part "view: another table" "pageless.table isn't the address map of this report and isn't used" "$(view replay h --map pageless.table --explain 0)"
+    said=$(view replay t --map few)
     expect_equal "view: no table: status" 2 "$?"
-    expect_part "view: no table" "it is no table back" "$said"
+    expect_part "view: no table" "few isn't an address map" "$said"
     expect_part "view: a table that isn't there" "No such file" "$(view replay t --back nowhere)"
-    expect_part "view: a run has no table" "'--back' is for" "$(view run x --back t.table)"
+    expect_part "view: a run has no table" "'--map' applies to" "$(view run x --back t.table)"
     # What ends a call that records ends the program, and its screen is shown; an interrupt comes to the program from the terminal.
     for number in TERM HUP INT; do
         mkdir view-$number

@@ -28,6 +28,6 @@ def band_of(rate: float) -> int:
 
 
 def at_most(rate: float, latency: float, step: float) -> float:
-    """An upper bound: the part of the time that so many false-sharing misses per 1,000 instructions take, if each waits for its line alone."""
+    """An upper bound on the part of the time that so many false-sharing misses per 1,000 instructions take, if each waits alone."""
     waits = rate * latency
     return waits / (waits + 1000 * step) if waits else 0.0

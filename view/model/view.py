@@ -155,7 +155,7 @@ class View:
         self.by_layout = dict(zip(foreseen, cast(list[Misses], counted[len(asked) :])))
         if brief:
             self.notes.append(
-                "the trace is long: fixes were tried on its first part, and predicted lines weren't counted; --words does both in full"
+                "the trace is long: fixes were tried on its first part, predicted lines weren't counted; --words does both in full"
             )
 
     def foreseen_layouts(self) -> list[Layout]:
@@ -405,7 +405,7 @@ class View:
             )
         elif is_brief(self.call) and "explain" not in self.call.options:
             self.notes.append(
-                "the trace is long and has no program counters: --explain N finds the conflicting instructions of N objects, with a run each"
+                "the trace is long and has no program counters: --explain N finds the instructions of N objects, with a run each"
             )
         elif program is not None and predator is not None and most:
             self.explain_by_runs(predator, program, things[:most])

@@ -370,7 +370,9 @@ class Naming:
             offset = addr - thing.addr
             return self.typed(thing, name, offset) or self.parts(None, name, offset)
         key = self.memory.key(addr)
-        below = f", {self.memory.below(addr)} below its top" if isinstance(key, OfStack) else ""
+        below = (
+            f", {self.memory.below(addr):,} bytes below its top" if isinstance(key, OfStack) else ""
+        )
         return shown(addr) + below, "", shown(addr)
 
     def typed(self, thing: Symbol | Block, name: str, offset: int) -> tuple[str, str, str] | None:

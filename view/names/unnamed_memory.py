@@ -1,4 +1,4 @@
-"""Names what has no name of its own by the instructions that fight over it, where the trace tells these."""
+"""Names for memory without one, by the conflicting instructions that use it, where the trace has these."""
 
 from typing import Iterable, Sequence
 
@@ -67,7 +67,7 @@ def name(thing: Thing, pcs: Sequence[int], naming: Naming) -> None:
     elif len(functions) > 1:
         # (the elements of an array are mostly used by one function, and what an arena hands out by several)
         thing.name = thing.name.replace("block made", f"block of {example.size:,} made", 1)
-        thing.note = f" (an arena: the instructions that use it are {users})"
+        thing.note = f" (an arena, used at {users})"
 
 
 def together(things: Sequence[Thing]) -> dict[Key, Thing]:

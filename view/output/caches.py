@@ -1,4 +1,4 @@
-"""How many of each line's invalidations are left in finite caches of some shapes: `predator view caches TRACE`. The program counts; this draws."""
+"""The invalidations of each line in finite caches of some shapes: `predator view caches TRACE`. The program counts; this draws."""
 
 import concurrent.futures
 import os

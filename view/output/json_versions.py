@@ -1,4 +1,4 @@
-"""The two versions of what `--json` writes: version 1 of a record of version 2, and what is compared of a record of version 1 as version 2."""
+"""The two versions of what `--json` writes: each as the other one."""
 
 from typing import Any
 

@@ -49,7 +49,7 @@ def colour(hart: int) -> str:
 
 
 class Users(NamedTuple):
-    """The thread that alone writes or uses a word, or none where they are several; and the threads that read it, or write it with others."""
+    """The thread that alone writes or uses a word, or none where several do; and the other threads that use it."""
 
     owner: int | None
     others: tuple[int, ...]

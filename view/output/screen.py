@@ -166,9 +166,10 @@ def next_step(view: View) -> str:
 
 def type_and_place(view: View, thing: Thing, seen: Seen) -> str:
     """The type of an object and where it is declared, or how many blocks a call site has; or nothing."""
-    if isinstance(thing.key, OfBlocks):
-        return f" ({len(thing.lives):,} blocks)" if len(thing.lives) > 1 else ""
     parts = [view.type_of(thing)]
+    if isinstance(thing.key, OfBlocks):
+        many = f" ({len(thing.lives):,} blocks)" if len(thing.lives) > 1 else ""
+        return (f": {parts[0]}" if parts[0] else "") + many
     if seen.declared:
         parts.append(f"{os.path.basename(seen.declared[0])}:{seen.declared[1]}")
     found = ", ".join(filter(None, parts))
@@ -370,7 +371,8 @@ def minors(view: View, rows: Sequence[Thing]) -> str:
     more = len(names) - MOST
     listed = ", ".join(names[:MOST]) + f" and {more} more" if more > 0 else ", ".join(names)
     much = sum(it.useless + it.useful for it in rows)
-    return f"not worth a change: {listed} ({counted(much, 'miss')} together)"
+    together = " together" if len(rows) > 1 else ""
+    return f"not worth a change: {listed} ({counted(much, 'miss')}{together})"
 
 
 def screen(view: View, paint: Paint, width: int = WIDTH) -> Iterator[str]:

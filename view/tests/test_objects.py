@@ -133,7 +133,7 @@ class Compared(unittest.TestCase):
         total = {"true_sharing": 1, "false_sharing": 300}
         before = comparison.Before([made(300, 9, useful=1)], "exit 0", total)
         self.assertEqual(
-            list(compare.compared(view, before, "old")),
+            list(comparison.compared(view, before, "old")),
             [
                 "",
                 "against old:",
@@ -142,9 +142,9 @@ class Compared(unittest.TestCase):
                 "           300    -            1    -  block made at ring.c:9 (gone)",
             ],
         )
-        nothing = compare.Before([made(0, 9)], "budget", {"true_sharing": 0, "false_sharing": 0})
+        nothing = comparison.Before([made(0, 9)], "budget", {"true_sharing": 0, "false_sharing": 0})
         self.assertEqual(
-            list(compare.compared(view, nothing, "old"))[2:],
+            list(comparison.compared(view, nothing, "old"))[2:],
             [
                 "the outcome was budget and is exit 0",
                 "  false before  now  true before  now  object",
@@ -256,7 +256,8 @@ class Advised(unittest.TestCase):
             view = view_of(rows, memory=Memory((0xF90000, 0x1010000), 8), program=program)
             (told,) = view.seen(view.things[0]).words
             self.assertEqual(
-                (told.name, told.kind), ("0x0100ffc0, 64 below its top", WordKind(False, False))
+                (told.name, told.kind),
+                ("0x0100ffc0, 64 bytes below its top", WordKind(False, False)),
             )
             self.assertNotIn("several fields", view.seen(view.things[0]).fix)
 

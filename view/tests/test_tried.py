@@ -204,8 +204,8 @@ class Cut(Folder):
         ).stdout
         self.assertIn(f" useful {useful} useless {useless}\n", total)
         self.assertTrue(1000 < accesses < 2111 and after < useless / 5, shown)
-        said = "note: the trace is long: fixes were tried on its first part, and predicted lines weren't counted; --words does both in full "
-        said += "note: the trace is long and has no program counters: --explain N finds the conflicting instructions of N objects, with a run each "
+        said = "note: the trace is long: fixes were tried on its first part, predicted lines weren't counted; --words does both in full "
+        said += "note: the trace is long and has no program counters: --explain N finds the instructions of N objects, with a run each "
         self.assertIn(said, shown)
 
 
@@ -510,7 +510,8 @@ class Screens(unittest.TestCase):
             self.assertEqual((status, said), (0, ""))
             text = joined(text)
             self.assertIn(
-                "fix give each element of stats its own line: struct __attribute__((aligned(64))) stats (ring.c:24), 16 → 64 bytes each, 64 → 256 bytes in all",
+                "fix give each element of stats its own line: struct __attribute__((aligned(64))) stats (ring.c:24), "
+                "16 → 64 bytes each, 64 → 256 bytes in all tried",
                 text,
             )
             self.assertIn(
