@@ -190,17 +190,17 @@ def main(programs):
         for _ in range(ROUNDS):
             digests.append(timed(digest)[0])
             for name in found[programs[0]]:
-                for it in programs:
-                    took, memory = timed(found[it][name])
-                    least[it][name] = min(took, least[it].get(name, took))
-                    peak[it][name] = max(memory, peak[it].get(name, 0))
+                for path in programs:
+                    took, memory = timed(found[path][name])
+                    least[path][name] = min(took, least[path].get(name, took))
+                    peak[path][name] = max(memory, peak[path].get(name, 0))
         rate = (200 << 20) / min(digests) / 1e6
         steps = steps_of(found[programs[0]]["sort"])
         sizes = os.path.getsize(made), os.path.getsize(random)
     columns = [figures(least[it], peak[it], rate, sizes, steps) for it in programs]
     print(f"sha256sum: {rate:.0f} MB/s\n")
-    for name, it in zip("ABCDEFGH", programs):
-        print(f"{name}: {it}")
+    for name, built in zip("ABCDEFGH", programs):
+        print(f"{name}: {built}")
     names = list("ABCDEFGH"[: len(programs)]) if len(programs) > 1 else ["Measured"]
     print("\n| Work | " + " | ".join(names) + " | Aim |\n|" + "---|" * (len(names) + 2))
     for (work, aim), *told in zip(works(steps), *columns):

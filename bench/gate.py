@@ -58,9 +58,9 @@ def below(root, found):
         children.setdefault(parent, []).append(number)
     left, all_ = [root], set()
     while left:
-        for it in children.get(left.pop(), []):
-            all_.add(it)
-            left.append(it)
+        for child in children.get(left.pop(), []):
+            all_.add(child)
+            left.append(child)
     return all_
 
 
@@ -128,7 +128,7 @@ def main(names):
         # Where the library was kept, so was what isn't among these times.
         old = rows.get(crate, ["0.0"] * 3) if "library" not in found else ["0.0"] * 3
         rows[crate] = [
-            f"{found[it]:.1f}" if it in found else kept for it, kept in zip(PARTS, old)
+            f"{found[name]:.1f}" if name in found else kept for name, kept in zip(PARTS, old)
         ] + [str(edits), today]
     made = table(rows)
     text = read(PAGE).decode()

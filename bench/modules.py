@@ -16,9 +16,9 @@ TOP = os.path.join(os.path.dirname(os.path.abspath(__file__)), "..")
 def times(folder):
     """The seconds of each module, by the files' times."""
     files = sorted(
-        (os.stat(os.path.join(at, it)).st_mtime, it)
+        (os.stat(os.path.join(at, path)).st_mtime, path)
         for at, _, names in os.walk(folder)
-        for it in names
+        for path in names
     )
     return [(now - before, name) for (before, _), (now, name) in zip(files, files[1:])]
 

@@ -73,13 +73,13 @@ def write(path: str, touches: Iterable[Touch]) -> str:
     addr, pcs, count, piece = 0, [0] * HARTS, 0, bytearray()
     with open(path, "wb") as out:
         out.write(struct.pack("<8sQHH", b"PRDTRC03", 0, HARTS, 0))
-        for it in touches:
+        for touch in touches:
             piece += (
-                bytes((0x24 if it.writes else 0x14, it.hart))
-                + spelled(it.addr - addr)
-                + spelled(it.pc - pcs[it.hart])
+                bytes((0x24 if touch.writes else 0x14, touch.hart))
+                + spelled(touch.addr - addr)
+                + spelled(touch.pc - pcs[touch.hart])
             )
-            addr, pcs[it.hart], count = it.addr, it.pc, count + 1
+            addr, pcs[touch.hart], count = touch.addr, touch.pc, count + 1
             if len(piece) > 1 << 20:
                 out.write(piece)
                 piece.clear()

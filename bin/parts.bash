@@ -2,8 +2,8 @@
 # shellcheck disable=SC2154,SC2034 # (so these come from there, and go there)
 
 # The Debian packages that all parts together want. bin/test names those that are missing.
-packages=(clang lld llvm picolibc-riscv64-unknown-elf gcc libc6-dev valgrind libc6-dbg python3 python3-pyelftools python3-jinja2
-    python3-jsonschema chromium snakemake slurmctld slurmd slurm-client munge shellcheck python3-flake8 mypy black git)
+packages=(clang lld llvm picolibc-riscv64-unknown-elf gcc libc6-dev valgrind libc6-dbg python3 python3-pyelftools python3-jinja2 python3-jsonschema
+    chromium snakemake slurmctld slurmd slurm-client munge git shellcheck python3-flake8 mypy black clang-format clang-tidy)
 # What the long forms want too.
 long_packages=(mmdebstrap)
 
@@ -15,7 +15,8 @@ declare -A part_runs part_processors part_tries part_seconds part_needs part_com
 #   PROCESSORS  how many it uses; `all` says that nothing else runs beside it, since it measures time or starts servers
 #   TRIES       2 if what fails is tried once more, alone, since a busy machine may keep it waiting
 #   SECONDS     what it takes alone on four quiet processors: those that take longest begin first
-#   NEEDS       commands, files (words with a `/`), and `program`; without one of them the part is skipped
+#   NEEDS       commands, files (words with a `/`), modules of Debian's python3 (`python3:NAME`), and `program`; without one of them the part is
+#               skipped
 part() {
     local name=$1
     part_names+=("$name")
@@ -31,11 +32,12 @@ declare_parts() {
     if [ -n "${is_long:-}" ]; then long=(--long) all=(--all) reports=2000 judges=1000 seeds=20 studies=(); fi
     part shell daily 1 1 9 shellcheck tools/lint.sh shell
     part python daily 1 1 5 python3 tools/lint.sh python
-    part types daily 1 1 14 "python3 mypy" tools/lint.sh types
+    part types daily 1 1 14 "mypy python3:jinja2 python3:elftools" tools/lint.sh types
     part c daily 1 1 10 gcc tools/lint.sh c
     part sanitizers daily 1 1 30 "gcc python3" native/sanitize.sh
     part imports daily 1 1 3 python3 tools/imports.py
     part edits quick 1 1 2 python3 tools/edits.py --check --planted
+    part test_command daily 1 2 20 "gzip setpriv" tools/try_test.sh
     part names quick 1 1 2 python3 tools/documents.py
     part usage daily 1 1 2 python3 tools/commands.py
     part program daily 1 1 12 "program python3" guest/try.sh program
@@ -45,13 +47,13 @@ declare_parts() {
     part documents daily 1 2 18 "program python3" guest/check_docs.py
     part meter daily all 2 14 "program python3" python3 tools/meter.py "$program"
     part memory daily 1 1 20 "program python3 cc" guest/refuse_memory.py
-    part sizes daily 4 1 20 "program python3" tools/sizes.py "$program" "${long[@]}"
-    part edges daily 4 2 60 "program python3 cc" python3 tools/edges/main.py "$program" --planted "${long[@]}"
-    part messages quick 4 1 30 "program python3" tools/messages.py "$program" --planted
-    part costs daily 4 1 30 "program python3 valgrind" tools/costs.py "$program"
+    part sizes daily 2 1 20 "program python3" tools/sizes.py "$program" "${long[@]}"
+    part edges daily 1 2 60 "program python3 cc" python3 tools/edges/main.py "$program" --planted "${long[@]}"
+    part messages quick 1 1 4 "program python3" tools/messages.py "$program" --planted
+    part costs daily 2 2 14 "program python3 valgrind" tools/costs.py "$program"
     part reports daily 1 1 20 "program python3" tools/judge_report.py "$program" "$reports"
     part judges daily 1 1 60 "program python3" tools/judge_traces.py "$program" "$judges"
-    part growth daily 4 1 60 "program python3" python3 tools/growth.py "$program" "${all[@]}"
+    part growth daily 3 2 60 "program python3 valgrind" python3 tools/growth.py "$program" "${all[@]}"
     part kit daily 1 1 30 "$kit" guest/try.sh kit
     part builds daily 1 1 60 "python3 clang ld.lld llvm-readelf llvm-objcopy $picolibc" env PREDATOR="$program" guest/kit.sh
     part c_library daily 1 1 30 "$kit cc $picolibc" guest/try.sh c_library

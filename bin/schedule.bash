@@ -115,6 +115,7 @@ lack() {
     local it
     for it in $1; do
         case $it in
+            python3:*) /usr/bin/python3 -c "import ${it#*:}" 2>/dev/null || { echo "Debian's python3 has no module ${it#*:}"; return; } ;;
             program) [ -n "$has_program" ] || { echo "the program isn't built of these sources"; return; } ;;
             */*) [ -e "$it" ] || { echo "there is no $it"; return; } ;;
             *) command -v "$it" >/dev/null || { echo "$it isn't installed"; return; } ;;

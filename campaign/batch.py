@@ -1,294 +1,264 @@
-"""Makes the runs of one batch, and counts their traces: batch.py FOLDER NAME, as the workflow calls it.
+"""One job of a campaign: batch.py FOLDER NAME, as the workflow calls it, makes the runs of a batch and counts
+their traces.
 
-What other files have of the same runs is taken over. Each run goes into a journal as soon as it is done, so a batch that is killed
-goes on behind it. A call that fails is tried twice more, and then put down as failed; the batch goes on."""
+Results that other files have of the same runs are taken over. Each run goes into a journal as soon as it is
+done, so that a job that was killed goes on after it. A call that fails is tried twice more, and then noted as
+failed; the batch goes on."""
 
 import fcntl
-import mmap
 import os
-import re
 import subprocess
 import sys
 import tempfile
 from typing import IO, Iterable, Sequence
 
-HERE = os.path.dirname(os.path.abspath(__file__))
-sys.path.insert(0, HERE)
+sys.path.insert(0, os.path.dirname(os.path.dirname(os.path.abspath(__file__))))
 
-import results  # noqa: E402
-from commands import command_of, settings_text, wants_pcs  # noqa: E402
-from folder import Record, campaign_of, of_group, seeds_in, short  # noqa: E402
+from campaign import result_files  # noqa: E402
+from campaign.block_numbers import named_blocks, number_blocks  # noqa: E402
+from campaign.campaign_file import (  # noqa: E402
+    Record,
+    group_inputs,
+    read_campaign,
+    seeds_of_batch,
+    short_sum,
+)
+from campaign.rerun_commands import needs_pcs, run_command, settings_text  # noqa: E402
 
-TRIES = 3
-# The statuses with which a call has printed what is wanted: a run and a replay also where the program came to no exit.
-GOOD = {"run": (0, 10, 11, 12), "replay": (0, 10, 11, 12)}
-# An access in a trace of each version, by its tag, and as many as follow each other.
-TAGS, DISTANCE = rb"[\x11\x12\x14\x21\x22\x24].", rb"[\x80-\xff]*[\0-\x7f]"
-ONE = {
-    b"PRDTRC01": rb"[\1\2].{7}",
-    b"PRDTRC02": TAGS + DISTANCE,
-    b"PRDTRC03": TAGS + DISTANCE + DISTANCE,
-}
-SPANS = {magic: re.compile(b"(?:" + it + b")+", re.DOTALL) for magic, it in ONE.items()}
-BLOCK = re.compile(r"^object block (0x[0-9a-f]+) \d+ born (\d+)", re.MULTILINE)
+MAX_TRIES = 3
+# The statuses of calls that printed a result: a run and a replay also where the program came to no exit.
+GOOD_STATUSES = {"run": (0, 10, 11, 12), "replay": (0, 10, 11, 12)}
+# (the launcher asks for large pages as well: a short run takes half the time with them)
+LARGE_PAGES = "glibc.malloc.hugetlb=1"
 
 
-class Failed(Exception):
-    """A call that didn't print what is wanted, three times."""
+class CallFailed(Exception):
+    """A call that printed no result, three times."""
 
-    def __init__(self, status: int, said: str) -> None:
-        super().__init__(said)
-        self.status, self.said = status, said
+    def __init__(self, status: int, message: str) -> None:
+        super().__init__(message)
+        self.status, self.message = status, message
 
 
 class Caller:
-    """Calls predator, whose texts go through two files: with pipes a short run takes a third longer. What a run's program puts out is
-    lost."""
+    """Calls of predator. Its texts go through two files, since a short run takes a third longer with pipes.
+    The output of the program that it runs is lost."""
 
-    def __init__(self, predator: str, work: str) -> None:
+    def __init__(self, predator: str, folder: str) -> None:
         self.predator = predator
-        self.out, self.said = (open(os.path.join(work, it), "w+b", 0) for it in ("out", "said"))
-        # (the launcher asks for large pages as well: a short run takes half the time with them)
+        self.out, self.errors = (
+            open(os.path.join(folder, name), "w+b", 0) for name in ("out", "errors")
+        )
         self.env = {
             **os.environ,
-            "GLIBC_TUNABLES": os.environ.get("GLIBC_TUNABLES", "glibc.malloc.hugetlb=1"),
+            "GLIBC_TUNABLES": os.environ.get("GLIBC_TUNABLES", LARGE_PAGES),
         }
 
-    def once(self, words: Sequence[str], said: IO[bytes] | int) -> int:
-        for it in (self.out, self.said):
-            it.seek(0)
-            it.truncate()
+    def call_once(self, words: Sequence[str], errors: IO[bytes] | int) -> int:
+        for file in (self.out, self.errors):
+            file.seek(0)
+            file.truncate()
         return subprocess.run(
             [self.predator, *words],
             stdin=subprocess.DEVNULL,
             stdout=self.out,
-            stderr=said,
+            stderr=errors,
             env=self.env,
         ).returncode
 
-    def text(self, file: IO[bytes]) -> str:
+    def read(self, file: IO[bytes]) -> str:
         file.seek(0)
         return file.read().decode("latin-1")
 
-    def called(self, words: Sequence[str]) -> tuple[int, str]:
-        """The status of a call, and what it printed."""
-        # (the last try says why it fails, and no program's output stands before that)
-        loud = [*words, "--output", os.devnull] if words[0] == "run" else words
-        for at in range(TRIES):
-            is_last = at == TRIES - 1
-            status = self.once(
-                loud if is_last else words, self.said if is_last else subprocess.DEVNULL
-            )
-            if status in GOOD.get(words[0], (0,)):
-                return status, self.text(self.out)
-        said = [
-            *self.text(self.out).strip().split("\n")[:1],
-            *self.text(self.said).strip().split("\n"),
-        ]
-        raise Failed(status, "; ".join(it for it in said if it))
-
-
-def makings(trace: str, wanted: set[tuple[int, int]]) -> dict[tuple[int, int], int]:
-    """Of blocks, by address and birth, which one of its call sites it is, in the order of making, from 1 on; the trace tells of all."""
-    found: dict[tuple[int, int], int] = {}
-    made: dict[tuple[int, ...], int] = {}
-    with open(trace, "rb") as file, mmap.mmap(file.fileno(), 0, access=mmap.ACCESS_READ) as data:
-        magic, place, position = data[:8], 20, 0
-        one = re.compile(ONE[magic], re.DOTALL)
-        while data[place] != 6:
-            tag = data[place]
-            if tag == 3:
-                fields = [
-                    int.from_bytes(data[at : at + 4], "little")
-                    for at in range(place + 1, place + 25, 4)
-                ]
-                sites = tuple(fields[2:])
-                made[sites] = made.get(sites, 0) + 1
-                if (fields[0], position) in wanted:
-                    found[fields[0], position] = made[sites]
-                place += 25
-            elif tag == 4:
-                place += 5
-            elif tag == 5:
-                place += 12 + int.from_bytes(data[place + 10 : place + 12], "little")
-            else:
-                run = SPANS[magic].match(data, place)
-                if run is None:
-                    raise SystemExit(f"batch.py: {trace}: it is no trace")
-                end = run.end()
-                position += (
-                    (end - place) // 8
-                    if magic == b"PRDTRC01"
-                    else len(one.findall(data, place, end))
-                )
-                place = end
-    return found
+    def call(self, words: Sequence[str]) -> tuple[int, str]:
+        """The status of a call, and the text that it prints."""
+        good = GOOD_STATUSES.get(words[0], (0,))
+        for _ in range(MAX_TRIES - 1):
+            status = self.call_once(words, subprocess.DEVNULL)
+            if status in good:
+                return status, self.read(self.out)
+        # (the last try keeps the reason, without the output of the program that runs)
+        last = [*words, "--output", os.devnull] if words[0] == "run" else words
+        status = self.call_once(last, self.errors)
+        if status in good:
+            return status, self.read(self.out)
+        lines = self.read(self.out).strip().split("\n")[:1]
+        lines += self.read(self.errors).strip().split("\n")
+        raise CallFailed(status, "; ".join(line for line in lines if line))
 
 
 class Batch:
+    """The runs of a batch: those that there are, and those that are still to make."""
+
     def __init__(self, campaign: Record, name: str) -> None:
         self.campaign, self.name = campaign, name
         self.batch = next(it for it in campaign["batches"] if it["name"] == name)
         self.group = campaign["groups"][self.batch["group"]]
         self.program = campaign["programs"][self.group["program"]]
-        self.base = of_group(campaign, self.group)
-        self.has_pcs = any(wants_pcs(it[0]) for it in self.group["calls"])
+        self.inputs = group_inputs(campaign, self.group)
+        self.calls = [" ".join(words) for words in self.group["calls"]]
+        self.has_pcs = any(needs_pcs(call) for call in self.calls)
 
-    def is_same(self, record: Record) -> bool:
-        """Whether a record is of the same runs but for its seed."""
+    def has_same_inputs(self, record: Record) -> bool:
+        """Whether a record depends on the same inputs, except for its seed."""
         schedule = record["schedule"]["sha256"] if record["schedule"] else None
         own = {
             "predator": record["predator"]["sha256"],
             "program": record["program"]["sha256"],
             "schedule": schedule,
         }
-        return {**own, "settings": record["settings"]} == self.base
+        return {**own, "settings": record["settings"]} == self.inputs
 
-    def empty(self, seed: int) -> Record:
-        program = {
-            "name": self.group["program"],
-            "file": self.program["file"],
-            "sha256": self.program["sha256"],
-        }
-        predator = {it: self.campaign["predator"][it] for it in ("version", "sha256")}
-        head = {
-            "program": program,
+    def empty_record(self, seed: int) -> Record:
+        return {
+            "program": {
+                "name": self.group["program"],
+                "file": self.program["file"],
+                "sha256": self.program["sha256"],
+            },
             "schedule": self.program["schedule"],
             "settings": self.group["settings"],
             "seed": seed,
+            "predator": {key: self.campaign["predator"][key] for key in ("version", "sha256")},
+            "results": {},
+            "blocks": {},
+            "failed": [],
         }
-        return {**head, "predator": predator, "results": {}, "blocks": {}, "failed": []}
 
-    def words(self, settings: str, trace: str | None) -> list[str]:
+    def run_words(self, settings: str, trace: str | None) -> list[str]:
         words = ["run", self.program["file"], "--settings", settings]
-        words += (
-            ["--schedule", self.program["schedule"]["file"]] if self.program["schedule"] else []
-        )
-        return words + (["--trace", trace, *(["--pcs"] if self.has_pcs else [])] if trace else [])
+        if self.program["schedule"]:
+            words += ["--schedule", self.program["schedule"]["file"]]
+        if trace:
+            words += ["--trace", trace, *(["--pcs"] if self.has_pcs else [])]
+        return words
 
-    def make(self, seed: int, known: Record | None, work: str) -> Record:
-        """The record of a run: what is known of it, and what is still to make."""
-        record = self.empty(seed)
-        calls = [" ".join(it) for it in self.group["calls"]]
+    def make_record(self, seed: int, known: Record | None, folder: str) -> Record:
+        """The record of a run: the results that are known of it, and the others."""
+        record = self.empty_record(seed)
+        results = known["results"] if known else {}
         record["results"] = {
-            it: known["results"][it] for it in ["run", *calls] if known and it in known["results"]
+            call: results[call] for call in ["run", *self.calls] if call in results
         }
         record["blocks"] = known["blocks"] if known else {}
-        missing = [it for it in calls if it not in record["results"]]
+        missing = [call for call in self.calls if call not in record["results"]]
         if "run" in record["results"] and not missing:
             return record
-        trace = self.trace(seed, work) if calls else None
+        trace = self.trace_path(seed, folder) if self.calls else None
         try:
             if not (trace and os.path.exists(trace) and "run" in record["results"]):
-                self.run(record, work, trace)
-            for it in missing:
-                self.count(record, it, trace)
-            self.note_blocks(record, trace)
+                self.run(record, folder, trace)
+            for call in missing:
+                self.count_trace(record, call, trace)
+            if trace and os.path.exists(trace):
+                blocks = named_blocks(record["results"])
+                if blocks:
+                    record["blocks"] = number_blocks(trace, blocks)
         finally:
             if trace and self.campaign["traces"] == "lost" and os.path.exists(trace):
                 os.remove(trace)
         return record
 
-    def trace(self, seed: int, work: str) -> str:
-        """Where the trace of a run is: among the kept ones, by what it stands on, or where it is lost."""
+    def trace_path(self, seed: int, folder: str) -> str:
+        """The path of a run's trace: by its inputs where traces are kept."""
         if self.campaign["traces"] == "lost":
-            return os.path.join(work, "trace")
-        folder = os.path.join("traces", os.path.dirname(self.name))
-        os.makedirs(folder, exist_ok=True)
-        return os.path.join(
-            folder, f"{seed}.{short(self.base)}.{'pcs' if self.has_pcs else 'trace'}"
-        )
+            return os.path.join(folder, "trace")
+        kept = os.path.join("traces", os.path.dirname(self.name))
+        os.makedirs(kept, exist_ok=True)
+        kind = "pcs" if self.has_pcs else "trace"
+        return os.path.join(kept, f"{seed}.{short_sum(self.inputs)}.{kind}")
 
-    def run(self, record: Record, work: str, trace: str | None) -> None:
-        settings = os.path.join(work, "settings")
+    def run(self, record: Record, folder: str, trace: str | None) -> None:
+        settings = os.path.join(folder, "settings")
         with open(settings, "w", encoding="utf-8") as file:
-            file.write(settings_text(record))
+            file.write(settings_text(record["settings"], record["seed"]))
         beside = f"{trace}.new-{os.uname().nodename}-{os.getpid()}" if trace else None
         try:
-            status, text = self.caller.called(self.words(settings, beside))
-        except Failed as failed:
-            self.put_down(record, "run", failed)
+            status, text = self.caller.call(self.run_words(settings, beside))
+        except CallFailed as failed:
+            note_failed_call(record, "run", failed)
             return
         if beside and trace:
             os.replace(beside, trace)
         before = record["results"].get("run")
         if before and before["text"] != text:
             raise SystemExit(
-                f"batch.py: {command_of(record)}: it printed another report than before"
+                f"batch.py: {run_command(record)}: this run printed a different report before"
             )
         record["results"]["run"] = {"status": status, "text": text}
 
-    def count(self, record: Record, call: str, trace: str | None) -> None:
+    def count_trace(self, record: Record, call: str, trace: str | None) -> None:
         if trace is None or "run" not in record["results"]:
             return
         try:
-            status, text = self.caller.called([*call.split(), "--", trace])
-        except Failed as failed:
-            self.put_down(record, call, failed)
+            status, text = self.caller.call([*call.split(), "--", trace])
+        except CallFailed as failed:
+            note_failed_call(record, call, failed)
             return
         record["results"][call] = {"status": status, "text": text}
 
-    def put_down(self, record: Record, call: str, failed: Failed) -> None:
-        record["failed"].append(
-            {
-                "call": call,
-                "command": command_of(record, call),
-                "status": failed.status,
-                "said": failed.said,
-            }
-        )
-
-    def note_blocks(self, record: Record, trace: str | None) -> None:
-        """Puts down the order of making of each block that a text names."""
-        wanted = {
-            (int(addr, 16), int(born))
-            for it in record["results"].values()
-            for addr, born in BLOCK.findall(it["text"])
-        }
-        if wanted and trace and os.path.exists(trace):
-            found = makings(trace, wanted)
-            record["blocks"] = {
-                f"{addr:#010x} {born}": order for (addr, born), order in sorted(found.items())
-            }
-
-    def known(self, own: Iterable[Record]) -> dict[int, Record]:
-        """The best record of each seed that a file has: the one with the most results."""
-        found: dict[int, Record] = {}
-        for it in [*own, *results.older(self.name)]:
-            if self.is_same(it) and len(it["results"]) >= len(found.get(it["seed"], it)["results"]):
-                found[it["seed"]] = it
-        return found
+    def best_records(self, own: Iterable[Record]) -> dict[int, Record]:
+        """The record with the most results of each seed that a file has."""
+        best: dict[int, Record] = {}
+        for record in [*own, *result_files.read_older_records(self.name)]:
+            seed, count = record["seed"], len(record["results"])
+            is_better = seed not in best or count >= len(best[seed]["results"])
+            if is_better and self.has_same_inputs(record):
+                best[seed] = record
+        return best
 
     def work(self) -> None:
-        """Makes all runs of the batch. Another job that is at the same batch, left by a call that was killed, is waited for."""
-        path, done = results.finished(self.name), []
+        """Makes all runs of the batch. A job that a killed call left at the same batch is waited for."""
+        path, journal_path = (
+            result_files.finished_path(self.name),
+            result_files.journal_path(self.name),
+        )
         os.makedirs(os.path.dirname(path), exist_ok=True)
-        with open(results.journal(self.name), "a+b") as journal, tempfile.TemporaryDirectory(
+        with open(journal_path, "a+b") as journal, tempfile.TemporaryDirectory(
             prefix="predator-campaign-"
-        ) as work:
-            self.caller = Caller(self.campaign["predator"]["file"], work)
+        ) as folder:
+            self.caller = Caller(self.campaign["predator"]["file"], folder)
             fcntl.flock(journal, fcntl.LOCK_EX)
             if os.path.exists(path):
                 return
-            journal.seek(0)
-            own, end = results.noted(journal.read())
-            journal.truncate(end)
-            known, noted = self.known(own), {it["seed"] for it in own if not it["failed"]}
-            for seed in seeds_in(self.batch):
-                record = self.make(seed, known.get(seed), work)
-                done.append(record)
-                if seed not in noted:
-                    journal.write(results.spelled(record).encode())
-                    journal.flush()
-            results.write_beside(path, results.packed(done))
-            for it in (results.journal(self.name), results.failed(self.name)):
-                if os.path.exists(it):
-                    os.remove(it)
+            records = self.fill_journal(journal, folder)
+            result_files.write_whole(path, result_files.pack_records(records))
+            for old in (journal_path, result_files.failed_path(self.name)):
+                if os.path.exists(old):
+                    os.remove(old)
+
+    def fill_journal(self, journal: IO[bytes], folder: str) -> list[Record]:
+        """The records of all runs, each written into the journal once it is made."""
+        journal.seek(0)
+        own, end = result_files.parse_journal(journal.read())
+        journal.truncate(end)
+        known = self.best_records(own)
+        journaled = {record["seed"] for record in own if not record["failed"]}
+        records = []
+        for seed in seeds_of_batch(self.batch):
+            record = self.make_record(seed, known.get(seed), folder)
+            records.append(record)
+            if seed not in journaled:
+                journal.write(result_files.record_text(record).encode())
+                journal.flush()
+        return records
+
+
+def note_failed_call(record: Record, call: str, failed: CallFailed) -> None:
+    # (`said` is a key of the files of results, which older versions wrote too)
+    record["failed"].append(
+        {
+            "call": call,
+            "command": run_command(record, call),
+            "status": failed.status,
+            "said": failed.message,
+        }
+    )
 
 
 def main(words: list[str]) -> None:
     os.chdir(words[0])
-    Batch(campaign_of("."), words[1]).work()
+    Batch(read_campaign("."), words[1]).work()
 
 
 if __name__ == "__main__":

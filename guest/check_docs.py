@@ -102,9 +102,9 @@ def check(name, renew):
         lines = file.read().split("\n")
     out, at, wrong, tried = [], 0, 0, 0
     with tempfile.TemporaryDirectory() as work:
-        for it in ("bin", "guest", "examples", "tools", "docs", "crates", "view", "campaign"):
-            if os.path.exists(os.path.join(TOP, it)):
-                os.symlink(os.path.join(TOP, it), os.path.join(work, it))
+        for folder in ("bin", "guest", "examples", "tools", "docs", "crates", "view", "campaign"):
+            if os.path.exists(os.path.join(TOP, folder)):
+                os.symlink(os.path.join(TOP, folder), os.path.join(work, folder))
         while at < len(lines):
             line, at = lines[at], at + 1
             out.append(line)
@@ -160,8 +160,8 @@ def main(words):
     renew = "--renew" in words
     wrong = 0 if names else check_manual(renew)
     wrong += sum(
-        check(it, renew)
-        for it in names or [it for it in FILES if os.path.exists(os.path.join(TOP, it))]
+        check(page, renew)
+        for page in names or [it for it in FILES if os.path.exists(os.path.join(TOP, it))]
     )
     return 1 if wrong else 0
 

@@ -521,7 +521,7 @@ if [ -x "$predator" ]; then
     expect_success "its name behind --" "${launched[@]}" --output put -- words.elf
     refuses "words of a small program" "there is no room for words of its own" "${launched[@]}" small.elf -- 1
     refuses "words of no program" "nowhere.elf: No such file" "${launched[@]}" nowhere.elf -- 1
-    refuses "the program as the trace" "stays as it is" "${launched[@]}" words.elf --trace ./words.elf -- 1
+    refuses "the program as the trace" "stays unchanged" "${launched[@]}" words.elf --trace ./words.elf -- 1
     expect_success "no copy is left" rmdir copies
     # What a report says of blocks and of what each hart has for itself.
     cat >blocks.c <<'C'

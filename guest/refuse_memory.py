@@ -193,7 +193,9 @@ def main():
             # (so many instructions that lines of many pairs are there)
             trace = given.read()
             out.write(
-                with_pcs(trace, lambda it, before: 0x10000 + 4 * (it.hart + it.addr // 4 % 8))
+                with_pcs(
+                    trace, lambda access, before: 0x10000 + 4 * (access.hart + access.addr // 4 % 8)
+                )
             )
         with open("cut.trace", "wb") as out:
             out.write(trace[:-30])

@@ -43,10 +43,10 @@ try_launcher() {
         expect_line "$it" "$(head -n 1 "$top/crates/worked_runs/data/usage.txt")"
     done
     expect_status "help of two lines" 0 "$predator" caches --help
-    expect_line "help of two lines" "and how often it was evicted."
-    expect_line "help of two lines" "  --ways W       how many lines a set has room for, from 1 to 64; sets times ways is at most 4096"
+    expect_line "help of two lines" "evictions of each line."
+    expect_line "help of two lines" "  --ways W       sets the lines in each set, from 1 to 64; sets times ways is at most 4096"
     expect_status "help of no command" 1 "$predator" help reply
-    expect_error "help of no command" "'reply' is no command; see predator --help"
+    expect_error "help of no command" "'reply' is not a command: see predator --help"
     expect_status "version" 0 "$predator" --version
     ln -s "$predator" linked
     expect_status "through a link" 0 ./linked --version
@@ -132,11 +132,13 @@ try_refusals() {
     printf '9 1\n' >schedule
     expect_status "no schedule" 3 "$predator" run programs/counters.elf --schedule schedule
     expect_status "bad settings" 4 "$predator" run programs/counters.elf --settings bad
-    expect_error "bad settings" "bad: \`harts\` is a whole number from 1 to 256"
+    expect_error "bad settings" "bad: \`harts\` must be a whole number from 1 to 256"
     expect_status "no trace" 5 "$predator" replay settings
     expect_status "no object" 13 "$predator" place t missing
     expect_line "no object" "predator: place NoObject"
+    # (the gate runs the program with exit status 0 alone)
     expect_status "a missing file" 7 "$predator" replay missing
+    expect_output "a missing file" "predator: read fault"
     expect_error "a missing file" "missing: No such file or directory"
     expect_status "a folder" 7 "$predator" replay programs
     expect_error "a folder" "programs: Is a directory"
@@ -145,14 +147,14 @@ try_refusals() {
     printf 'budget = 10\n' >few
     expect_status "a small budget" 10 "$predator" run programs/counters.elf --settings few
     expect_status "its own name as an output" 1 "$predator" run programs/counters.elf --trace programs/counters.elf
-    expect_error "its own name as an output" "'programs/counters.elf' stands twice; each file that is written wants its own name"
+    expect_error "its own name as an output" "'programs/counters.elf' is named twice: an output file must differ from all other files"
 }
 
 # Nothing is lost by the name of an output. (tools/edges tries each name that a file may have)
 try_outputs() {
     ln -s programs/counters.elf soft.elf
     expect_status "a link as a trace" 8 "$predator" run programs/counters.elf --trace soft.elf
-    expect_error "a link as a trace" "soft.elf: the same file is in use under another name, and stays as it is"
+    expect_error "a link as a trace" "soft.elf: the file is in use under another name and stays unchanged: name another file"
     same "a link as a trace"
     expect_status "a device" 0 "$predator" run programs/counters.elf --trace /dev/null --output /dev/./null
     expect_silent "a device"
@@ -162,57 +164,57 @@ try_messages() {
     expect_status "an output that can't be printed" 8 bash -c '"$0" check programs/counters.elf >/dev/full' "$predator"
     expect_error "an output that can't be printed" "standard output: No space left on device"
     expect_status "no word" 1 "$predator"
-    expect_error "no word" "the command is missing; see predator --help"
+    expect_error "no word" "the command is missing: see predator --help"
     expect_status "a wrong command" 1 "$predator" reply t
-    expect_error "a wrong command" "'reply' is no command; see predator --help"
+    expect_error "a wrong command" "'reply' is not a command: see predator --help"
     expect_status "a lone option" 1 "$predator" run programs/counters.elf --trace
     expect_error "a lone option" "a value is required for '--trace <trace>' but none was supplied"
     expect_status "no layout" 1 "$predator" replay t --size 48
-    expect_error "no layout" "'--size 48 --shift 0' is no layout: --size is a power of two from 4 to 1024, --shift a multiple of 4 below the size"
+    expect_error "no layout" "'--size 48 --shift 0' is not a layout: --size must be a power of two from 4 to 1024, --shift a multiple of 4 below the size"
     expect_status "a word of other bytes" 1 "$predator" run $'p\xff'
-    expect_error "a word of other bytes" "a word isn't UTF-8, as all words of a call are, names of files too"
+    expect_error "a word of other bytes" "an argument is not UTF-8: arguments and file names must be UTF-8"
     { printf '\177ELF\2\1\1'; head -c 9 /dev/zero; printf '\3\0\76\0'; head -c 40 /dev/zero; } >x86
     expect_status "another machine" 2 "$predator" check x86
     expect_error_lines "another machine" "predator: \`predator native -- x86\` reports on a program of this machine, and \`predator view x86\` shows it" \
-        "predator: x86: an ELF file for x86-64: guest/build.sh builds for RV32IMA"
+        "predator: x86: the file is an ELF file for x86-64: build it for RV32IMA with guest/build.sh"
     local by_hand="predator run PROGRAM --trace F"
     expect_status "a program of this machine as a trace" 5 "$predator" misses x86 --size 64
     expect_error_lines "a program of this machine as a trace" "predator: \`predator native --trace F -- x86\` writes a trace of a program of this machine" \
-        "predator: x86: not a trace: \`$by_hand\` writes one, tools/to_trace.py too"
+        "predator: x86: the file is not a trace: write one with \`$by_hand\` or tools/to_trace.py"
     expect_status "a program as a trace" 5 "$predator" replay --set report=1 programs/counters.elf
     expect_error_lines "a program as a trace" "predator: programs/counters.elf is a program: \`predator run programs/counters.elf\` runs it, and with \`--trace F\` it writes a trace" \
-        "predator: programs/counters.elf: not a trace: \`$by_hand\` writes one, tools/to_trace.py too"
+        "predator: programs/counters.elf: the file is not a trace: write one with \`$by_hand\` or tools/to_trace.py"
     expect_status "a trace as a program" 2 "$predator" run t
     expect_error_lines "a trace as a program" "predator: t is a trace: \`predator replay t\` counts it, and \`predator view t\` shows it" \
-        "predator: t: not an ELF file: guest/build.sh builds for RV32IMA"
+        "predator: t: the file is not an ELF file: build it for RV32IMA with guest/build.sh"
     head -c 1000 t >cut.t
     expect_status "a trace that was cut" 5 "$predator" replay cut.t
     expect_error_lines "a trace that was cut" "predator: cut.t: where a kill or Ctrl-C cut it, \`predator native --mend cut.t\` gives it an end" \
-        "predator: cut.t: it ends after 1000 bytes, before the trace does: write or copy it again"
+        "predator: cut.t: the trace is cut off after 1000 bytes: record or copy it again"
     expect_status "an unknown object" 13 "$predator" place t missing
-    expect_error_lines "an unknown object" "predator: no object symbol of the trace has this name, nor was exactly one block made at that address" \
+    expect_error_lines "an unknown object" "predator: no object symbol of the trace has this name, and not exactly one block was allocated at that address: name another object" \
         "predator: objects on lines that are taken: counters"
     printf '#!/bin/sh\n' >$'a\nscript'
     expect_status "a script" 2 "$predator" check $'a\nscript'
-    expect_error "a script" 'a\x0ascript: a script: guest/build.sh builds for RV32IMA'
+    expect_error "a script" 'a\x0ascript: the file is a script: build it for RV32IMA with guest/build.sh'
     printf 'quantum = 1\nquantum = 2\n' >twice
     expect_status "a key twice" 4 "$predator" check programs/counters.elf --settings twice
-    expect_error "a key twice" "twice: line 2: duplicate key; a line is a key and a whole number, as \`quantum = 1\`"
+    expect_error "a key twice" "twice: line 2: duplicate key: write a key and a whole number on each line, like \`quantum = 1\`"
     expect_status "settings in a pipe" 4 bash -c 'cat twice | "$0" check programs/counters.elf --settings /dev/stdin' "$predator"
-    expect_error "settings in a pipe" "/dev/stdin: not TOML: a line is a key and a whole number, as \`quantum = 1\`"
+    expect_error "settings in a pipe" "/dev/stdin: the file is not TOML: write a key and a whole number on each line, like \`quantum = 1\`"
     expect_status "a changed setting" 4 "$predator" check programs/counters.elf --settings settings --set harts=0
-    expect_error "a changed setting" "\`harts\` is a whole number from 1 to 256"
+    expect_error "a changed setting" "\`harts\` must be a whole number from 1 to 256"
     expect_status "no key of the settings" 1 "$predator" check programs/counters.elf --set turns=1
     local keys="The keys are: harts memory stack tracking prediction report quantum budget line seed"
-    expect_error_lines "no key of the settings" "predator: $keys" "predator: 'turns=1' in --set names no key of the settings"
+    expect_error_lines "no key of the settings" "predator: $keys" "predator: 'turns=1' in --set names an unknown key"
     expect_status "a key with a slip" 1 "$predator" run programs/counters.elf --set=report=1,quantom=3
-    expect_error_lines "a key with a slip" "predator: did you mean \`quantum\`? $keys" "predator: 'quantom=3' in --set names no key of the settings"
+    expect_error_lines "a key with a slip" "predator: did you mean \`quantum\`? $keys" "predator: 'quantom=3' in --set names an unknown key"
     printf 'memory = 65536\n' >small
     expect_status "a small memory" 2 "$predator" run programs/counters.elf --settings small
-    expect_error "a small memory" "programs/counters.elf: its segments, the stacks and a heap have no room in the memory: set more \`memory\`, fewer \`harts\` or less \`stack\` in the settings"
+    expect_error "a small memory" "programs/counters.elf: the segments, the stacks and a heap do not fit in memory: set a larger \`memory\`, fewer \`harts\` or a smaller \`stack\` in the settings"
     printf '0  1\n' >spaces
     expect_status "a schedule's line" 3 "$predator" run programs/counters.elf --schedule spaces
-    expect_error "a schedule's line" "spaces: line 1 isn't a hart, one space and a count, as \`0 500\`"
+    expect_error "a schedule's line" "spaces: line 1 is not a hart, one space and a count: write it like \`0 500\`"
 }
 
 # fails WHAT STATUS LINE COMMAND ..: within ten seconds the command ends so, and says this one line.
@@ -282,13 +284,13 @@ try_shown() {
     printf 'harts = 4\n' >four
     expect_status "too few harts" 0 "$predator" run programs/counters.elf --settings four
     expect_line "too few harts" "outcome exit 1"
-    expect_error_lines "too few harts" "predator: no hart was free for the last thread that was to start: \`harts\` is 4, and in the settings it may be up to 256" \
+    expect_error_lines "too few harts" "predator: the last thread could not start: all 4 harts are in use (setting \`harts\`, at most 256)" \
         "predator: the program ended with exit code 1"
 }
 
 # Pipes, and files that are missing, closed, endless or full.
 try_streams() {
-    local once="a pipe or a terminal can be read once; write it to a file first" words
+    local once="a pipe or a terminal can be read only once: write it to a file first" words
     local -a programs traces tables twice settings schedules states written
     calls programs PROGRAM
     calls traces TRACE
@@ -368,7 +370,7 @@ try_streams() {
     expect_status "a closed input" 5 timeout 10 bash -c '"$0" replay - <&-' "$predator"
     expect_status "a closed standard error" 7 timeout 10 bash -c '"$0" replay missing 2>&-' "$predator"
     rm -f both
-    fails "a report over its trace" 8 "both: the same file is in use under another name, and stays as it is" \
+    fails "a report over its trace" 8 "both: the file is in use under another name and stays unchanged: name another file" \
         bash -c '"$0" run programs/counters.elf --trace both >both' "$predator"
 }
 
@@ -455,11 +457,11 @@ int main(void)
     return 0;
 }
 C
-    local few="no hart was free for the last thread that was to start: \`harts\` is"
+    local few="the last thread could not start: all"
     expect_status "a build for nine harts" 0 "$here/build.sh" nine.elf nine.c -- -DMORE=8
     expect_status "nine harts" 0 "$predator" run nine.elf
     expect_line "nine harts" "outcome exit 0"
-    expect_error "nine harts" "$few 8, and in the settings it may be up to 256"
+    expect_error "nine harts" "$few 8 harts are in use (setting \`harts\`, at most 256)"
     printf 'harts = 9\n' >enough
     expect_status "nine of nine" 0 "$predator" run nine.elf --settings enough
     expect_error_lines "nine of nine" "predator: the program ended with exit code 1"
@@ -470,7 +472,7 @@ C
     expect_status "a build for 257 harts" 0 "$here/build.sh" most.elf nine.c -- -DMORE=256
     printf 'harts = 256\nstack = 4096\n' >most
     expect_status "257 harts" 0 "$predator" run most.elf --settings most
-    expect_error "257 harts" "$few 256, and there are never more"
+    expect_error "257 harts" "$few 256 harts are in use, and there are never more"
 
     cannot "cancel" '#include <pthread.h>
     int main(void) { return pthread_cancel(pthread_self()); }' "a hart can't be ended by another one"
@@ -549,7 +551,7 @@ C
     expect_line "nine threads" "outcome exit 0"
     expect_error_lines "nine threads" "8 harts" \
         "pthread_create: each of the 8 harts is in use, so there is none for another thread: the settings may have more, as harts = 16" \
-        "predator: no hart was free for the last thread that was to start: \`harts\` is 8, and in the settings it may be up to 256"
+        "predator: the last thread could not start: all 8 harts are in use (setting \`harts\`, at most 256)"
 }
 
 # It takes minutes.

@@ -37,7 +37,8 @@ def room_of(data):
     if segment_size < 32 or sections and section_size < 40:
         raise Strange
     sections = [
-        struct.unpack_from("<10I", it) for it in table(data, sections_at, section_size, sections)
+        struct.unpack_from("<10I", section)
+        for section in table(data, sections_at, section_size, sections)
     ]
     for _, kind, _, _, at, size, link, _, _, _ in sections:
         if kind != SYMBOLS or link >= len(sections):
@@ -48,8 +49,8 @@ def room_of(data):
         ):
             if info & 15 == OBJECT and length == ROOM and names[name:].startswith(NAME + b"\0"):
                 for kind, begin, base, _, filled, *_ in (
-                    struct.unpack_from("<8I", it)
-                    for it in table(data, segments_at, segment_size, segments)
+                    struct.unpack_from("<8I", segment)
+                    for segment in table(data, segments_at, segment_size, segments)
                 ):
                     if kind == LOADED and base <= addr and addr + ROOM <= base + filled:
                         return addr, begin + addr - base
@@ -60,9 +61,9 @@ def filled(addr, words):
     """The bytes of the words at an address, or none where they take more."""
     places, text = [], b""
     begin = addr + 4 * (len(words) + 2)
-    for it in words:
+    for word in words:
         places.append(begin + len(text))
-        text += it + b"\0"
+        text += word + b"\0"
     made = struct.pack(f"<{len(words) + 2}I", len(words), *places, 0) + text
     return made.ljust(ROOM, b"\0") if len(made) <= ROOM else None
 

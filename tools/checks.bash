@@ -44,6 +44,11 @@ expect_line() {
     if grep -q -x -F -e "$2" out; then pass_check; else fail_check "$1: no line '$2' in the output:" out; fi
 }
 
+# expect_output NAME LINE ..: the last command printed these lines, and no more.
+expect_output() {
+    if printf '%s\n' "${@:2}" | cmp -s - out; then pass_check; else fail_check "$1: expected ${*:2}; got:" out; fi
+}
+
 # expect_error NAME LINE: standard error of the last command is this line of `predator`, and no more.
 expect_error() {
     if [ "$(cat err)" = "predator: $2" ]; then pass_check; else fail_check "$1: expected 'predator: $2', got:" err; fi

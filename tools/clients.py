@@ -84,9 +84,9 @@ def apart(client, own):
 
 
 def again(port, until, own):
-    for it in own:
+    for exchange in own:
         with connected(port, until) as client:
-            apart(client, [it])
+            apart(client, [exchange])
 
 
 def in_step(clients, asked):
@@ -102,10 +102,10 @@ def main(words, options):
     until = time.monotonic() + 60
     keys = [
         [
-            b"key-%d-%d" % (it, turn) if "--anew" in options else b"key-%d" % it
+            b"key-%d-%d" % (client, turn) if "--anew" in options else b"key-%d" % client
             for turn in range(times)
         ]
-        for it in range(count)
+        for client in range(count)
     ]
     asked = [
         [it for turn, key in enumerate(own) for it in kind(key, bytes([97 + turn % 26]) * 100)]

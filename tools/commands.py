@@ -89,8 +89,8 @@ def help_parts(table: dict[str, list[Row]]) -> dict[str, str]:
             column(9, it["name"], plain(it["does"])) for it in table["beside"]
         ),
         "Options": "".join(
-            column(15, f"{it['name']} {it.get('value', '')}".strip(), plain(it["does"]))
-            for it in table["option"]
+            column(15, f"{option['name']} {option.get('value', '')}".strip(), plain(option["does"]))
+            for option in table["option"]
         ),
         "Exit status": "".join(
             column(5, str(it["number"]), plain(it["comes"])) for it in table["status"]
@@ -112,7 +112,7 @@ def renew_help(text: str, table: dict[str, list[Row]]) -> str:
 def roff(text: str) -> str:
     """A text for the manual page, in lines of a modest length."""
     text = flat(text).replace("\\", "\\e")
-    text = re.sub(r"`([^`]+)`", lambda it: "\\fB" + it[1].replace("-", "\\-") + "\\fP", text)
+    text = re.sub(r"`([^`]+)`", lambda match: "\\fB" + match[1].replace("-", "\\-") + "\\fP", text)
     text = re.sub(r"\b_([A-Z]+)_", r"\\fI\1\\fP", text).replace(" --", " \\-\\-")
     lines = textwrap.wrap(text, 120, break_long_words=False, break_on_hyphens=False)
     return "\n".join("\\&" + it if it[:1] in ".'" else it for it in lines) + "\n"
@@ -151,19 +151,22 @@ def manual_parts(table: dict[str, list[Row]]) -> dict[str, str]:
     own.append(".B predator " + "\n|\n.B ".join(it.replace("-", "\\-") for it in LAUNCHER))
     options = (manual_option(it) for it in table["option"])
     ends = (
-        (it["number"], f"{it['comes'][0].upper()}{it['comes'][1:]}. It prints {it['printed']}.")
-        for it in table["status"]
+        (
+            status["number"],
+            f"{status['comes'][0].upper()}{status['comes'][1:]}. It prints {status['printed']}.",
+        )
+        for status in table["status"]
     )
     statuses = (f".TP\n.B {number}\n" + roff(text) for number, text in ends)
     keys = ",\n".join(
-        f"`{it['key']}` ({it['is']}: {values(it)}, usually {it['usual']})"
-        for it in table["setting"]
+        f"`{setting['key']}` ({setting['is']}: {values(setting)}, usually {setting['usual']})"
+        for setting in table["setting"]
     )
     return {
         "synopsis": "\n.br\n".join([*map(synopsis, table["command"]), *own]) + "\n",
         "commands": "".join(
-            f".TP\n.B {it['name']}\n" + roff(sentence(it))
-            for it in [*table["command"], *table["beside"]]
+            f".TP\n.B {command['name']}\n" + roff(sentence(command))
+            for command in [*table["command"], *table["beside"]]
         ),
         "options": "".join(options),
         "statuses": "".join(statuses),
@@ -188,12 +191,12 @@ def values(setting: Row) -> str:
 def format_parts(table: dict[str, list[Row]]) -> dict[str, str]:
     """The parts of docs/FORMATS.md, by the names of their marks."""
     keys = [
-        f"| `{it['key']}`{it.get('also', '')} | {values(it)} | {it['usual']}{it.get('usually', '')} |"
-        for it in table["setting"]
+        f"| `{setting['key']}`{setting.get('also', '')} | {values(setting)} | {setting['usual']}{setting.get('usually', '')} |"
+        for setting in table["setting"]
     ]
     statuses = [
-        f"| {it['number']} | {plain(it['comes'])} | {plain(it['printed'])} |"
-        for it in table["status"]
+        f"| {exit_status['number']} | {plain(exit_status['comes'])} | {plain(exit_status['printed'])} |"
+        for exit_status in table["status"]
     ]
     return {
         "usage": "".join(f"    predator {it['name']} {it['usage']}\n" for it in table["command"]),
@@ -229,14 +232,14 @@ def completion_parts(table: dict[str, list[Row]]) -> dict[str, str]:
     """The parts of the completion, by the names of their marks."""
     names = " ".join(it["name"] for it in [*table["command"], *table["beside"]])
     options = {it["name"]: options_of(it) for it in table["command"]} | {
-        it["name"]: it["options"] for it in table["beside"]
+        command["name"]: command["options"] for command in table["beside"]
     }
     options |= view_options(table)
     arms = [f"        '{name}') options=\"{' '.join(own)}\" ;;" for name, own in options.items()]
     complete = [
-        f"        {it['name']}) known=\"{' '.join(map(str, it['values']))}\" ;;"
-        for it in table["option"]
-        if "values" in it
+        f"        {option['name']}) known=\"{' '.join(map(str, option['values']))}\" ;;"
+        for option in table["option"]
+        if "values" in option
     ]
     complete += ["        --set) known= ;;"]
     return {
@@ -266,20 +269,23 @@ def view_parts(table: dict[str, list[Row]]) -> dict[str, str]:
         f'"{it["key"]}": {it["usual"]}' for it in table["setting"] if isinstance(it["usual"], int)
     )
     run = {
-        it for command in table["command"] if command["name"] == "run" for it in options_of(command)
+        option
+        for command in table["command"]
+        if command["name"] == "run"
+        for option in options_of(command)
     }
     written = [it["name"] for it in table["option"] if it["name"] in run and it.get("writes")]
     bare = [it for it in flags(table) if it in run]
     asked = [
-        it["name"]
-        for it in table["option"]
-        if it["name"] in run and not it.get("writes") and it["name"] not in bare
+        option["name"]
+        for option in table["option"]
+        if option["name"] in run and not option.get("writes") and option["name"] not in bare
     ]
     lines, keys = textwrap.wrap(usual, 130), ", ".join(quoted(it["key"]) for it in table["setting"])
     shown = {
-        it["name"]: options_of(it)
-        for it in table["command"]
-        if it["name"] in ("run", "replay", "sweep")
+        row["name"]: options_of(row)
+        for row in table["command"]
+        if row["name"] in ("run", "replay", "sweep")
     }
     own = "".join(
         f"    {quoted(name)}: [{', '.join(map(quoted, of))}],\n" for name, of in shown.items()
@@ -348,15 +354,15 @@ def usage_of_crates() -> list[str]:
 
 def number(text: int | str) -> int:
     """A bound, which is a number or spelled as 2^32 - 1."""
-    powers = re.sub(r"(\d+)\^(\d+)", lambda it: str(int(it[1]) ** int(it[2])), str(text))
+    powers = re.sub(r"(\d+)\^(\d+)", lambda match: str(int(match[1]) ** int(match[2])), str(text))
     return sum(int(it.replace(" ", "")) for it in re.findall(r"-? ?\d+", powers))
 
 
 def bounds(setting: Row, usual: dict[str, int]) -> Iterator[tuple[int, bool]]:
     """Values of a key beside its bounds, each with whether it is allowed."""
     if "only" in setting:
-        for it in setting["only"]:
-            yield from ((it - 1, False), (it, True), (it + 1, False))
+        for value in setting["only"]:
+            yield from ((value - 1, False), (value, True), (value + 1, False))
         return
     least, greatest, step = (
         usual.get(setting["least"], setting["least"]),
@@ -388,18 +394,23 @@ def check_settings(program: str, table: dict[str, list[Row]]) -> Iterator[str]:
 
 def check_pages(table: dict[str, list[Row]]) -> Iterator[str]:
     """Where a page of help describes other options than commands.toml has."""
-    for it in table["beside"]:
+    for command in table["beside"]:
         # (each stands at the beginning of a line, or behind another one with a comma)
         option = r"(?:--[a-z-]+|-h)(?: [A-Z]+(?:=[A-Z]+)?| count)?"
         rows = re.findall(
-            rf"^(?:#  )? ((?: *{option},?)+)(?=  |$)", read(PAGES[it["name"]]), re.MULTILINE
+            rf"^(?:#  )? ((?: *{option},?)+)(?=  |$)", read(PAGES[command["name"]]), re.MULTILINE
         )
         told = {name for row in rows for name in re.findall(r"--[a-z-]+", row)} - {"--help"}
         for name in sorted(
             told
-            ^ {*it["options"], *it.get("names", ()), *it.get("runs", ()), *it.get("caches", ())}
+            ^ {
+                *command["options"],
+                *command.get("names", ()),
+                *command.get("runs", ()),
+                *command.get("caches", ()),
+            }
         ):
-            yield f"commands.toml and {PAGES[it['name']]} have other options: {name}"
+            yield f"commands.toml and {PAGES[command['name']]} have other options: {name}"
 
 
 def differences(table: dict[str, list[Row]], program: str | None) -> Iterator[str]:
@@ -412,12 +423,12 @@ def differences(table: dict[str, list[Row]], program: str | None) -> Iterator[st
         yield f"commands.toml and the crates have other lines of usage: {line}"
     numbers = {int(it) for it in re.findall(r"^number_of .* = (\d+)$", read(NUMBERS), re.MULTILINE)}
     own = {it["number"] for it in table["status"] if it.get("own") != "launcher"}
-    for it in sorted(numbers ^ own):
-        yield f"commands.toml and the crates have other exit statuses: {it}"
+    for status in sorted(numbers ^ own):
+        yield f"commands.toml and the crates have other exit statuses: {status}"
     options = {it["name"] for it in table["option"]}
     for command in table["command"]:
-        for it in {*options_of(command)} - options:
-            yield f"commands.toml: {command['name']} has an option {it} that isn't described"
+        for unknown in {*options_of(command)} - options:
+            yield f"commands.toml: {command['name']} has an option {unknown} that isn't described"
     yield from check_pages(table)
     if program:
         yield from check_settings(program, table)

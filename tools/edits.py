@@ -248,7 +248,9 @@ def try_edits(chosen: list[str]) -> int:
         for line in run_prover(top, crates):
             judged = judge_line(line)
             if judged is None:
-                print(line, end="", flush=True)
+                # (what it proves of the crates below goes by)
+                if line.startswith("rt: "):
+                    print(line, end="", flush=True)
                 continue
             left.discard(judged[:2])
             passed, failed = passed + judged[2], failed + (not judged[2])

@@ -160,7 +160,9 @@ def blame(trace: str, made: Made) -> Call:
     """With pcs, of which the first has the first address, and so on."""
     numbers = itertools.count()
     with open(trace, "rb") as plain, open(f"{trace}.sited", "wb") as file:
-        file.write(with_pcs(plain.read(), lambda it, before: CODE + 4 * (next(numbers) % made.pcs)))
+        file.write(
+            with_pcs(plain.read(), lambda access, before: CODE + 4 * (next(numbers) % made.pcs))
+        )
     told = (
         []
         if made.settings
@@ -408,12 +410,12 @@ def counted(way: Way, program: str, call: Call, out: str) -> Cost:
 
 def way_of(name: str | None, program: str, folder: str) -> Way:
     """The way that is wanted, or the first one that works here."""
-    for it in [name] if name else list(WAYS):
-        way = WAYS[it]
+    for candidate in [name] if name else list(WAYS):
+        way = WAYS[candidate]
         if (
             not way.words
             or shutil.which(way.words[0])
-            and not once(way, program, Call([], [], 1), os.path.join(folder, it)).fault
+            and not once(way, program, Call([], [], 1), os.path.join(folder, candidate)).fault
         ):
             return way
     sys.exit(f"growth.py: {name} can't be had here")

@@ -43,7 +43,7 @@ def without_comments(text, is_rust):
     quoted = r'"(?:\\.|[^"\\])*"'
     if is_rust:
         quoted += r"|b?'(?:\\[^\n]|[^'\\\n])'"
-    return re.sub(f"{comment}|{quoted}", lambda it: blank(it[0]), text, flags=re.DOTALL)
+    return re.sub(f"{comment}|{quoted}", lambda match: blank(match[0]), text, flags=re.DOTALL)
 
 
 def closed(text, at):
@@ -84,29 +84,29 @@ def imports_of(text, is_rust):
     """The imports of a text, and the places of their statements."""
     word = r"^[ \t]*ghost use\s+" if is_rust else r"^[ \t]*use\s+"
     found = []
-    for it in re.finditer(
+    for match in re.finditer(
         word + r"([^\s{;]+)(?:\s+as\s+([^\s;]+)|(\{[^}]*\}))?[ \t]*;?[ \t]*(?=\n|$)",
         text,
         re.MULTILINE,
     ):
-        scope = block_around(text, it.start()) if is_rust else (0, len(text))
-        if it[3] is None:
-            name = it[2] or it[1].split(".")[-1]
-            found.append(Import(name, it[1], it.start(), it.end(), it.span(), scope))
+        scope = block_around(text, match.start()) if is_rust else (0, len(text))
+        if match[3] is None:
+            name = match[2] or match[1].split(".")[-1]
+            found.append(Import(name, match[1], match.start(), match.end(), match.span(), scope))
             continue
-        for part in re.finditer(r"[^,{}]+", it[3]):
+        for part in re.finditer(r"[^,{}]+", match[3]):
             if part[0].strip():
                 name = re.split(r"\s+as\s+", part[0].strip())[-1]
-                start = it.start(3) + part.start() + len(part[0]) - len(part[0].lstrip())
+                start = match.start(3) + part.start() + len(part[0]) - len(part[0].lstrip())
                 found.append(
-                    Import(name, it[1], start, start + len(part[0].strip()), it.span(), scope)
+                    Import(name, match[1], start, start + len(part[0].strip()), match.span(), scope)
                 )
     return found
 
 
 def words_of(text):
     """The words of a text, and the fronts of dotted ones. What stands behind a dot names a field, unless the dot ends a lambda."""
-    text = re.sub(r"λ[^.\n]*\.", lambda it: it[0][:-1] + " ", text)
+    text = re.sub(r"λ[^.\n]*\.", lambda match: match[0][:-1] + " ", text)
     found = {"[]"} if "[]" in text else set()
     for word in BETWEEN.split(text):
         for part in word.split("::"):
@@ -123,11 +123,11 @@ def unused(text, is_rust):
     """The imports whose names nothing in their reach has, or that one before has brought."""
     plain = without_comments(text, is_rust)
     found, brought, again = imports_of(plain, is_rust), set(), []
-    for it in found:
-        if (it.name, it.module, it.scope) in brought:
-            again.append(it)
-        brought.add((it.name, it.module, it.scope))
-    return sorted({*again, *without_use(plain, found, is_rust)}, key=lambda it: it.start)
+    for own in found:
+        if (own.name, own.module, own.scope) in brought:
+            again.append(own)
+        brought.add((own.name, own.module, own.scope))
+    return sorted({*again, *without_use(plain, found, is_rust)}, key=lambda own: own.start)
 
 
 def without_use(plain, found, is_rust):
@@ -148,22 +148,22 @@ def without_use(plain, found, is_rust):
         )
 
     left = []
-    for it in found:
+    for own in found:
         inner = [
             one.scope
             for one in found
-            if one.name == it.name and it.scope[0] < one.scope[0] and one.scope[1] <= it.scope[1]
+            if one.name == own.name and own.scope[0] < one.scope[0] and one.scope[1] <= own.scope[1]
         ]
-        if not is_in(it.name, words_in(it.scope, inner)):
-            left.append(it)
+        if not is_in(own.name, words_in(own.scope, inner)):
+            left.append(own)
     return left
 
 
 def fixed(text, gone):
     """The text without some of its imports."""
     by_statement = {}
-    for it in gone:
-        by_statement.setdefault(it.statement, []).append(it)
+    for own in gone:
+        by_statement.setdefault(own.statement, []).append(own)
     for span, names in sorted(by_statement.items(), reverse=True):
         statement = text[span[0] : span[1]]
         kept = None
@@ -173,8 +173,8 @@ def fixed(text, gone):
             ).groups()
             begin, gone_at = span[0] + len(head), {it.start for it in names}
             parts = [
-                (begin + it.start() + len(it[0]) - len(it[0].lstrip()), it[0].strip())
-                for it in re.finditer(r"[^,]+", inside)
+                (begin + match.start() + len(match[0]) - len(match[0].lstrip()), match[0].strip())
+                for match in re.finditer(r"[^,]+", inside)
             ]
             left = [part for at, part in parts if part and at not in gone_at]
             kept = head + ", ".join(left) + behind if left else None
@@ -213,8 +213,8 @@ def main(words):
             text = file.read()
         gone = unused(text, path.endswith(".rt"))
         count += len(gone)
-        for it in gone:
-            print(f"{os.path.relpath(path)}:{text.count(chr(10), 0, it.start) + 1}: {it.name}")
+        for own in gone:
+            print(f"{os.path.relpath(path)}:{text.count(chr(10), 0, own.start) + 1}: {own.name}")
         if gone and fix:
             with open(path, "w", encoding="utf-8") as file:
                 file.write(fixed(text, gone))

@@ -69,12 +69,12 @@ class Case(NamedTuple):
 def count_of(accesses, base, size, start):
     """The writes after the start that found another hart holding the line."""
     holders, count = set(), 0
-    for position, it in enumerate(accesses):
-        if base <= it.addr < base + size:
-            if it.writes:
-                count += position > start and bool(holders - {it.hart})
+    for position, access in enumerate(accesses):
+        if base <= access.addr < base + size:
+            if access.writes:
+                count += position > start and bool(holders - {access.hart})
                 holders = set()
-            holders.add(it.hart)
+            holders.add(access.hart)
     return count
 
 
@@ -89,12 +89,12 @@ class Word:
 def words_of(accesses, base, size, start):
     """The words of a range with an access from the start on, by address."""
     words = {}
-    for it in accesses[start:]:
-        if base <= it.addr < base + size:
-            word = words.setdefault(it.addr // 4 * 4, Word())
-            word.reads += not it.writes
-            word.writes += it.writes
-            word.harts.add(it.hart)
+    for touch in accesses[start:]:
+        if base <= touch.addr < base + size:
+            word = words.setdefault(touch.addr // 4 * 4, Word())
+            word.reads += not touch.writes
+            word.writes += touch.writes
+            word.harts.add(touch.hart)
     return dict(sorted(words.items()))
 
 
@@ -135,9 +135,9 @@ def openings(accesses, line, size, starts, writes, prediction):
 def tracked(case, size, offset):
     """The observed lines, and the predicted ones that have a start."""
     writes = {}
-    for position, it in enumerate(case.accesses):
-        if it.writes:
-            writes.setdefault((it.addr - offset) // size * size + offset, []).append(position)
+    for position, access in enumerate(case.accesses):
+        if access.writes:
+            writes.setdefault((access.addr - offset) // size * size + offset, []).append(position)
     starts = {
         base: own[case.tracking - 1] for base, own in writes.items() if len(own) >= case.tracking
     }
@@ -147,8 +147,8 @@ def tracked(case, size, offset):
             for kind, base, wide, opening in openings(
                 case.accesses, line, size, starts, writes, case.prediction
             ):
-                for position, it in enumerate(case.accesses):
-                    if position > opening and it.writes and base <= it.addr < base + wide:
+                for position, access in enumerate(case.accesses):
+                    if position > opening and access.writes and base <= access.addr < base + wide:
                         found.append(Line(kind, base, wide, position))
                         break
     return found
@@ -168,15 +168,15 @@ def printed(name):
 def table_of(records):
     """The symbols, without those whose kind, address and size an earlier one has, and the blocks, each with its life."""
     symbols, blocks, live = {}, [], {}
-    for position, it in records:
-        if isinstance(it, Symbol):
-            symbols.setdefault(it[:3], it)
+    for position, record in records:
+        if isinstance(record, Symbol):
+            symbols.setdefault(record[:3], record)
             continue
-        if it.addr in live:
-            live.pop(it.addr)[2] = position
-        if isinstance(it, Alloc):
-            live[it.addr] = [it, position, None]
-            blocks.append(live[it.addr])
+        if record.addr in live:
+            live.pop(record.addr)[2] = position
+        if isinstance(record, Alloc):
+            live[record.addr] = [record, position, None]
+            blocks.append(live[record.addr])
     return list(symbols.values()), blocks
 
 
@@ -192,14 +192,22 @@ def site_names(symbols):
 
 def objects_on(line, symbols, blocks, end, name_of):
     """The objects that stand on a line, as a report lists them."""
-    for it in symbols:
-        if it.kind == OBJECT and it.addr < line.base + line.size and line.base < it.addr + it.size:
-            yield f"object symbol {printed(it.name)} {address(it.addr)} {it.size}"
-    for it, born, died in blocks:
-        meets = it.size > 0 and it.addr < line.base + line.size and line.base < it.addr + it.size
+    for entry in symbols:
+        if (
+            entry.kind == OBJECT
+            and entry.addr < line.base + line.size
+            and line.base < entry.addr + entry.size
+        ):
+            yield f"object symbol {printed(entry.name)} {address(entry.addr)} {entry.size}"
+    for owner, born, died in blocks:
+        meets = (
+            owner.size > 0
+            and owner.addr < line.base + line.size
+            and line.base < owner.addr + owner.size
+        )
         if meets and max(born, line.start) < (end if died is None else min(died, end)):
-            yield f"object block {address(it.addr)} {it.size} born {born} {'live' if died is None else f'died {died}'}"
-            yield from (f"site {address(site)} {name_of(site)}" for site in it.sites if site)
+            yield f"object block {address(owner.addr)} {owner.size} born {born} {'live' if died is None else f'died {died}'}"
+            yield from (f"site {address(site)} {name_of(site)}" for site in owner.sites if site)
 
 
 def verdict_of(words):
@@ -221,10 +229,10 @@ def report_of(case):
     yield f"lines {len(rows)}"
     symbols, blocks = table_of(case.records)
     name_of = site_names(symbols)
-    for count, it in rows:
-        words = words_of(case.accesses, *it[1:])
-        yield f"line {KINDS[it.kind]} {address(it.base)} {it.size} start {it.start} count {count} verdict {verdict_of(words)}"
-        yield from objects_on(it, symbols, blocks, len(case.accesses), name_of)
+    for count, row in rows:
+        words = words_of(case.accesses, *row[1:])
+        yield f"line {KINDS[row.kind]} {address(row.base)} {row.size} start {row.start} count {count} verdict {verdict_of(words)}"
+        yield from objects_on(row, symbols, blocks, len(case.accesses), name_of)
         for at, word in words.items():
             owner = "many" if len(word.harts) > 1 else f"hart {min(word.harts)}"
             yield f"word {address(at)} reads {word.reads} writes {word.writes} {owner}"
@@ -244,8 +252,10 @@ def trace_of(case):
     for position in range(len(case.accesses) + 1):
         while left and left[0][0] == position:
             parts.append(spelled(left.pop(0)[1]))
-        for it in case.accesses[position : position + 1]:
-            parts.append(struct.pack("<BHIB", 1 + it.writes, it.hart, it.addr, it.size))
+        for access in case.accesses[position : position + 1]:
+            parts.append(
+                struct.pack("<BHIB", 1 + access.writes, access.hart, access.addr, access.size)
+            )
     parts.append(
         struct.pack("<BBBHIQQ", 6, *case.ending.fields, case.ending.steps, len(case.accesses))
     )

@@ -199,14 +199,14 @@ def judge_changes(name, program, trace, words):
     tried = wrong = 0
     with tempfile.TemporaryDirectory() as work:
         changed = os.path.join(work, "state")
-        for it in variants(state):
+        for variant in variants(state):
             with open(changed, "wb") as out:
-                out.write(it)
+                out.write(variant)
             tried += 1
             status, text = said(program, trace, words, changed)
-            if not is_right(own, it, status, text, good):
+            if not is_right(own, variant, status, text, good):
                 wrong += 1
-                print(f"variant {tried}: {judged(it)}: {status} {text[:60]!r}")
+                print(f"variant {tried}: {judged(variant)}: {status} {text[:60]!r}")
     return tried, wrong
 
 

@@ -40,7 +40,9 @@ def is_recounted(case, trace, report):
     """Whether the observed lines of a report are those of a recount."""
     size, shift = case.layout or (case.native, 0)
     found = [
-        it.partition(" verdict")[0] for it in report.split("\n") if it.startswith("line observed ")
+        row.partition(" verdict")[0]
+        for row in report.split("\n")
+        if row.startswith("line observed ")
     ]
     counted = recount(trace, size, shift, case.tracking, case.report)
     return found == [
@@ -198,8 +200,8 @@ def main(program, count=200, seed=1):
                     [f"{differs} of {tried} changed states are judged otherwise"] if differs else []
                 )
             wrong += bool(faults)
-            for it in faults:
-                print(f"trace {number} of seed {seed}: {it}")
+            for fault in faults:
+                print(f"trace {number} of seed {seed}: {fault}")
     print(f"{count} traces and the changes of {changed} states tried, {wrong} traces wrong")
     return wrong > 0
 

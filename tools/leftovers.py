@@ -61,16 +61,16 @@ class Source:
         for span in {it.statement for it in found}:
             self.rest = imports.blanked(self.rest, *span)
         self.imported = {}
-        for it in found:
-            statement = self.plain[slice(*it.statement)]
-            module = it.module.rstrip(".")
-            whole = self.plain[it.start : it.end]
+        for own in found:
+            statement = self.plain[slice(*own.statement)]
+            module = own.module.rstrip(".")
+            whole = self.plain[own.start : own.end]
             real = (
                 re.split(r"\s+as\s+", whole)[0].strip()
-                if "{" in statement and it.start != it.statement[0]
+                if "{" in statement and own.start != own.statement[0]
                 else None
             )
-            self.imported.setdefault(module, {})[it.name] = real
+            self.imported.setdefault(module, {})[own.name] = real
         parts = os.path.relpath(path, f"{TOP}/crates")[: -len(".antt")].split(os.sep)
         self.module = ".".join(["Rattle", *parts])
 
@@ -116,9 +116,9 @@ def is_in_module(lines, number, depth):
 
 def dead_items(sources, chosen):
     by_module = {}
-    for it in sources:
-        for module, names in it.imported.items():
-            by_module.setdefault(module, []).append((it, names))
+    for file in sources:
+        for module, names in file.imported.items():
+            by_module.setdefault(module, []).append((file, names))
     for source in chosen:
         folder = os.path.relpath(source.path, f"{TOP}/crates").split(os.sep)
         if source.is_rust or folder[-1] in ANSWERS or folder[-1].startswith("Worked"):
@@ -156,12 +156,12 @@ def stem(word):
 
 def words_in(text):
     return {
-        stem(it)
-        for it in re.findall(
+        stem(word)
+        for word in re.findall(
             r"[A-Za-z']+",
             re.sub(r"([a-z])([A-Z])", r"\1 \2", text.replace("_", " ").replace("-", " ")),
         )
-        if it.lower() not in PLAIN
+        if word.lower() not in PLAIN
     }
 
 
@@ -197,23 +197,23 @@ def main(words):
         return 0
     sources = [Source(it) for it in imports.files_below([os.path.join(TOP, "crates")])]
     chosen = [
-        it
-        for it in sources
-        if not words or os.path.relpath(it.path, f"{TOP}/crates").split(os.sep)[0] in words
+        source
+        for source in sources
+        if not words or os.path.relpath(source.path, f"{TOP}/crates").split(os.sep)[0] in words
     ]
     found = list(dead_items(sources, chosen))
-    for it in chosen:
-        lines = it.text.split("\n")
+    for source in chosen:
+        lines = source.text.split("\n")
         found += [
-            f"{it.path}:{n + 1}: long line: {len(line)} columns"
+            f"{source.path}:{n + 1}: long line: {len(line)} columns"
             for n, line in enumerate(lines)
             if len(line) > WIDTH
         ]
         if len(lines) - 1 > LENGTH:
-            found.append(f"{it.path}:1: long file: {len(lines) - 1} lines")
-        found += comments_of_names(it)
-    for it in found:
-        print(os.path.relpath(it))
+            found.append(f"{source.path}:1: long file: {len(lines) - 1} lines")
+        found += comments_of_names(source)
+    for row in found:
+        print(os.path.relpath(row))
     return 1 if found else 0
 
 

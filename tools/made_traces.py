@@ -88,78 +88,78 @@ def rest_of(made: Made) -> bytes:
 
 def symbols_apart(n: int) -> Made:
     """Each on a line of its own."""
-    it = Trace()
+    trace = Trace()
     for i in range(n):
-        it.symbol(OBJECT, LINES + LINE * i, 8, b"symbol%d" % i)
+        trace.symbol(OBJECT, LINES + LINE * i, 8, b"symbol%d" % i)
     for i in range(n):
-        it.share(LINES + LINE * i)
-    return it.made(n, objects=n, object=f"symbol{n - 1}")
+        trace.share(LINES + LINE * i)
+    return trace.made(n, objects=n, object=f"symbol{n - 1}")
 
 
 def symbols_shuffled(n: int) -> Made:
     """The same, neither told nor used in the order of their addresses; each reaches over three lines."""
-    it = Trace()
+    trace = Trace()
     for i in shuffled(n):
-        it.symbol(OBJECT, LINES + LINE * i, 3 * LINE, b"symbol%d" % i)
+        trace.symbol(OBJECT, LINES + LINE * i, 3 * LINE, b"symbol%d" % i)
     for i in shuffled(n):
-        it.share(LINES + LINE * (i + 2))
-    return it.made(n, objects=3 * n - 3, object="symbol0")
+        trace.share(LINES + LINE * (i + 2))
+    return trace.made(n, objects=3 * n - 3, object="symbol0")
 
 
 def symbols_nested(n: int) -> Made:
     """A tree of them, as structures in structures: each but those of one line holds two others."""
-    it = Trace()
+    trace = Trace()
     objects, length = 0, n // 2
     while length > 0:
         for i in range(0, n // 2, length):
-            it.symbol(OBJECT, LINES + LINE * i, LINE * length, b"node%d.%d" % (i, length))
+            trace.symbol(OBJECT, LINES + LINE * i, LINE * length, b"node%d.%d" % (i, length))
             objects += length
         length //= 2
     for i in range(n // 2):
-        it.share(LINES + LINE * i)
-    return it.made(n // 2, objects=objects, object="node0.1")
+        trace.share(LINES + LINE * i)
+    return trace.made(n // 2, objects=objects, object="node0.1")
 
 
 def symbols_under_one(n: int) -> Made:
     """One lies over all the others."""
-    it = Trace()
-    it.symbol(OBJECT, LINES, LINE * n + 4, b"all")
+    trace = Trace()
+    trace.symbol(OBJECT, LINES, LINE * n + 4, b"all")
     for i in range(n):
-        it.symbol(OBJECT, LINES + LINE * i, 8, b"part%d" % i)
+        trace.symbol(OBJECT, LINES + LINE * i, 8, b"part%d" % i)
     for i in range(n):
-        it.share(LINES + LINE * i)
-    return it.made(n, objects=2 * n, object="all")
+        trace.share(LINES + LINE * i)
+    return trace.made(n, objects=2 * n, object="all")
 
 
 def symbols_equal(n: int) -> Made:
     """Told four times each, and those of every eighth line begin at one place."""
-    it = Trace()
+    trace = Trace()
     for i in range(4 * n):
         place = i % n
-        it.symbol(OBJECT, LINES + LINE * (place // 8), 8 + place % 8, b"symbol%d" % i)
+        trace.symbol(OBJECT, LINES + LINE * (place // 8), 8 + place % 8, b"symbol%d" % i)
     for i in range(n):
-        it.share(LINES + LINE * i)
-    return it.made(n, objects=n, object="symbol0")
+        trace.share(LINES + LINE * i)
+    return trace.made(n, objects=n, object="symbol0")
 
 
 def symbols_at_one_place(n: int) -> Made:
     """All of them begin at one line, which is listed, and so are as many lines where none is."""
-    it = Trace()
+    trace = Trace()
     for i in range(n):
-        it.symbol(OBJECT, LINES, 8 + 4 * i, b"symbol%d" % i)
-    it.share(LINES)
+        trace.symbol(OBJECT, LINES, 8 + 4 * i, b"symbol%d" % i)
+    trace.share(LINES)
     for i in range(n):
-        it.share(ELSEWHERE + LINE * i)
-    return it.made(n + 1, objects=n, object=f"symbol{n - 1}")
+        trace.share(ELSEWHERE + LINE * i)
+    return trace.made(n + 1, objects=n, object=f"symbol{n - 1}")
 
 
 def names_long(n: int) -> Made:
     """Symbols apart, with names of 1024 bytes that aren't printed as they are."""
-    it = Trace()
+    trace = Trace()
     for i in range(n):
-        it.symbol(OBJECT, LINES + LINE * i, 8, b"%06d" % i + b"\xff" * 1018)
-        it.share(LINES + LINE * i)
-    return it.made(n, objects=n)
+        trace.symbol(OBJECT, LINES + LINE * i, 8, b"%06d" % i + b"\xff" * 1018)
+        trace.share(LINES + LINE * i)
+    return trace.made(n, objects=n)
 
 
 # ---- Functions and call sites.
@@ -167,27 +167,27 @@ def names_long(n: int) -> Made:
 
 def functions(n: int) -> Made:
     """Blocks on lines of their own, each with four sites in four functions."""
-    it = Trace()
+    trace = Trace()
     for i in range(n):
-        it.symbol(FUNCTION, CODE + 16 * i, 16, b"function%d" % i)
+        trace.symbol(FUNCTION, CODE + 16 * i, 16, b"function%d" % i)
     for i in range(n):
         sites = tuple(CODE + 16 * ((i + k * n // 4) % n) + 8 for k in range(4))
-        it.alloc(LINES + LINE * i, 48, sites)
+        trace.alloc(LINES + LINE * i, 48, sites)
     for i in range(n):
-        it.share(LINES + LINE * i)
-    return it.made(n, objects=n, sites=4 * n, object=f"0x{LINES:x}")
+        trace.share(LINES + LINE * i)
+    return trace.made(n, objects=n, sites=4 * n, object=f"0x{LINES:x}")
 
 
 def functions_nested(n: int) -> Made:
     """The same with one function around all of them, which comes last, and sites that no function holds."""
-    it = Trace()
+    trace = Trace()
     for i in range(n):
-        it.symbol(FUNCTION, CODE + 16 * i, 8, b"function%d" % i)
-    it.symbol(FUNCTION, CODE, 16 * n + 8, b"all")
+        trace.symbol(FUNCTION, CODE + 16 * i, 8, b"function%d" % i)
+    trace.symbol(FUNCTION, CODE, 16 * n + 8, b"all")
     for i in shuffled(n):
-        it.alloc(LINES + LINE * i, 48, (CODE + 16 * i, CODE + 16 * i + 8, CODE + 16 * n + 8, 1))
-        it.share(LINES + LINE * i)
-    return it.made(n, objects=n, sites=4 * n, object=f"0x{LINES:x}")
+        trace.alloc(LINES + LINE * i, 48, (CODE + 16 * i, CODE + 16 * i + 8, CODE + 16 * n + 8, 1))
+        trace.share(LINES + LINE * i)
+    return trace.made(n, objects=n, sites=4 * n, object=f"0x{LINES:x}")
 
 
 # ---- Blocks.
@@ -209,61 +209,61 @@ def blocks_shuffled(n: int) -> Made:
 
 
 def blocks_freed(n: int, order: list[int]) -> Made:
-    it = Trace()
+    trace = Trace()
     for i in range(n):
-        it.alloc(LINES + LINE * i, 48)
-        it.share(LINES + LINE * i)
+        trace.alloc(LINES + LINE * i, 48)
+        trace.share(LINES + LINE * i)
     for i in order:
-        it.free(LINES + LINE * i)
-    return it.made(n, objects=n, object=f"0x{LINES:x}")
+        trace.free(LINES + LINE * i)
+    return trace.made(n, objects=n, object=f"0x{LINES:x}")
 
 
 def blocks_wide(n: int) -> Made:
     """Each reaches over eight lines, on which seven others live."""
-    it = Trace()
+    trace = Trace()
     for i in range(n):
-        it.alloc(LINES + LINE * i, 8 * LINE)
+        trace.alloc(LINES + LINE * i, 8 * LINE)
     for i in range(n):
-        it.share(LINES + LINE * i)
+        trace.share(LINES + LINE * i)
     for i in shuffled(n):
-        it.free(LINES + LINE * i)
+        trace.free(LINES + LINE * i)
     objects = sum(min(i + 1, 8) for i in range(n))
-    return it.made(n, objects=objects, object=f"0x{LINES:x}")
+    return trace.made(n, objects=objects, object=f"0x{LINES:x}")
 
 
 def blocks_under_one(n: int) -> Made:
     """One lives as long as all the others, and lies over them."""
-    it = Trace()
-    it.alloc(LINES - LINE, LINE * (n + 2))
+    trace = Trace()
+    trace.alloc(LINES - LINE, LINE * (n + 2))
     for i in range(n):
-        it.alloc(LINES + LINE * i, 48)
-        it.share(LINES + LINE * i)
-        it.free(LINES + LINE * i)
-    it.free(LINES - LINE)
-    return it.made(n, objects=2 * n, object=f"0x{LINES - LINE:x}")
+        trace.alloc(LINES + LINE * i, 48)
+        trace.share(LINES + LINE * i)
+        trace.free(LINES + LINE * i)
+    trace.free(LINES - LINE)
+    return trace.made(n, objects=2 * n, object=f"0x{LINES - LINE:x}")
 
 
 def blocks_at_one_place(n: int) -> Made:
     """Many lives at one address, and as many lines elsewhere."""
-    it = Trace()
+    trace = Trace()
     for i in range(n):
-        it.alloc(LINES, 48)
-        it.share(LINES)
-        it.free(LINES)
-        it.share(ELSEWHERE + LINE * i)
-    return it.made(n + 1, objects=n)
+        trace.alloc(LINES, 48)
+        trace.share(LINES)
+        trace.free(LINES)
+        trace.share(ELSEWHERE + LINE * i)
+    return trace.made(n + 1, objects=n)
 
 
 def blocks_before(n: int) -> Made:
     """Each lies over all lines, and is dead before they are used."""
-    it = Trace()
+    trace = Trace()
     for _ in range(n):
-        it.alloc(LINES, LINE * n)
-        it.touch(0, ELSEWHERE)
-        it.free(LINES)
+        trace.alloc(LINES, LINE * n)
+        trace.touch(0, ELSEWHERE)
+        trace.free(LINES)
     for i in range(n):
-        it.share(LINES + LINE * i)
-    return it.made(n)
+        trace.share(LINES + LINE * i)
+    return trace.made(n)
 
 
 # ---- Lines and accesses.
@@ -271,11 +271,11 @@ def blocks_before(n: int) -> Made:
 
 def lines(n: int) -> Made:
     """Next to each other, in any order, and taken twice to eight times."""
-    it = Trace()
+    trace = Trace()
     for i in shuffled(n):
         for _ in range(1 + i % 4):
-            it.share(LINES + LINE * i)
-    return it.made(n)
+            trace.share(LINES + LINE * i)
+    return trace.made(n)
 
 
 def lines_turned(n: int) -> Made:
@@ -285,62 +285,62 @@ def lines_turned(n: int) -> Made:
 
 def lines_apart(n: int) -> Made:
     """Each on 64 KiB of its own."""
-    it = Trace()
+    trace = Trace()
     for i in range(n):
-        it.share(LINES + (i << 16))
-    return it.made(n)
+        trace.share(LINES + (i << 16))
+    return trace.made(n)
 
 
 def borders(n: int) -> Made:
     """The words at each border are used by two harts, each line by one: a shifted line is predicted at each border, and a doubled one of
     each two lines."""
-    it = Trace()
+    trace = Trace()
     for i in range(n):
         for _ in range(4):
-            it.touch(i % 2, LINES + LINE * i)
-            it.touch(i % 2, LINES + LINE * i + 60)
+            trace.touch(i % 2, LINES + LINE * i)
+            trace.touch(i % 2, LINES + LINE * i + 60)
     for i in range(n):
         for _ in range(2):
-            it.touch(i % 2, LINES + LINE * i)
-            it.touch(i % 2, LINES + LINE * i + 60)
-            it.touch((i + 1) % 2, LINES + LINE * (i + 1))
-    return it.made(n + n // 2, settings="prediction=1")
+            trace.touch(i % 2, LINES + LINE * i)
+            trace.touch(i % 2, LINES + LINE * i + 60)
+            trace.touch((i + 1) % 2, LINES + LINE * (i + 1))
+    return trace.made(n + n // 2, settings="prediction=1")
 
 
 def harts(n: int) -> Made:
     """256 harts on one line, which read and write it."""
-    it = Trace(256)
+    trace = Trace(256)
     for i in range(n):
         hart = i * 89 % 256
-        it.touch(hart, LINES + 4 * (i % 16), i % 64 == 0)
-    return it.made(1)
+        trace.touch(hart, LINES + 4 * (i % 16), i % 64 == 0)
+    return trace.made(1)
 
 
 def large_object(n: int) -> Made:
     """A block of so many words, each of which one of 256 harts uses, and many use some."""
-    it = Trace(256)
-    it.alloc(LINES, 4 * n)
+    trace = Trace(256)
+    trace.alloc(LINES, 4 * n)
     for i in range(n):
-        it.touch(i * 89 % 256, LINES + 4 * i)
+        trace.touch(i * 89 % 256, LINES + 4 * i)
         if i % 16 == 0:
-            it.touch((i + 1) % 256, LINES + 4 * i)
-    return it.made(n // 16, objects=n // 16, object=f"0x{LINES:x}")
+            trace.touch((i + 1) % 256, LINES + 4 * i)
+    return trace.made(n // 16, objects=n // 16, object=f"0x{LINES:x}")
 
 
 def instructions(n: int) -> Made:
     """Two harts take a line from each other by so many pairs of instructions."""
-    it = Trace()
+    trace = Trace()
     for i in range(n):
-        it.touch(i % 2, LINES + 4 * (i % 2))
-    return it.made(1)._replace(pcs=n // 2)
+        trace.touch(i % 2, LINES + 4 * (i % 2))
+    return trace.made(1)._replace(pcs=n // 2)
 
 
 def instructions_of_lines(n: int) -> Made:
     """So many lines with a few pairs each, all of them different."""
-    it = Trace()
+    trace = Trace()
     for i in shuffled(n):
-        it.share(LINES + LINE * i)
-    return it.made(n)._replace(pcs=3 * n)
+        trace.share(LINES + LINE * i)
+    return trace.made(n)._replace(pcs=3 * n)
 
 
 class TraceCase(NamedTuple):

@@ -42,7 +42,7 @@ CALLED = {"N": "count", "K": "at", "A": "first", "B": "second"}
 WANTED = {"sweep": ["--size", "64"], "caches": ["--size", "64", "--sets", "4", "--ways", "2"]}
 HIDDEN = "\x7f\x1b[2J\x9b\x85"
 SHOWN = r"\x7f\x1b[2J\x9b\x85"
-LINES = "a line is a key and a whole number, as `quantum = 1`"
+LINES = "write a key and a whole number on each line, like `quantum = 1`"
 
 
 class Try(NamedTuple):
@@ -80,10 +80,10 @@ def usage(words: list[str], said: str) -> Try:
 def range_of(row: Row) -> str:
     """What is said of a key that is out of its range."""
     if "only" in row:
-        return f"`{row['key']}` is {commands.values(row)}"
+        return f"`{row['key']}` must be {commands.values(row)}"
     least = f"`{row['least']}`" if isinstance(row["least"], str) else row["least"]
     kind = f"a multiple of {row['step']}" if "step" in row else "a whole number"
-    return f"`{row['key']}` is {kind} from {least} to {number(row['greatest'])}"
+    return f"`{row['key']}` must be {kind} from {least} to {number(row['greatest'])}"
 
 
 def settings_file(key: str, value: int) -> str:
@@ -165,37 +165,37 @@ def settings() -> Iterator[Try]:
     yield from of_both(next(it for it in TABLE["setting"] if it["key"] == "prediction"))
     for name in (it for it, options in SPACE.items() if "--settings" in options):
         for file, printed, said in (
-            ("harts.0", "OutOfRange harts", "`harts` is a whole number from 1 to 256"),
-            ("twice", "BadToml", f"line 3: duplicate key; {LINES}"),
-            ("no_toml", "BadToml", f"line 2: key with no value, expected `=`; {LINES}"),
-            ("long", "TooLong", "a settings file has at most 64 KiB"),
-            ("unknown", "UnknownKey quantom", f"`quantom` isn't a key: the keys are {keys}"),
+            ("harts.0", "OutOfRange harts", "`harts` must be a whole number from 1 to 256"),
+            ("twice", "BadToml", f"line 3: duplicate key: {LINES}"),
+            ("no_toml", "BadToml", f"line 2: key with no value, expected `=`: {LINES}"),
+            ("long", "TooLong", "the settings file is larger than 64 KiB: shorten it"),
+            ("unknown", "UnknownKey quantom", f"`quantom` is not a key: the keys are {keys}"),
             (
                 "odd",
                 r"UnknownKey h\x7f\xc2\x9b",
-                rf"`h\x7f\xc2\x9b` isn't a key: the keys are {keys}",
+                rf"`h\x7f\xc2\x9b` is not a key: the keys are {keys}",
             ),
         ):
             yield Try(
                 [*call(name), "--settings", file], 4, f"settings {printed}", f"{file}: {said}"
             )
         for part, why in (
-            ("quantum", "is no KEY=N"),
-            ("turns=1", "names no key of the settings"),
-            ("", "is no KEY=N"),
+            ("quantum", "is not KEY=N"),
+            ("turns=1", "names an unknown key"),
+            ("", "is not KEY=N"),
             (
                 "quantum=01",
-                "gives no whole number below 2^64, in decimal digits without leading zeros",
+                "needs a whole number below 2^64, in decimal digits without leading zeros",
             ),
             (
                 "quantum=18446744073709551616",
-                "gives no whole number below 2^64, in decimal digits without leading zeros",
+                "needs a whole number below 2^64, in decimal digits without leading zeros",
             ),
         ):
             yield usage([*call(name), f"--set={part}"], f"'{part}' in --set {why}")
         yield usage(
             [*call(name), "--set", "line=64,line=64"],
-            "'line=64' in --set names a key that stands before it",
+            "'line=64' in --set repeats a key",
         )
 
 
@@ -222,33 +222,37 @@ def power(word: str, name: str) -> str:
 def number_said(name: str, at: str, value: int) -> str:
     """What is said of a number of a command that is out of its range, where all others are as usual."""
     if name == "gen":
-        return f"'{value}' is no count: N is {told('N', name)}"
+        return f"'{value}' is not a count: N must be {told('N', name)}"
     if name == "split":
-        return f"'{value}' is no place: K is {told('K', name)}"
+        return f"'{value}' is not a position: K must be {told('K', name)}"
     if name == "explain":
         words = " ".join(str(value) if it == at else USUAL[it] for it in ("BASE", "SIZE", "START"))
         return (
-            f"'{words}' is no line and start: BASE is a multiple of {numbers_of('BASE', name)['step']} below {power('BASE', name)}, "
+            f"'{words}' is not a line and a start: "
+            f"BASE must be a multiple of {numbers_of('BASE', name)['step']} below {power('BASE', name)}, "
             f"SIZE {told('SIZE', name)}, START a number below {power('START', name)}"
         )
     if name == "sweep":
-        return f"'--size {value}' is no size to sweep: it is {told('--size', name)}"
+        return f"'--size {value}' is not a size that sweep takes: it must be {told('--size', name)}"
     if name == "place":
-        return f"'--size {value}' is no size of a line: it is {told('--size', name)}"
+        return f"'--size {value}' is not a line size: it must be {told('--size', name)}"
     if name == "caches":
         given = dict(zip(WANTED[name][::2], WANTED[name][1::2])) | {at: str(value)}
-        return f"'{' '.join(f'{it} {word}' for it, word in given.items())}' is no shape of caches: {shapes()}"
+        return f"'{' '.join(f'{it} {word}' for it, word in given.items())}' is not a cache shape: {shapes()}"
     size, shift = (value, 0) if at == "--size" else (64, value)
-    return f"'--size {size} --shift {shift}' is no layout: {layouts(name)}"
+    return f"'--size {size} --shift {shift}' is not a layout: {layouts(name)}"
 
 
 def shapes() -> str:
     sets = told("--sets", "caches").removeprefix("a power of two ")
-    return f"--size is {told('--size', 'caches')}, --sets one {sets}, --ways {told('--ways', 'caches')}, and sets times ways at most 4096"
+    return (
+        f"--size must be {told('--size', 'caches')}, --sets one {sets}, "
+        f"--ways {told('--ways', 'caches')}, and sets times ways at most 4096"
+    )
 
 
 def layouts(name: str) -> str:
-    return f"--size is {told('--size', name)}, --shift a multiple of {numbers_of('--shift', name)['step']} below the size"
+    return f"--size must be {told('--size', name)}, --shift a multiple of {numbers_of('--shift', name)['step']} below the size"
 
 
 def beside(row: Row) -> Iterator[tuple[int, bool]]:
@@ -291,28 +295,30 @@ def numbers() -> Iterator[Try]:
         yield from of_number(row)
     yield usage(
         ["caches", "t", "--size", "64", "--sets", "128", "--ways", "33"],
-        f"'--size 64 --sets 128 --ways 33' is no shape of caches: {shapes()}",
+        f"'--size 64 --sets 128 --ways 33' is not a cache shape: {shapes()}",
     )
     yield Try(["caches", "t", "--size", "64", "--sets", "64", "--ways", "64"], None)
     for word, wrong in (("03", "has a leading zero"), ("+3", "has a sign")):
-        yield usage(["gen", word, "a"], f"'{word}' {wrong}: N is {told('N', 'gen')}")
-        yield usage(["split", "t", word, "a", "b"], f"'{word}' {wrong}: K is {told('K', 'split')}")
+        yield usage(["gen", word, "a"], f"'{word}' {wrong}: N must be {told('N', 'gen')}")
+        yield usage(
+            ["split", "t", word, "a", "b"], f"'{word}' {wrong}: K must be {told('K', 'split')}"
+        )
         yield usage(["replay", "t", "--size", word], f"'{word}' {wrong}: {layouts('replay')}")
         yield usage(
             ["caches", "t", "--size", "64", "--sets", word, "--ways", "2"],
             f"'{word}' {wrong}: {shapes()}",
         )
-    yield usage(["gen", "-3", "a"], "unexpected argument '-3' found: no number is negative")
+    yield usage(["gen", "-3", "a"], "unexpected argument '-3' found: numbers cannot be negative")
     yield usage(["replay", "t", "--shift=-4"], f"'-4' is negative: {layouts('replay')}")
-    yield usage(["sweep", "t"], f"--size is missing: it is {told('--size', 'sweep')}")
+    yield usage(["sweep", "t"], f"--size is missing: it must be {told('--size', 'sweep')}")
 
 
 # ---- Words.
 
 
 def words_of_all() -> Iterator[Try]:
-    yield usage([], "the command is missing; see predator --help")
-    yield usage([HIDDEN], f"'{SHOWN}' is no command; see predator --help")
+    yield usage([], "the command is missing: see predator --help")
+    yield usage([HIDDEN], f"'{SHOWN}' is not a command: see predator --help")
     yield Try(
         ["replay", "none" + HIDDEN],
         7,
@@ -348,7 +354,7 @@ def words_of_all() -> Iterator[Try]:
                 [name, *given, option, "4", f"{option}=4"],
                 f"the argument {called} cannot be used multiple times",
             )
-    yield usage(["run", "p", "--pcs"], "--pcs is for a trace, and --trace is missing")
+    yield usage(["run", "p", "--pcs"], "--pcs needs --trace")
     for missing in ("--size", "--sets", "--ways"):
         at = call("caches").index(missing)
         yield usage(call("caches")[:at] + call("caches")[at + 2 :], f"{missing} is missing")
@@ -361,7 +367,7 @@ def files() -> Iterator[Try]:
     """Each fault of a file once, and one for each command that reads such a file, whose name is told."""
     for words, status, printed, said in faults():
         yield Try(words, status, printed, said)
-    cut = "it ends after 10 bytes, before the trace does: write or copy it again"
+    cut = "the trace is cut off after 10 bytes: record or copy it again"
     for name, row in COMMANDS.items():
         if "TRACE" in row.get("reads", ()):
             yield Try(call(name, TRACE="short"), 5, "trace Truncated 10", f"short: {cut}")
@@ -384,13 +390,13 @@ def files() -> Iterator[Try]:
                 call(name, PROGRAM="script"),
                 2,
                 "elf TooShort",
-                "script: a script: guest/build.sh builds for RV32IMA",
+                "script: the file is a script: build it for RV32IMA with guest/build.sh",
             )
             yield Try(
                 call(name, PROGRAM="x86.elf"),
                 2,
                 "elf BadMachine",
-                "x86.elf: an ELF file for x86: guest/build.sh builds for RV32IMA",
+                "x86.elf: the file is an ELF file for x86: build it for RV32IMA with guest/build.sh",
             )
             yield Try(
                 call(name, PROGRAM="missing"), 7, "read fault", "missing: No such file or directory"
@@ -400,7 +406,7 @@ def files() -> Iterator[Try]:
                 [*call(name), "--schedule", "short"],
                 3,
                 "schedule BadLine 1",
-                "short: line 1 isn't a hart, one space and a count, as `0 500`",
+                "short: line 1 is not a hart, one space and a count: write it like `0 500`",
             )
             yield Try(
                 [*call(name), "--schedule", "missing"],
@@ -420,10 +426,10 @@ def files() -> Iterator[Try]:
 # ---- All of them.
 
 
-def fault_of(program: str, it: Try) -> str:
+def fault_of(program: str, attempt: Try) -> str:
     """What is wrong with a call, if anything is."""
     ran = subprocess.run(
-        [program, *it.words],
+        [program, *attempt.words],
         stdin=subprocess.DEVNULL,
         capture_output=True,
         env=os.environ | {"LC_ALL": "C"},
@@ -432,23 +438,31 @@ def fault_of(program: str, it: Try) -> str:
     printed, said = ran.stdout.decode(errors="replace"), ran.stderr.decode(errors="replace")
     if any(c != "\n" and (ord(c) < 32 or 127 <= ord(c) < 160) for c in said):
         return f"a control character comes to standard error: {said!r}"
-    if it.status is None:
+    if attempt.status is None:
         return f"it is refused: {said!r}" if ran.returncode in (1, 4) else ""
-    name = "predator: " if it.status else ""
-    text = printed if it.printed == "*" else f"{name}{it.printed}\n" if it.printed else USAGE
-    wanted = it.status, text, f"predator: {it.said}\n" if it.said else ""
+    name = "predator: " if attempt.status else ""
+    text = (
+        printed
+        if attempt.printed == "*"
+        else f"{name}{attempt.printed}\n"
+        if attempt.printed
+        else USAGE
+    )
+    wanted = attempt.status, text, f"predator: {attempt.said}\n" if attempt.said else ""
     if (ran.returncode, printed, said) == wanted:
         return ""
-    return f"it ended with {ran.returncode}, printed {printed[:80]!r}, said {said!r}; wanted are {it.status}, {text[:80]!r}, {wanted[2]!r}"
+    return f"it ended with {ran.returncode}, printed {printed[:80]!r}, said {said!r}; wanted are {attempt.status}, {text[:80]!r}, {wanted[2]!r}"
 
 
 def failures(program: str, tries: Iterable[Try]) -> Iterator[str]:
     """What is wrong with some calls."""
     all_of = list(tries)
     with ThreadPoolExecutor(len(os.sched_getaffinity(0))) as pool:
-        for it, fault in zip(all_of, pool.map(lambda it: fault_of(program, it), all_of)):
+        for attempt, fault in zip(
+            all_of, pool.map(lambda attempt: fault_of(program, attempt), all_of)
+        ):
             if fault:
-                yield f"{' '.join(it.words)[:200]!r}: {fault}"
+                yield f"{' '.join(attempt.words)[:200]!r}: {fault}"
 
 
 def widened(row: Row) -> Row:
@@ -495,8 +509,8 @@ def main(words: list[str]) -> int:
             tried["planted"] = len(TABLE["setting"]) + len(TABLE["number"])
             failed += try_planted(program)
         os.chdir("/")
-    for it in failed:
-        print(f"FAILED: {it}")
+    for fault in failed:
+        print(f"FAILED: {fault}")
     counts = ", ".join(f"{what}: {count}" for what, count in tried.items())
     print(f"{sum(tried.values()) - len(failed)} passed, {len(failed)} failed ({counts})")
     return 1 if failed else 0

@@ -27,7 +27,7 @@ def recount(trace, size=64, shift=0, tracking=16, report=100):
         held.add(hart)
     return sorted(
         ((base, starts[base], counts[base]) for base in starts if counts[base] >= report),
-        key=lambda it: (-it[2], it[0]),
+        key=lambda row: (-row[2], row[0]),
     )
 
 

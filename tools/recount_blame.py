@@ -66,19 +66,19 @@ class Line(NamedTuple):
     same: Counter
     harts: Counter
 
-    def note(self, it):
-        if it.writes:
-            if self.holders - {it.hart}:
-                victim = next(hart for hart in reversed(self.latest) if hart != it.hart)
+    def note(self, access):
+        if access.writes:
+            if self.holders - {access.hart}:
+                victim = next(hart for hart in reversed(self.latest) if hart != access.hart)
                 assert victim in self.holders, f"hart {victim} is taken from, and held nothing"
                 pc, word = self.latest[victim]
-                self.pairs[pc, it.pc] += 1
-                self.same[pc, it.pc] += word == it.addr // 4
-                self.harts[victim, it.hart] += 1
+                self.pairs[pc, access.pc] += 1
+                self.same[pc, access.pc] += word == access.addr // 4
+                self.harts[victim, access.hart] += 1
             self.holders.clear()
-        self.holders.add(it.hart)
-        self.latest.pop(it.hart, None)
-        self.latest[it.hart] = it.pc, it.addr // 4
+        self.holders.add(access.hart)
+        self.latest.pop(access.hart, None)
+        self.latest[access.hart] = access.pc, access.addr // 4
 
     def rows(self):
         """How many takings there are, and the pairs and the harts in the order of the text."""
@@ -86,7 +86,7 @@ class Line(NamedTuple):
         harts = ((*both, count) for both, count in self.harts.items())
         return (
             sum(self.pairs.values()),
-            sorted(pairs, key=lambda it: (-it[2], it[:2])),
+            sorted(pairs, key=lambda row: (-row[2], row[:2])),
             sorted(harts),
         )
 
@@ -94,15 +94,15 @@ class Line(NamedTuple):
 def takings(accesses, size=64, shift=0):
     """How many accesses there are, and each line that is taken as (base, takings, pairs, harts), in the order of the text."""
     lines, count = {}, 0
-    for it in accesses:
+    for access in accesses:
         count += 1
-        base = (it.addr - shift) // size * size + shift
+        base = (access.addr - shift) // size * size + shift
         line = lines.get(base)
         if line is None:
             line = lines[base] = Line(set(), {}, Counter(), Counter(), Counter())
-        line.note(it)
+        line.note(access)
     found = [(base, *it.rows()) for base, it in lines.items() if it.pairs]
-    return count, sorted(found, key=lambda it: (-it[1], it[0]))
+    return count, sorted(found, key=lambda row: (-row[1], row[0]))
 
 
 def told(trace, size=64, shift=0):
@@ -127,8 +127,8 @@ def told(trace, size=64, shift=0):
 
 def listed(text):
     """A worked list."""
-    for it in text.split(", ") if text else ():
-        hart, addr, pc = it.split()
+    for touch in text.split(", ") if text else ():
+        hart, addr, pc = touch.split()
         yield Access(int(hart[1:]), int(addr, 16), hart[0] == "W", int(pc, 16))
 
 

@@ -56,23 +56,23 @@ def misses(accesses, size=64, shift=0):
 def parted(trace, others):
     """The accesses of a trace, while the other records are put to the others, each behind so many accesses."""
     count = 0
-    for it in records(trace):
-        if isinstance(it, (Symbol, Alloc, Free)):
-            others.append((count, it))
+    for record in records(trace):
+        if isinstance(record, (Symbol, Alloc, Free)):
+            others.append((count, record))
         else:
             count += 1
-            yield it
+            yield record
     others.append((count, None))
 
 
 def by_lines(objects, bases, size):
     """Of each line those objects that meet it, each given with its record, in their order; the bases rise."""
     found = {base: [] for base in bases}
-    for record, it in objects:
+    for record, own in objects:
         for at in range(
             bisect_right(bases, record.addr - size), bisect_left(bases, record.addr + record.size)
         ):
-            found[bases[at]].append(it)
+            found[bases[at]].append(own)
     return found
 
 

@@ -79,14 +79,16 @@ def moved_addr(table: list[Move], addr: int) -> int | None:
     return places[0] if places else None
 
 
-def spelled(version: int, tag: int, size: int, it: Access, last: int, pcs: dict[int, int]) -> bytes:
+def spelled(
+    version: int, tag: int, size: int, touch: Access, last: int, pcs: dict[int, int]
+) -> bytes:
     """An access of a trace of a version behind one of another address, with the pcs of the harts' accesses before."""
     if version == 1:
-        return struct.pack("<BHIB", tag, it.hart, it.addr, size)
-    found = bytes((tag, it.hart)) + groups(it.addr - last)
-    if it.pc is not None:
-        found += groups(it.pc - pcs.get(it.hart, 0))
-        pcs[it.hart] = it.pc
+        return struct.pack("<BHIB", tag, touch.hart, touch.addr, size)
+    found = bytes((tag, touch.hart)) + groups(touch.addr - last)
+    if touch.pc is not None:
+        found += groups(touch.pc - pcs.get(touch.hart, 0))
+        pcs[touch.hart] = touch.pc
     return found
 
 
@@ -98,18 +100,18 @@ def move(trace: bytes, text: bytes) -> tuple[str, bytes | None]:
         return str(refused), None
     made, version, last, pcs = bytearray(trace[:20]), int(trace[6:8]), 0, dict[int, int]()
     accesses, count, end = 0, 0, 20
-    for start, end, it in placed(trace):
-        if not isinstance(it, Access):
+    for start, end, record in placed(trace):
+        if not isinstance(record, Access):
             made += trace[start:end]
             continue
         try:
-            place = moved_addr(table, it.addr)
+            place = moved_addr(table, record.addr)
         except Refused as refused:
             return str(refused), bytes(made)
         accesses, count = accesses + 1, count + (place is not None)
-        it = it if place is None else it._replace(addr=place)
-        made += spelled(version, trace[start], trace[end - 1], it, last, pcs)
-        last = it.addr
+        record = record if place is None else record._replace(addr=place)
+        made += spelled(version, trace[start], trace[end - 1], record, last, pcs)
+        last = record.addr
     return f"move {accesses} {count}", bytes(made + trace[end:])
 
 

@@ -39,9 +39,9 @@ WORKED = [
 
 def object_of(name, items):
     """The address and the size of the object that a name means."""
-    for it in items:
-        if isinstance(it, Symbol) and it.kind == OBJECT and it.name == name:
-            return it.addr, it.size
+    for item in items:
+        if isinstance(item, Symbol) and item.kind == OBJECT and item.name == name:
+            return item.addr, item.size
     blocks = []
     if re.fullmatch(rb"0x[0-9a-fA-F]{1,8}", name):
         blocks = [it[:2] for it in items if isinstance(it, Alloc) and it.addr == int(name, 16)]

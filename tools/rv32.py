@@ -75,9 +75,9 @@ class Code:
         self.words.append(NUMBERS["ra"] << 15 | 0x67)
 
     def call(self, name: str, *arguments: int | str) -> None:
-        for number, it in enumerate(arguments):
-            if it != f"a{number}":
-                self.set(f"a{number}", it)
+        for number, argument in enumerate(arguments):
+            if argument != f"a{number}":
+                self.set(f"a{number}", argument)
         self.set("a7", CALLS[name])
         self.words.append(0x73)
 
@@ -137,11 +137,19 @@ def elf(segments: list[Segment], symbols: list[Symbol] = [], names: bytes = b"\0
     """A program file that begins at CODE."""
     rows, content = b"", b""
     begin = 52 + 32 * len(segments)
-    for it in segments:
+    for segment in segments:
         rows += struct.pack(
-            "<8I", 1, begin + len(content), it.addr, 0, len(it.content), it.size, it.rights, 0
+            "<8I",
+            1,
+            begin + len(content),
+            segment.addr,
+            0,
+            len(segment.content),
+            segment.size,
+            segment.rights,
+            0,
         )
-        content += it.content
+        content += segment.content
     table = b"".join(
         struct.pack("<IIIBBH", it.name, it.addr, it.size, 16 + it.kind, 0, 1) for it in symbols
     )

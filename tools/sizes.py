@@ -74,8 +74,8 @@ def fight_by(name: str, count: int) -> None:
 
 def sum_of(pieces: Iterator[bytes]) -> str:
     made = hashlib.sha256()
-    for it in pieces:
-        made.update(it)
+    for piece in pieces:
+        made.update(piece)
     return made.hexdigest()
 
 
@@ -371,30 +371,30 @@ def put(name: str, content: bytes) -> None:
 # ---- All of them.
 
 
-def fault_of(program: str, it: Try) -> str:
+def fault_of(program: str, attempt: Try) -> str:
     """What is wrong with a call, if anything is."""
 
     def limit() -> None:
-        resource.setrlimit(resource.RLIMIT_AS, (it.most * MIB, it.most * MIB))
+        resource.setrlimit(resource.RLIMIT_AS, (attempt.most * MIB, attempt.most * MIB))
 
     ran = subprocess.run(
-        [program, *it.words.split()],
+        [program, *attempt.words.split()],
         stdin=subprocess.DEVNULL,
         capture_output=True,
         preexec_fn=limit,
         check=False,
     )
-    if ran.returncode != it.status or ran.stderr:
+    if ran.returncode != attempt.status or ran.stderr:
         return f"it ended with {ran.returncode}, printed {ran.stdout[:60]!r} and said {ran.stderr[-200:]!r}"
-    if isinstance(it.printed, bytes):
-        if ran.stdout != it.printed:
-            return f"it printed {ran.stdout[:400]!r}, and wanted is {it.printed[:400]!r}"
+    if isinstance(attempt.printed, bytes):
+        if ran.stdout != attempt.printed:
+            return f"it printed {ran.stdout[:400]!r}, and wanted is {attempt.printed[:400]!r}"
     else:
         rows = iter(ran.stdout.decode().splitlines())
-        for begin in it.printed:
+        for begin in attempt.printed:
             if not any(row.startswith(begin) for row in rows):
                 return f"no line begins with '{begin}' in {ran.stdout[:400]!r}"
-    wrong = [name for name, wanted in it.writes.items() if sum_of_file(name) != wanted]
+    wrong = [name for name, wanted in attempt.writes.items() if sum_of_file(name) != wanted]
     return f"{', '.join(wrong)}: other bytes" if wrong else ""
 
 
@@ -412,8 +412,8 @@ def kinds(is_long: bool) -> Iterator[list[Try]]:
     yield [*runs(), *programs(), Try(f"gen {LONG} f", (f"generated {LONG}",), 40)]
     yield [*many_lines(MANY)]
     yield [*many_lines(TRACKS)]
-    for it in large_files():
-        yield [it]
+    for attempt in large_files():
+        yield [attempt]
     fight("fight", LONGER)
     yield list(of_trace("fight", LONGER)) if is_long else list(of_trace("fight", LONGER))[:1]
 
@@ -427,11 +427,15 @@ def main(words: list[str]) -> int:
         os.chdir(folder)
         for tries in kinds("--long" in words):
             with ThreadPoolExecutor(len(os.sched_getaffinity(0))) as pool:
-                for it, fault in zip(tries, pool.map(lambda it: fault_of(program, it), tries)):
+                for attempt, fault in zip(
+                    tries, pool.map(lambda attempt: fault_of(program, attempt), tries)
+                ):
                     tried += 1
                     if fault:
                         failed += 1
-                        print(f"FAILED: {it.words}, in {it.most} MiB: {fault}", flush=True)
+                        print(
+                            f"FAILED: {attempt.words}, in {attempt.most} MiB: {fault}", flush=True
+                        )
         os.chdir("/")
     print(f"{tried - failed} passed, {failed} failed")
     return 1 if failed else 0

@@ -102,17 +102,17 @@ def groups(distance):
 def with_pcs(trace, pc_of: Callable[[Access, int], int]):
     """A trace of version 1 in version 3, with pcs that are made of each access and the pc of its hart's access before."""
     parts, place, last, pcs = [b"PRDTRC03" + trace[8:20]], 20, 0, {}
-    for start, place, it in placed(trace):
-        if isinstance(it, Access):
-            before = pcs.get(it.hart, 0)
-            pc = pc_of(it, before)
+    for start, place, record in placed(trace):
+        if isinstance(record, Access):
+            before = pcs.get(record.hart, 0)
+            pc = pc_of(record, before)
             size = trace[place - 1]
             parts.append(
-                bytes((16 * (1 + it.writes) + size, it.hart))
-                + groups(it.addr - last)
+                bytes((16 * (1 + record.writes) + size, record.hart))
+                + groups(record.addr - last)
                 + groups(pc - before)
             )
-            last, pcs[it.hart] = it.addr, pc
+            last, pcs[record.hart] = record.addr, pc
         else:
             parts.append(trace[start:place])
     return b"".join((*parts, trace[place:]))

@@ -27,8 +27,8 @@ def made_row(name: str, kind: str, useless: Sequence[int], ns: Sequence[float]) 
     """A row whose guest makes 1000 steps, with so many useless misses in both forms, and which takes so long."""
     timed = [Timed(100, it, it * 0.9, it * 1.1, 5, 5, 1, 0, 0) for it in ns]
     counts = {
-        (form, quantum): Count(1000, 500, 3, it, 2 * it, 1)
-        for form, it in zip(FORMS, useless)
+        (form, quantum): Count(1000, 500, 3, number, 2 * number, 1)
+        for form, number in zip(FORMS, useless)
         for quantum in (1, 10, 100, 1000)
     }
     return Row(Program(name, kind, "made up", ""), 2, 100, timed, counts, {})
@@ -105,8 +105,8 @@ def of_the_page(study: Study) -> Iterator[str]:
         escaped = [it in text for it in ("made up &lt;&amp;&gt;", "&lt;other&gt;", "<other>")]
         yield from wrong("escaped names", escaped, [True, True, False])
         told = [
-            f"{it.program.name}, 2 threads: slowdown {shown(it.slowdown())} (" in text
-            for it in study.rows
+            f"{row.program.name}, 2 threads: slowdown {shown(row.slowdown())} (" in text
+            for row in study.rows
         ]
         yield from wrong("what the points tell", told, [True] * 5)
         cells = re.findall(
@@ -120,8 +120,8 @@ def of_the_page(study: Study) -> Iterator[str]:
 def of_what_is_kept() -> Iterator[str]:
     """What is wrong with the kept studies, and with the documents that tell of them."""
     studies = all_kept()
-    for it in pictures_of(studies):
-        names = [one["name"] for one in it["points"]]
+    for drawn in pictures_of(studies):
+        names = [one["name"] for one in drawn["points"]]
         boxes = [
             Box(one["x"], one["y"] - 9, one["x"] + width(one["text"]), one["y"] + 2)
             for one in names
@@ -131,7 +131,9 @@ def of_what_is_kept() -> Iterator[str]:
             for at, one in enumerate(names)
             if any(boxes[at].meets(other) for other in boxes[:at])
         ]
-        yield from wrong(f"{it['threads']} threads, {it['study']}: names over others", over, [])
+        yield from wrong(
+            f"{drawn['threads']} threads, {drawn['study']}: names over others", over, []
+        )
     for name, study in studies.items():
         again = of_values(values(study))
         kept_rows = [
@@ -189,8 +191,8 @@ def check(only: Sequence[str]) -> int:
         with ThreadPoolExecutor(os.cpu_count()) as pool:
             for own in pool.map(tried, zip(built[::2], built[1::2])):
                 found += own
-    for it in found:
-        print(it)
+    for fault in found:
+        print(fault)
     told = (
         "on this machine and as guests"
         if guests

@@ -109,10 +109,10 @@ def band_name(at: int) -> str:
 def bands(rows: Sequence[Row]) -> list[list[Cell]]:
     """For each band: its cases, and the least, the middle and the greatest slowdown in it."""
     found: list[list[float]] = [[] for _ in EDGES]
-    for it in rows:
-        rate = it.rate()
+    for case in rows:
+        rate = case.rate()
         if rate is not None:
-            found[band_of(rate)].append(it.slowdown())
+            found[band_of(rate)].append(case.slowdown())
     made: list[list[Cell]] = []
     for at, own in enumerate(found):
         least: list[Cell] = [min(own), median(own), max(own)] if own else [None, None, None]

@@ -124,26 +124,26 @@ def picture(rows: Sequence[Row], along: Scale, up: Scale) -> Given:
         {
             "x": x,
             "y": y,
-            "shape": SHAPES[it.program.kind],
-            "colour": COLOURS[it.program.kind],
+            "shape": SHAPES[point.program.kind],
+            "colour": COLOURS[point.program.kind],
             "name": name,
-            "told": told_of(it),
+            "told": told_of(point),
         }
-        for (x, y), it, name in zip(places, rows, names)
+        for (x, y), point, name in zip(places, rows, names)
     ]
     ticks = [0.01, 0.03, 0.1, 0.3, 1, 3, 10, 30, 100, 300]
     steps = [0.1, 0.2, 0.3, 0.5, 0.7, 1, 1.5, 2, 3, 5, 7, 10, 15, 20, 30, 50]
     return {
         "points": points,
         "across": [
-            {"x": along.place(it), "text": f"{it:g}" if it > LEAST else f"{it:g} or less"}
-            for it in ticks
-            if it <= along.last
+            {"x": along.place(tick), "text": f"{tick:g}" if tick > LEAST else f"{tick:g} or less"}
+            for tick in ticks
+            if tick <= along.last
         ],
         "up": [
-            {"y": up.place(it), "text": f"{it:g}", "is_one": it == 1}
-            for it in steps
-            if up.first <= it <= up.last
+            {"y": up.place(step), "text": f"{step:g}", "is_one": step == 1}
+            for step in steps
+            if up.first <= step <= up.last
         ],
         "edges": [along.place(it) for it in EDGES[1:] if it <= along.last],
     }
@@ -172,7 +172,7 @@ def pictures_of(studies: Mapping[str, Study]) -> list[Given]:
     """A picture for each count of threads and study, all with the same axes."""
     drawn = {
         (count, name): [
-            it for it in study.judged() if it.threads == count and it.rate() is not None
+            row for row in study.judged() if row.threads == count and row.rate() is not None
         ]
         for count in sorted({it for study in studies.values() for it in study.threads()})
         for name, study in studies.items()
@@ -189,11 +189,12 @@ def rows_of(studies: Mapping[str, Study]) -> list[Given]:
     """All pairs, with what each study has of them, the greatest slowdown first."""
     found: dict[tuple[int, str], dict[str, Row]] = {}
     for name, study in studies.items():
-        for it in study.rows:
-            found.setdefault((it.threads, it.program.name), {})[name] = it
+        for pair_row in study.rows:
+            found.setdefault((pair_row.threads, pair_row.program.name), {})[name] = pair_row
     made: list[Given] = []
     for (threads, _), own in sorted(
-        found.items(), key=lambda it: (-max(row.slowdown() for row in it[1].values()), it[0])
+        found.items(),
+        key=lambda entry: (-max(row.slowdown() for row in entry[1].values()), entry[0]),
     ):
         program = next(iter(own.values())).program
         cells = []

@@ -58,7 +58,7 @@ def programs(only: Sequence[str] = ()) -> list[Program]:
     missing = set(only) - {it.name for it in found}
     if missing:
         raise Trouble(f"there is no {', '.join(sorted(missing))} in {PROGRAMS}")
-    return sorted(found, key=lambda it: (KINDS.index(it.kind), it.name))
+    return sorted(found, key=lambda pair: (KINDS.index(pair.kind), pair.name))
 
 
 def called(words: Sequence[str], seconds: float = 300, given: str = "") -> str:
@@ -76,15 +76,15 @@ def called(words: Sequence[str], seconds: float = 300, given: str = "") -> str:
     return done.stdout
 
 
-def build(it: Built) -> None:
+def build(target: Built) -> None:
     """Both machines' files of a form, as far as they have a name; the guests' kit is there."""
     own = [
         f"-I{HERE}",
-        f"-DTHREADS={it.threads}",
-        f"-DLINE={it.line}",
-        *(["-DPADDED"] if it.form == FORMS[1] else []),
+        f"-DTHREADS={target.threads}",
+        f"-DLINE={target.line}",
+        *(["-DPADDED"] if target.form == FORMS[1] else []),
     ]
-    if it.native:
+    if target.native:
         called(
             [
                 "gcc",
@@ -95,15 +95,15 @@ def build(it: Built) -> None:
                 "-Wall",
                 "-Wextra",
                 *own,
-                it.program.source,
+                target.program.source,
                 "-o",
-                it.native,
+                target.native,
             ]
         )
-    if it.guest:
+    if target.guest:
         called(
-            [GUESTS, os.path.dirname(it.guest)],
-            given=" ".join([it.guest, it.program.source, *own]) + "\n",
+            [GUESTS, os.path.dirname(target.guest)],
+            given=" ".join([target.guest, target.program.source, *own]) + "\n",
         )
 
 

@@ -83,7 +83,9 @@ class Call:
                 os.sched_getaffinity(0)
             )
             self.threads = [
-                int(it) for it in given["--threads"].split(",") if int(it) <= len(self.cpus)
+                int(number)
+                for number in given["--threads"].split(",")
+                if int(number) <= len(self.cpus)
             ]
             self.runs, self.line, self.step = (
                 int(given["--runs"]),
@@ -159,19 +161,21 @@ def count_all(call: Call, built: Sequence[Built]) -> Counted:
     made: Counted = {}
     with ThreadPoolExecutor(os.cpu_count()) as pool:
         jobs = [
-            (it, quantum, pool.submit(guest_count, it, quantum))
-            for it in built
-            if it.guest
+            (form, quantum, pool.submit(guest_count, form, quantum))
+            for form in built
+            if form.guest
             for quantum in QUANTA
         ]
         records = "--no-recording" not in call.switches
         jobs += [
-            (it, RECORDED, pool.submit(recorded_count, it)) for it in built if it.guest and records
+            (form, RECORDED, pool.submit(recorded_count, form))
+            for form in built
+            if form.guest and records
         ]
-        for it, quantum, job in jobs:
+        for task, quantum, job in jobs:
             found = outcome(job)
             if found:
-                made.setdefault(key_of(it), {})[it.form, quantum] = found
+                made.setdefault(key_of(task), {})[task.form, quantum] = found
     for key, own in made.items():
         results = {it.result for it in own.values()}
         if len(results) > 1:

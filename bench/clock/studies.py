@@ -35,40 +35,50 @@ def count_of(cells: Mapping[str, str]) -> Count:
     return Count(*(number(cells.get(it, "0")) for it in Count._fields))
 
 
-def row_of(it: Mapping[str, str], texts: Mapping[str, str]) -> Row:
+def row_of(cells: Mapping[str, str], texts: Mapping[str, str]) -> Row:
     """A row of a table: of its runs the quarters of the slowdown are kept, and not those of both forms."""
-    low, high, whole = float(it["low"]), float(it["high"]), float(it[f"{FORMS[1]}: ns"])
+    low, high, whole = float(cells["low"]), float(cells["high"]), float(cells[f"{FORMS[1]}: ns"])
     timed = []
     for form, (least, most) in zip(FORMS, ((low * whole, high * whole), (whole, whole))):
         kept, runs, rounds, voluntary, involuntary = (
-            number(it[f"{form}: {what}"])
+            number(cells[f"{form}: {what}"])
             for what in ("kept", "runs", "rounds", "voluntary", "involuntary")
         )
         timed.append(
             Timed(
-                rounds, float(it[f"{form}: ns"]), least, most, kept, runs, 0, voluntary, involuntary
+                rounds,
+                float(cells[f"{form}: ns"]),
+                least,
+                most,
+                kept,
+                runs,
+                0,
+                voluntary,
+                involuntary,
             )
         )
     counts = {
         (form, quantum): count_of(
             {
-                what: it[f"{form}, quantum {quantum}: {what}"]
+                what: cells[f"{form}, quantum {quantum}: {what}"]
                 for what in ("steps", "useful", "useless", "listed")
             }
         )
         for form in FORMS
         for quantum in QUANTA
-        if it[f"{form}, quantum {quantum}: steps"]
+        if cells[f"{form}, quantum {quantum}: steps"]
     }
     recorded = {
         form: count_of(
-            {what: it[f"{form}, recorded: {what}"] for what in ("accesses", "useful", "useless")}
+            {what: cells[f"{form}, recorded: {what}"] for what in ("accesses", "useful", "useless")}
         )
         for form in FORMS
-        if it[f"{form}, recorded: accesses"]
+        if cells[f"{form}, recorded: accesses"]
     }
-    program = Program(it["program"], it["kind"], texts.get(it["program"], ""), "")
-    return Row(program, number(it["threads"]), number(it["guest rounds"]), timed, counts, recorded)
+    program = Program(cells["program"], cells["kind"], texts.get(cells["program"], ""), "")
+    return Row(
+        program, number(cells["threads"]), number(cells["guest rounds"]), timed, counts, recorded
+    )
 
 
 def of_values(text: str) -> Study:
@@ -121,8 +131,8 @@ def ranks(study: Study) -> list[tuple[str, Cell]]:
     }
     chosen |= {"false- and true-sharing misses": both, "invalidations": reported}
     return [
-        (f"rank correlation with {name}", correlated(study.judged(), it))
-        for name, it in chosen.items()
+        (f"rank correlation with {name}", correlated(study.judged(), entry))
+        for name, entry in chosen.items()
     ]
 
 
@@ -139,9 +149,9 @@ def is_handed(row: Row) -> bool:
 def of_bound(study: Study) -> list[tuple[str, Cell]]:
     """How the bound that view prints did, with the latency of the machine."""
     most = [
-        (row, it)
+        (row, bound)
         for row in study.judged()
-        if (it := row.at_most(study.latency(), study.step)) is not None
+        if (bound := row.at_most(study.latency(), study.step)) is not None
     ]
     passed = sorted({row.program.name for row, it in most if row.share() > it + 0.02})
     saved = [row.share() / it for row, it in most if it > 0.05]
@@ -187,7 +197,7 @@ def facts_beside(studies: Mapping[str, Study]) -> str:
 
 def slowdowns(study: Study, name: str) -> str:
     """The slowdowns of a program with each number of threads, those of disturbed runs in brackets."""
-    own = sorted((it for it in study.rows if it.program.name == name), key=lambda it: it.threads)
+    own = sorted((it for it in study.rows if it.program.name == name), key=lambda row: row.threads)
     return ", ".join(
         shown(it.slowdown()) if it.is_quiet() else f"({shown(it.slowdown())})" for it in own
     )
@@ -198,7 +208,7 @@ def programs_beside(studies: Mapping[str, Study], names: Sequence[str]) -> str:
     first, rows = next(iter(studies.values())), []
     for name in names:
         own = sorted(
-            (it for it in first.rows if it.program.name == name), key=lambda it: it.threads
+            (it for it in first.rows if it.program.name == name), key=lambda row: row.threads
         )
         rates = ", ".join(shown(it.rate()) for it in own)
         rows.append([f"`{name}`", rates, *[slowdowns(it, name) for it in studies.values()]])

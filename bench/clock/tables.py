@@ -36,16 +36,16 @@ def saved(study: Study) -> str:
     """The record of a study."""
     rows = [
         {
-            "program": list(it.program[:3]),
-            "threads": it.threads,
-            "guest_rounds": it.guest_rounds,
-            "timed": [own._asdict() for own in it.timed],
+            "program": list(row.program[:3]),
+            "threads": row.threads,
+            "guest_rounds": row.guest_rounds,
+            "timed": [own._asdict() for own in row.timed],
             "counts": [
-                [form, quantum, own._asdict()] for (form, quantum), own in it.counts.items()
+                [form, quantum, own._asdict()] for (form, quantum), own in row.counts.items()
             ],
-            "recorded": {form: own._asdict() for form, own in it.recorded.items()},
+            "recorded": {form: own._asdict() for form, own in row.recorded.items()},
         }
-        for it in study.rows
+        for row in study.rows
     ]
     return (
         json.dumps(
@@ -56,13 +56,18 @@ def saved(study: Study) -> str:
     )
 
 
-def row_of(it: dict[str, Any]) -> Row:
-    counts = {(form, quantum): Count(**own) for form, quantum, own in it["counts"]}
-    recorded = {form: Count(**own) for form, own in it["recorded"].items()}
-    timed = [Timed(**own) for own in it["timed"]]
-    name, kind, text = it["program"]
+def row_of(fields: dict[str, Any]) -> Row:
+    counts = {(form, quantum): Count(**own) for form, quantum, own in fields["counts"]}
+    recorded = {form: Count(**own) for form, own in fields["recorded"].items()}
+    timed = [Timed(**own) for own in fields["timed"]]
+    name, kind, text = fields["program"]
     return Row(
-        Program(name, kind, text, ""), it["threads"], it["guest_rounds"], timed, counts, recorded
+        Program(name, kind, text, ""),
+        fields["threads"],
+        fields["guest_rounds"],
+        timed,
+        counts,
+        recorded,
     )
 
 
@@ -79,28 +84,28 @@ RECORDED = 0
 Counted = dict[str, dict[tuple[str, int], Count]]
 
 
-def key_of(it: Built) -> str:
+def key_of(counted: Built) -> str:
     """What a count belongs to: a pair, its threads, and the sources."""
     made = hashlib.sha256()
-    for name in (it.program.source, os.path.join(HERE, "clock.h")):
+    for name in (counted.program.source, os.path.join(HERE, "clock.h")):
         with open(name, "rb") as file:
             made.update(file.read())
-    return f"{it.program.name} with {it.threads} threads, lines of {it.line} bytes, {made.hexdigest()[:12]}"
+    return f"{counted.program.name} with {counted.threads} threads, lines of {counted.line} bytes, {made.hexdigest()[:12]}"
 
 
 def told_counts(counted: Counted) -> str:
     rows = [
-        [key, form, quantum, it._asdict()]
+        [key, form, quantum, entry._asdict()]
         for key, own in counted.items()
-        for (form, quantum), it in own.items()
+        for (form, quantum), entry in own.items()
     ]
     return json.dumps(rows, indent=1) + "\n"
 
 
 def counts_of(text: str) -> Counted:
     made: Counted = {}
-    for key, form, quantum, it in json.loads(text):
-        made.setdefault(key, {})[form, quantum] = Count(**it)
+    for key, form, quantum, load in json.loads(text):
+        made.setdefault(key, {})[form, quantum] = Count(**load)
     return made
 
 
@@ -117,8 +122,8 @@ def table(heads: Sequence[str], rows: Sequence[Sequence[Cell]], texts: int = 1) 
     """A table of Markdown, whose first columns are texts."""
     marks = ["-" if at < texts else "-:" for at in range(len(heads))]
     return "\n".join(
-        "| " + " | ".join(it) + " |"
-        for it in [list(heads), marks, *[[shown(it) for it in row] for row in rows]]
+        "| " + " | ".join(cells) + " |"
+        for cells in [list(heads), marks, *[[shown(it) for it in row] for row in rows]]
     )
 
 
@@ -138,24 +143,24 @@ def main_table(study: Study) -> str:
     ]
     heads += ["padded, 100", "useful, 100", "recorded, 100", "at most", "saved"]
     rows: list[list[Cell]] = []
-    for it in sorted(study.rows, key=lambda it: -it.slowdown()):
-        usual, here = it.counts.get((FORMS[0], USUAL)), it.recorded.get(FORMS[0])
+    for own in sorted(study.rows, key=lambda own: -own.slowdown()):
+        usual, here = own.counts.get((FORMS[0], USUAL)), own.recorded.get(FORMS[0])
         row: list[Cell] = [
-            it.program.name + ("" if it.is_quiet() else " (disturbed)"),
-            it.program.kind,
-            it.threads,
+            own.program.name + ("" if own.is_quiet() else " (disturbed)"),
+            own.program.kind,
+            own.threads,
         ]
         row += [
-            it.slowdown(),
-            "{:.2f} to {:.2f}".format(*it.range()),
-            *[it.rate(quantum) for quantum in QUANTA],
+            own.slowdown(),
+            "{:.2f} to {:.2f}".format(*own.range()),
+            *[own.rate(quantum) for quantum in QUANTA],
         ]
         row += [
-            it.rate(form=FORMS[1]),
+            own.rate(form=FORMS[1]),
             1000 * usual.useful / usual.steps if usual else None,
             here.rate() if here else None,
         ]
-        rows.append([*row, percent(it.at_most(study.latency(), study.step)), percent(it.share())])
+        rows.append([*row, percent(own.at_most(study.latency(), study.step)), percent(own.share())])
     return table(heads, rows, 2)
 
 
@@ -185,18 +190,18 @@ def ranks_table(study: Study) -> str:
 def exceptions(study: Study) -> list[str]:
     """Rows that the usual rate would mislead on, and those that padding made slower."""
     told = []
-    for it in study.judged():
-        rate, name = it.rate(), f"{it.program.name} with {it.threads} threads"
-        if rate is not None and rate < EDGES[1] and it.range()[0] > 1.2:
+    for own in study.judged():
+        rate, name = own.rate(), f"{own.program.name} with {own.threads} threads"
+        if rate is not None and rate < EDGES[1] and own.range()[0] > 1.2:
             told.append(
-                f"{name}: {rate:.2f} useless misses by 1000 steps, and a slowdown of {it.slowdown():.2f}"
+                f"{name}: {rate:.2f} useless misses by 1000 steps, and a slowdown of {own.slowdown():.2f}"
             )
-        if rate is not None and rate >= EDGES[3] and it.range()[0] < 1.1:
+        if rate is not None and rate >= EDGES[3] and own.range()[0] < 1.1:
             told.append(
-                f"{name}: {rate:.2f} useless misses by 1000 steps, and a slowdown of {it.slowdown():.2f} alone"
+                f"{name}: {rate:.2f} useless misses by 1000 steps, and a slowdown of {own.slowdown():.2f} alone"
             )
-        if it.range()[1] < 0.97:
-            told.append(f"{name}: padding made it slower, {1 / it.slowdown():.2f} times")
+        if own.range()[1] < 0.97:
+            told.append(f"{name}: padding made it slower, {1 / own.slowdown():.2f} times")
     return told
 
 
@@ -249,42 +254,43 @@ def values(study: Study) -> str:
     heads = ["program", "kind", "threads", "quiet", "slowdown", "low", "high", "guest rounds"]
     for form in FORMS:
         heads += [
-            f"{form}: {it}" for it in ("ns", "kept", "runs", "rounds", "voluntary", "involuntary")
+            f"{form}: {label}"
+            for label in ("ns", "kept", "runs", "rounds", "voluntary", "involuntary")
         ]
         heads += [
-            f"{form}, quantum {it}: {what}"
-            for it in QUANTA
+            f"{form}, quantum {turn}: {what}"
+            for turn in QUANTA
             for what in ("steps", "useful", "useless", "listed")
         ]
         heads += [f"{form}, recorded: {it}" for it in ("accesses", "useful", "useless")]
     heads += ["saved ns", "bound ns", "at most", "saved"]
     rows = [heads]
-    for it in study.rows:
+    for entry in study.rows:
         cells: list[Cell] = [
-            it.program.name,
-            it.program.kind,
-            it.threads,
-            int(it.is_quiet()),
-            it.slowdown(),
-            *it.range(),
-            it.guest_rounds,
+            entry.program.name,
+            entry.program.kind,
+            entry.threads,
+            int(entry.is_quiet()),
+            entry.slowdown(),
+            *entry.range(),
+            entry.guest_rounds,
         ]
-        for form, own in zip(FORMS, it.timed):
+        for form, own in zip(FORMS, entry.timed):
             cells += [own.ns, own.kept, own.runs, own.rounds, own.voluntary, own.involuntary]
             for quantum in QUANTA:
-                found = it.counts.get((form, quantum))
+                found = entry.counts.get((form, quantum))
                 cells += (
                     [found.steps, found.useful, found.useless, found.listed]
                     if found
                     else [None] * 4
                 )
-            here = it.recorded.get(form)
+            here = entry.recorded.get(form)
             cells += [here.accesses, here.useful, here.useless] if here else [None] * 3
         cells += [
-            it.saved(),
-            it.bound(study.latency()),
-            it.at_most(study.latency(), study.step),
-            it.share(),
+            entry.saved(),
+            entry.bound(study.latency()),
+            entry.at_most(study.latency(), study.step),
+            entry.share(),
         ]
         rows.append(
             [

@@ -84,7 +84,7 @@ def middle_of(found: Sequence[Once], rounds: int, takes_all: bool) -> Timed:
     """The middle of the runs, without those that were disturbed where enough are left, or with them."""
     quiet = [it for it in found if it.is_quiet()]
     if takes_all or len(quiet) < 2:
-        quiet = list(found) if takes_all else sorted(found, key=lambda it: it.away)[:2]
+        quiet = list(found) if takes_all else sorted(found, key=lambda run: run.away)[:2]
     took = [it.ns for it in quiet]
     low, _, high = quantiles(took, n=4, method="inclusive") if len(took) > 1 else (took[0],) * 3
     kept = len(found) if takes_all else sum(it.is_quiet() for it in found)

@@ -1,9 +1,9 @@
 #!/usr/bin/python3 -IS
-"""Stands for the program in the tests of the workflow: it prints made-up texts of the right form, which its settings' seed decides, at
-once.
+"""A stand-in for the program in the tests of the workflow: it prints made-up texts of the right form, by the
+seed of its settings.
 
-STAND_IN_LOG names a file to which each call adds a line; STAND_IN_FAILS has the seeds whose runs fail, STAND_IN_KILLS those that take their
-job with them, and STAND_IN_SLEEP is what a run takes."""
+STAND_IN_LOG names a file to which each call adds a line; STAND_IN_FAILS has the seeds whose runs fail,
+STAND_IN_KILLS those that take their job with them, and STAND_IN_SLEEP is what a run takes."""
 
 import os
 import struct
@@ -11,8 +11,8 @@ import sys
 import time
 
 
-def option(words, name, usual=None):
-    return words[words.index(name) + 1] if name in words else usual
+def option(words, name, default=None):
+    return words[words.index(name) + 1] if name in words else default
 
 
 def trace_of(seed, has_pcs):
@@ -57,16 +57,19 @@ def report(seed, size=64, shift=0):
 
 
 def misses(seed, size, shift):
-    line = f"line 0x00011000 cold 2 useful 1 useless {50 + seed % 10}\nobject symbol counters 0x00011000 64\n"
-    return f"misses {size} {shift}\naccesses 4\nlines 1\n{line}total cold 2 useful 1 useless {50 + seed % 10}\nend\n"
+    counts = f"cold 2 useful 1 useless {50 + seed % 10}"
+    line = f"line 0x00011000 {counts}\nobject symbol counters 0x00011000 64\n"
+    return f"misses {size} {shift}\naccesses 4\nlines 1\n{line}total {counts}\nend\n"
 
 
 def blame(seed, size, shift):
-    """The variable's line is taken by a pair in each seed, and by another one in odd seeds; a line that nothing else tells of, once."""
+    """A pair of instructions invalidates the variable's line in each seed, and another pair in odd seeds; a line
+    that no other text has is invalidated once."""
     pairs = [f"pair 0x00010044 0x00010044 taken {40 + seed} same 0\n"]
     pairs += [f"pair 0x0001003c 0x00010044 taken {seed} same {seed}\n"] * (seed % 2)
     line = f"line 0x00011000 takings 99 pairs {len(pairs)} harts 1\n{''.join(pairs)}from 0 to 1 taken 99\n"
-    line += "line 0x00012000 takings 1 pairs 1 harts 1\npair 0x00010004 0x00010008 taken 1 same 1\nfrom 0 to 1 taken 1\n"
+    line += "line 0x00012000 takings 1 pairs 1 harts 1\n"
+    line += "pair 0x00010004 0x00010008 taken 1 same 1\nfrom 0 to 1 taken 1\n"
     return f"predator blame 1\naccesses 4\nlayout {size} {shift}\nlines 2\n{line}total takings 100\nend\n"
 
 

@@ -20,8 +20,8 @@ def assembled(text, work):
     target = ["--target=riscv32-unknown-none-elf", "-march=rv32ima", "-mabi=ilp32", "-mno-relax"]
     subprocess.run(["clang", *target, "-c", source, "-o", made], check=True)
     subprocess.run(["llvm-objcopy", "-O", "binary", "-j", ".text", made, code], check=True)
-    with open(code, "rb") as it:
-        return it.read()
+    with open(code, "rb") as file:
+        return file.read()
 
 
 def read_more(text):

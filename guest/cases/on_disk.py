@@ -179,8 +179,8 @@ def play(case, renew):
             out.append((line, lines))
     if renew:
         save(case, out)
-    for it in wrong:
-        print(f"{case}: {it}")
+    for fault in wrong:
+        print(f"{case}: {fault}")
     return len(wrong)
 
 
@@ -206,8 +206,8 @@ def main(words):
         cases = [it for it in words if it != "--renew"] or file.read().split()
     wrong = sum(play(case, "--renew" in words) for case in cases)
     if "--renew" in words:
-        for it in cases:
-            renew_failing(it)
+        for name in cases:
+            renew_failing(name)
     print(f"{len(cases)} cases, {wrong} wrong")
     return 1 if wrong else 0
 

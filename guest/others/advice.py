@@ -48,7 +48,8 @@ OTHERS = {
 }
 # (in the builds at 0 what a thread has begins at multiples of a line, and fills lines)
 SUITES = {
-    it: Followed((), f"{it}-at-0") for it in ("linear_regression", "string_match", "word_count")
+    program: Followed((), f"{program}-at-0")
+    for program in ("linear_regression", "string_match", "word_count")
 }
 # What isn't shown of what is advised: why, where it is declared, how blocks are made, sizes and counts.
 WHY = r"^harts have words of their own in .*?: (?=give )"
@@ -90,9 +91,9 @@ class Study:
         if name == self.of.repaired and os.path.exists(kept):
             return kept
         source, *flags = builds()[self.name][name]
-        for it in os.listdir(STUDIES):
-            if it.endswith((".c", ".h")) and not os.path.exists(os.path.join(self.folder, it)):
-                shutil.copy(os.path.join(STUDIES, it), self.folder)
+        for file in os.listdir(STUDIES):
+            if file.endswith((".c", ".h")) and not os.path.exists(os.path.join(self.folder, file)):
+                shutil.copy(os.path.join(STUDIES, file), self.folder)
         out = os.path.join(self.folder, f"{name}.elf")
         subprocess.run(
             [BUILD, out, os.path.join(self.folder, source), "--", *flags],
@@ -190,8 +191,8 @@ def main(words):
     heads = ["Program", "Advice", "Before", "Tried on the trace", "After the change"]
     text = table(heads, rows)
     print(text)
-    for it in wrong:
-        print(it)
+    for fault in wrong:
+        print(fault)
     if "--renew" in words:
         renew({"advice": text})
     return 1 if wrong else 0

@@ -72,7 +72,7 @@ def foretold(name, runs):
         other, far = MOVED[name]
         seen = [it for it in runs[other].report.of_kind("observed") if it.base == line.base + far]
         row[-2:] = [f"`{shown(it.base)}` of {other}" for it in seen] + [
-            it.count for it in seen
+            own.count for own in seen
         ] or ["-", "-"]
     return row
 
@@ -136,8 +136,8 @@ def main(words):
     parts["others predicted"] = table(heads, [foretold(it, runs) for it in PREDICTED if it in runs])
     for name, told in parts.items():
         print(f"\n== {name}\n\n{told}")
-    for it in wrong:
-        print(it)
+    for fault in wrong:
+        print(fault)
     if "--renew" in words:
         renew(parts)
     return 1 if wrong else 0

@@ -34,9 +34,9 @@ def place(path, pc, name):
     frames = json.loads(ran.stdout)[0]["Symbol"]
     # (the compiler gives some inlined code no line, and then the call's is told)
     lines = [
-        f"`{os.path.basename(it['FileName'])}:{it['Line']}`"
-        for it in frames
-        if it["FileName"] and it["Line"]
+        f"`{os.path.basename(frame['FileName'])}:{frame['Line']}`"
+        for frame in frames
+        if frame["FileName"] and frame["Line"]
     ]
     if not lines:
         return f"`{name}`, at `{shown(pc)}`"
@@ -64,7 +64,7 @@ class Build:
                 r"^total cold (\d+) useful (\d+) useless (\d+)$", counted, re.MULTILINE
             ).groups()
             self.missed = [
-                Missed(it) for it in re.split(r"^(?=line )", counted, flags=re.MULTILINE)[1:]
+                Missed(block) for block in re.split(r"^(?=line )", counted, flags=re.MULTILINE)[1:]
             ]
             lines = {it.base: it for it in observed}
             bases = [it.base for it in (self.missed if is_worst else observed)]
@@ -128,8 +128,8 @@ def main(words):
     }
     for name, told in parts.items():
         print(f"\n== {name}\n\n{told}")
-    for it in wrong:
-        print(it)
+    for fault in wrong:
+        print(fault)
     if "--renew" in words:
         renew(parts)
     return 1 if wrong else 0

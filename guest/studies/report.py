@@ -108,9 +108,9 @@ class Run:
         self.wrong = [] if self.report.outcome == "outcome exit 0" else [self.report.outcome]
         self.wrong += differences(trace, 64, self.report) + differences(trace, 4, self.by_word)
         predicted = self.report.of_kind("shifted", "doubled")
-        for it, again in zip(predicted, counts_since(trace, predicted)):
-            if again != it.count:
-                self.wrong.append(f"{it.text}: recounted {again}")
+        for line, again in zip(predicted, counts_since(trace, predicted)):
+            if again != line.count:
+                self.wrong.append(f"{line.text}: recounted {again}")
 
     def told(self):
         return "differs" if self.wrong else "equal"
@@ -121,9 +121,9 @@ def differences(trace, size, report):
     counted = {base: (start, count) for base, start, count in recount(trace, size)}
     observed = {it.base: (it.start, it.count) for it in report.of_kind("observed")}
     return [
-        f"line {shown(it)} of {size}: reported {observed.get(it)}, recounted {counted.get(it)}"
-        for it in sorted(counted.keys() | observed.keys())
-        if counted.get(it) != observed.get(it)
+        f"line {shown(key)} of {size}: reported {observed.get(key)}, recounted {counted.get(key)}"
+        for key in sorted(counted.keys() | observed.keys())
+        if counted.get(key) != observed.get(key)
     ]
 
 

@@ -94,8 +94,8 @@ def main(words):
     for name in (it for study in names for it in studies[study]):
         runs[name] = Run(os.path.join(BUILT, f"{name}.elf"), SETTINGS.get(name.split("-")[0], ""))
         wrong += len(runs[name].wrong)
-        for it in runs[name].wrong:
-            print(f"{name}: {it}")
+        for fault in runs[name].wrong:
+            print(f"{name}: {fault}")
     parts = {"suite": summary(runs)}
     for study in names:
         if any("-at-" in it for it in studies[study]):
@@ -116,7 +116,7 @@ def main(words):
         for row in foretold(study, place, runs)
     ]
     parts["predicted"] = table(heads, rows)
-    slowest = max(runs, key=lambda it: runs[it].seconds)
+    slowest = max(runs, key=lambda own: runs[own].seconds)
     parts["commit"] = f"Made at commit {commit()}."
     for name, text in parts.items():
         print(f"\n== {name}\n\n{text}")

@@ -167,8 +167,8 @@ def film_of(count: int) -> bytes:
     """So many pictures of 176 times 144 points, in which a text wanders."""
     size, line = 176 * 144, text_of(1 << 16)
     pictures = (
-        b"FRAME\n" + line[2 * it : 2 * it + size] + bytes([128]) * (size // 2)
-        for it in range(count)
+        b"FRAME\n" + line[2 * number : 2 * number + size] + bytes([128]) * (size // 2)
+        for number in range(count)
     )
     return b"YUV4MPEG2 W176 H144 F25:1 Ip A1:1 C420jpeg\n" + b"".join(pictures)
 
@@ -200,14 +200,14 @@ def made(study: Study, folder: str) -> dict[str, str]:
 def compile_all(folder: str, listed: str) -> None:
     """Compiles sixty sources, and lists their objects."""
     names = [f"m{it}.c" for it in range(60)]
-    for it, name in enumerate(names):
+    for program, name in enumerate(names):
         with open(os.path.join(folder, name), "w") as file:
             for own in range(30):
-                other = f"f{(it * 7 + 1) % 60}_{own * 3 % 30}"
+                other = f"f{(program * 7 + 1) % 60}_{own * 3 % 30}"
                 file.write(
-                    f"int {other}(int);\nint f{it}_{own}(int x) {{ return x > 1 ? {other}(x - {own + 1}) + {it * own} : x; }}\n"
+                    f"int {other}(int);\nint f{program}_{own}(int x) {{ return x > 1 ? {other}(x - {own + 1}) + {program * own} : x; }}\n"
                 )
-            file.write("int main(void) { return f0_0(3); }\n" if it == 0 else "")
+            file.write("int main(void) { return f0_0(3); }\n" if program == 0 else "")
     subprocess.run(["gcc", "-c", "-g", "-O1", *names], cwd=folder, check=True)
     with open(listed, "w") as file:
         file.write(
@@ -283,9 +283,9 @@ def row(study: Study, program: str) -> tuple[list[object], str]:
         size = os.path.getsize(trace)
     total, objects = found["total"], found["objects"]
     own = [
-        it
-        for it in objects
-        if any(what in it["name"] + json.dumps(it["sites"]) for what in study.looked_at)
+        label
+        for label in objects
+        if any(what in label["name"] + json.dumps(label["sites"]) for what in study.looked_at)
     ]
     known = sum(it["useless"] for it in objects if is_named(it["name"]))
     is_clean = "nothing here is worth doing" in screen
@@ -306,9 +306,9 @@ def main(words: Sequence[str]) -> int:
     names = [it for it in words if it != "--renew"] or list(STUDIES)
     if "--renew" in words and names != list(STUDIES):
         sys.exit("run.py: --renew is for all studies")
-    for it in names:
-        if it not in STUDIES:
-            sys.exit(f"run.py: {it}: the studies are {', '.join(STUDIES)}")
+    for study in names:
+        if study not in STUDIES:
+            sys.exit(f"run.py: {study}: the studies are {', '.join(STUDIES)}")
     built(names)
     heads = ["Program", "Accesses", "Bytes each", "True", "False", "Of the object", "Named"]
     found = [row(STUDIES[name], build) for name in names for build in STUDIES[name].builds]

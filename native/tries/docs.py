@@ -52,8 +52,8 @@ def main(words):
     if len(words) != 1:
         sys.exit(__doc__)
     wrong = 0
-    for it in ("bin", "native", "docs"):
-        os.symlink(os.path.join(TOP, it), os.path.join(words[0], it))
+    for folder in ("bin", "native", "docs"):
+        os.symlink(os.path.join(TOP, folder), os.path.join(words[0], folder))
     for command, wanted in commands():
         if not command.startswith("bin/") and not shutil.which(command.split()[0]):
             print(f"{command}: as it stands there, though left out")

@@ -48,22 +48,22 @@ def text_of(words, **more):
 def layout(name, path):
     """Writes a script for the linker by which the program's variables begin where those of the build for RV32 do, within a page."""
     rows = (
-        it.split()
-        for it in text_of(
+        line.split()
+        for line in text_of(
             ["readelf", "-sW", os.path.join(GUEST, "built", f"{name}.elf")]
         ).splitlines()
     )
     with open(os.path.join(GUEST, "examples", f"{name}.c")) as file:
         source = file.read()
     found = sorted(
-        (int(it[1], 16), it[7])
-        for it in rows
-        if len(it) == 8 and it[3] == "OBJECT" and f" {it[7]}" in source
+        (int(row[1], 16), row[7])
+        for row in rows
+        if len(row) == 8 and row[3] == "OBJECT" and f" {row[7]}" in source
     )
     found = [
-        it
-        for it in found
-        if it[1].isidentifier() and any(f"{it[1]}{end}" in source for end in "[;= ")
+        symbol
+        for symbol in found
+        if symbol[1].isidentifier() and any(f"{symbol[1]}{end}" in source for end in "[;= ")
     ]
     page = found[0][0] // 4096 * 4096
     with open(path, "w") as file:
@@ -119,8 +119,11 @@ def listed(report, without=()):
     found = []
     for line in report.observed():
         things = sorted(
-            (it.addr, it.name if isinstance(it, Symbol) else f"a block of {it.size} bytes")
-            for it in line.objects()
+            (
+                object.addr,
+                object.name if isinstance(object, Symbol) else f"a block of {object.size} bytes",
+            )
+            for object in line.objects()
         )
         things = [it for it in things if it[1] not in without]
         if things:

@@ -91,21 +91,21 @@ def records(trace, all_of_it):
 
 
 def place_of(all_records, name):
-    for it in all_records:
-        if it[0] == "symbol" and it[1] == 1 and it[4] == name:
-            return it[2]
+    for record in all_records:
+        if record[0] == "symbol" and record[1] == 1 and record[4] == name:
+            return record[2]
     sys.exit(f"no symbol {name}")
 
 
 def taken(all_records, name):
     line = place_of(all_records, name) // 64 * 64
     holders, count = set(), 0
-    for it in all_records:
-        if it[0] == "access" and line <= it[3] < line + 64:
-            if it[2]:
-                count += bool(holders - {it[1]})
+    for record in all_records:
+        if record[0] == "access" and line <= record[3] < line + 64:
+            if record[2]:
+                count += bool(holders - {record[1]})
                 holders = set()
-            holders.add(it[1])
+            holders.add(record[1])
     return count
 
 
@@ -119,12 +119,12 @@ def word(all_records, name, behind):
 def blocks(all_records, name):
     functions = [it for it in all_records if it[0] == "symbol" and it[1] == 2 and it[4] == name]
     found = []
-    for it in all_records:
-        if it[0] == "made" and any(own[2] <= it[3] < own[2] + own[3] for own in functions):
-            found.append([it[1], it[2], "live"])
-        if it[0] == "freed":
+    for record in all_records:
+        if record[0] == "made" and any(own[2] <= record[3] < own[2] + own[3] for own in functions):
+            found.append([record[1], record[2], "live"])
+        if record[0] == "freed":
             for own in found:
-                if own[0] == it[1] and own[2] == "live":
+                if own[0] == record[1] and own[2] == "live":
                     own[2] = "freed"
     return " ".join(f"{size} {state}" for _, size, state in found)
 

@@ -79,18 +79,18 @@ class Bench:
     def fullest(self) -> list[Case]:
         """Of each command that writes the call with the most files."""
         found: dict[str, Case] = {}
-        for it in self.writing():
-            best = found.setdefault(it.words[0], it)
-            if len(it.reads + it.writes) > len(best.reads + best.writes):
-                found[it.words[0]] = it
+        for case in self.writing():
+            best = found.setdefault(case.words[0], case)
+            if len(case.reads + case.writes) > len(best.reads + best.writes):
+                found[case.words[0]] = case
         return list(found.values())
 
     def inputs(self) -> dict[str, tuple[int, ...]]:
         """Of each file that is none of the outputs what changes when it is written, or is another one."""
         found: dict[str, tuple[int, ...]] = {}
-        for it in os.scandir("."):
-            known = it.stat(follow_symlinks=False)
-            found[it.name] = (known.st_ino, known.st_size, known.st_mtime_ns, known.st_mode)
+        for entry in os.scandir("."):
+            known = entry.stat(follow_symlinks=False)
+            found[entry.name] = (known.st_ino, known.st_size, known.st_mtime_ns, known.st_mode)
         return found
 
     def environment(self, how: dict[str, str]) -> dict[str, str]:

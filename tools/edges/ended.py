@@ -8,7 +8,7 @@ from bench import SECONDS, Bench, Fault, content
 from files import Case
 from judge import faults_of, good_end
 
-IN_USE = "the same file is in use under another name, and stays as it is"
+IN_USE = "the file is in use under another name and stays unchanged: name another file"
 READ_FAULT, WRITE_FAULT = b"predator: read fault\n", b"predator: write fault\n"
 
 
@@ -70,9 +70,9 @@ def other_bytes(name: str, wanted: bytes | None) -> list[Fault]:
 def unwritten(case: Case) -> list[Fault]:
     """What is wrong with the outputs of a call that is to write them whole. They are removed."""
     found = [
-        it
+        fault
         for name, whole in case.writes
-        for it in other_bytes(name, None if case.stays() else whole)
+        for fault in other_bytes(name, None if case.stays() else whole)
     ]
     remove(*dict(case.writes))
     return found
@@ -84,9 +84,9 @@ def put(name: str, bytes_of: bytes) -> None:
 
 
 def remove(*names: str) -> None:
-    for it in names:
-        if os.path.lexists(it):
-            os.remove(it)
+    for name in names:
+        if os.path.lexists(name):
+            os.remove(name)
 
 
 def try_case(bench: Bench, what: str, how: str, case: Case) -> None:

@@ -56,8 +56,8 @@ class Case(NamedTuple):
     def renamed(self, name: str, other: str) -> "Case":
         """The same call over a file of another name."""
 
-        def by(it: str) -> str:
-            return other if it == name else it
+        def by(word: str) -> str:
+            return other if word == name else word
 
         return self._replace(
             words=tuple(map(by, self.words)),
@@ -258,8 +258,10 @@ def written_state(count: int) -> bytes:
     told = struct.pack("<8sIIQQH6xQQQ", b"PRDSTA01", 4, 0, 1, 0, 8, count, count, count)
     told += b"".join(struct.pack("<QQ", 0x100000 + 4 * it, 1) for it in range(count))
     tracks = (
-        struct.pack("<BBHHHqQQQQHH", 0, 1, 0, 0xFFFF, 0, 0x100000 + 4 * it, it, 0, 0, 1, 0, 0)
-        for it in range(count)
+        struct.pack(
+            "<BBHHHqQQQQHH", 0, 1, 0, 0xFFFF, 0, 0x100000 + 4 * number, number, 0, 0, 1, 0, 0
+        )
+        for number in range(count)
     )
     return told + b"".join(tracks) + bytes(16)
 
@@ -438,7 +440,7 @@ def writing_cases() -> list[Case]:
             report("budget", 5, 1, "64 0", "16 64 100"),
             ("small.elf",),
             (("o", b""),),
-            b"predator: `budget` in the settings allows more steps, up to 68719476736\n",
+            b"predator: the run used its whole budget: set a larger `budget`, at most 68719476736\n",
         ),
         Case(
             ("run", "long.elf", "--trace", "t", "--pcs", "--output", "o"),
@@ -519,7 +521,7 @@ def writing_cases() -> list[Case]:
 
 def left_cases() -> list[Case]:
     before = header() + records(moved(made(MADE)[:15000]))
-    cut = f"cut: it ends after {CUT_AT} bytes, before the trace does: write or copy it again"
+    cut = f"cut: the trace is cut off after {CUT_AT} bytes: record or copy it again"
     first = header() + records(moved(with_late(MADE)[:-10]))
     taken = (
         "late: an access at this address isn't moved, and others would be moved to where it is: give them another place, or give "
@@ -608,8 +610,8 @@ def refused_cases() -> list[Case]:
     """Calls that are refused before an output is begun, and so write nothing. What is said may be worded anew; then it is to be so here."""
     outputs = ("--trace", "t", "--output", "o")
     both, state = (("t", b""), ("o", b"")), (("s", b""),)
-    cut = "it ends after 10 bytes, before the trace does: write or copy it again"
-    none = "no object symbol of the trace has this name, nor was exactly one block made at that address"
+    cut = "the trace is cut off after 10 bytes: record or copy it again"
+    none = "no object symbol of the trace has this name, and not exactly one block was allocated at that address: name another object"
     rows = [
         (
             ("gen", "03", "f"),
@@ -625,7 +627,7 @@ def refused_cases() -> list[Case]:
             b"predator: elf TooShort\n",
             ("script",),
             both,
-            "script: a script: guest/build.sh builds for RV32IMA",
+            "script: the file is a script: build it for RV32IMA with guest/build.sh",
         ),
         (
             ("run", "small.elf", "--schedule", "bad", *outputs),
@@ -633,7 +635,7 @@ def refused_cases() -> list[Case]:
             b"predator: schedule BadLine 1\n",
             ("small.elf", "bad"),
             both,
-            "bad: line 1 isn't a hart, one space and a count, as `0 500`",
+            "bad: line 1 is not a hart, one space and a count: write it like `0 500`",
         ),
         (
             ("run", "small.elf", "--settings", "bad", *outputs),
@@ -641,7 +643,7 @@ def refused_cases() -> list[Case]:
             b"predator: settings OutOfRange harts\n",
             ("bad",),
             both,
-            "bad: `harts` is a whole number from 1 to 256",
+            "bad: `harts` must be a whole number from 1 to 256",
         ),
         (
             ("replay", "bad", "--save", "s"),
@@ -674,7 +676,7 @@ def refused_cases() -> list[Case]:
             b"predator: state BadState 0\n",
             ("bad",),
             state,
-            "bad: not a saved state, or only part of one: byte 0 is wrong",
+            "bad: byte 0 is wrong: the file is not a saved state, or it is cut off",
         ),
         (("place", "two", "none"), 13, b"predator: place NoObject\n", ("two",), (), none),
         (
@@ -696,8 +698,10 @@ def refused_cases() -> list[Case]:
     ]
     made_of = [Case(*row[:5], said=f"predator: {row[5]}\n".encode()) for row in rows]
     return [
-        it._replace(again=it.reads[0]) if it.words[0] in ("split", "convert", "place") else it
-        for it in made_of
+        case._replace(again=case.reads[0])
+        if case.words[0] in ("split", "convert", "place")
+        else case
+        for case in made_of
     ]
 
 

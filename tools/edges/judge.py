@@ -96,24 +96,24 @@ class Seen:
         self.emptied: list[str] = []
 
 
-def faults_of_opening(case: Case, it: Call, seen: Seen) -> Iterator[Fault]:
+def faults_of_opening(case: Case, call: Call, seen: Seen) -> Iterator[Fault]:
     """What is wrong with how a file is opened. Each is opened once, an input for reading alone, and an output to be written as it stands,
     after the inputs were read to their ends. Of a trace that is read along with the writing something was read.
     """
     outputs = dict(case.writes)
-    how = it.asked & ~(os.O_CLOEXEC | os.O_NOCTTY | os.O_LARGEFILE)
-    if it.name in seen.opened and it.name != os.devnull:
-        yield f"{it.name} is opened twice"
-    if it.name not in outputs:
+    how = call.asked & ~(os.O_CLOEXEC | os.O_NOCTTY | os.O_LARGEFILE)
+    if call.name in seen.opened and call.name != os.devnull:
+        yield f"{call.name} is opened twice"
+    if call.name not in outputs:
         if how != os.O_RDONLY:
-            yield f"{it.name} is opened with {it.asked:#o}, and is no output"
-        if it.name not in case.reads and it.name != os.devnull:
-            yield f"{it.name} is opened, and no file of the call"
+            yield f"{call.name} is opened with {call.asked:#o}, and is no output"
+        if call.name not in case.reads and call.name != os.devnull:
+            yield f"{call.name} is opened, and no file of the call"
         return
     if how != os.O_WRONLY | os.O_CREAT:
-        yield f"{it.name} is opened with {it.asked:#o}"
+        yield f"{call.name} is opened with {call.asked:#o}"
     yield from (
-        f"{it.name} is opened before {name} was read to its end"
+        f"{call.name} is opened before {name} was read to its end"
         for name in case.reads
         if name not in (seen.begun if name == case.along else seen.ended)
     )
@@ -124,25 +124,25 @@ def faults_of_calls(case: Case, ending: Ending) -> list[Fault]:
     found: list[Fault] = []
     outputs, seen, handed = dict(case.writes), Seen(), collections.Counter[str]()
     still: dict[int, str] = {}
-    for it in ending.calls:
-        if it.call == "open" and it.answer >= 0:
-            found += faults_of_opening(case, it, seen)
-            still[it.answer] = it.name
-            seen.opened.append(it.name)
-        elif it.call == "close" and still.pop(it.fd, None) is None:
-            found.append(f"{it.fd} is closed, and isn't open")
-        elif it.call == "read" and it.asked > PIECE:
-            found.append(f"{it.asked} bytes of {it.name} are read at once")
-        elif it.call == "read" and it.answer >= 0:
-            (seen.begun if it.answer else seen.ended).add(it.name)
-        elif it.call == "ftruncate" and it.answer == 0:
-            seen.emptied.append(it.name)
+    for call in ending.calls:
+        if call.call == "open" and call.answer >= 0:
+            found += faults_of_opening(case, call, seen)
+            still[call.answer] = call.name
+            seen.opened.append(call.name)
+        elif call.call == "close" and still.pop(call.fd, None) is None:
+            found.append(f"{call.fd} is closed, and isn't open")
+        elif call.call == "read" and call.asked > PIECE:
+            found.append(f"{call.asked} bytes of {call.name} are read at once")
+        elif call.call == "read" and call.answer >= 0:
+            (seen.begun if call.answer else seen.ended).add(call.name)
+        elif call.call == "ftruncate" and call.answer == 0:
+            seen.emptied.append(call.name)
             are_in_order = seen.emptied == list(outputs)[: len(seen.emptied)]
             found += [] if are_in_order else [f"the outputs are begun as {seen.emptied}"]
-        elif it.call == "write":
-            handed[it.name] += max(it.answer, 0)
-            if it.name not in ("<1>", "<2>") and it.name not in seen.emptied:
-                found.append(f"{it.name} is written, and wasn't emptied")
+        elif call.call == "write":
+            handed[call.name] += max(call.answer, 0)
+            if call.name not in ("<1>", "<2>") and call.name not in seen.emptied:
+                found.append(f"{call.name} is written, and wasn't emptied")
     found += [f"{name} isn't closed" for name in still.values()]
     if handed["<1>"] != len(ending.printed):
         found.append(

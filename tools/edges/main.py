@@ -83,49 +83,49 @@ class How(NamedTuple):
 def part_of(case: Case, calls: list[Call], number: int) -> str:
     """What a call of the system is for: to `read`, to `write`, to `print`, to tell whether a file can be read again (`again`), or
     something on which nothing hangs (`aside`)."""
-    it = calls[number - 1]
+    event = calls[number - 1]
     text = max(
         at for at, other in enumerate(calls, 1) if other.call == "write" and other.name == "<1>"
     )
     if (
-        it.call == "close"
-        or it.name == "<2>"
+        event.call == "close"
+        or event.name == "<2>"
         or number > text
-        or (it.call == "statx" and it.fd < 0)
+        or (event.call == "statx" and event.fd < 0)
     ):
         return "aside"
-    if it.name == "<1>":
+    if event.name == "<1>":
         return "print"
-    is_first_seek = it.call == "lseek" and not any(
-        other.call == "lseek" and other.name == it.name for other in calls[: number - 1]
+    is_first_seek = event.call == "lseek" and not any(
+        other.call == "lseek" and other.name == event.name for other in calls[: number - 1]
     )
-    if it.name in dict(case.writes):
+    if event.name in dict(case.writes):
         return "aside" if is_first_seek else "write"
     if is_first_seek:
-        return "again" if it.name == case.again else "aside"
+        return "again" if event.name == case.again else "aside"
     return "read"
 
 
-def reason_of(it: Call, part: str, how: How) -> str:
+def reason_of(event: Call, part: str, how: How) -> str:
     """Why the call fails, as it is said, and nothing where it is to be made anew or where fewer bytes are no fault."""
     if part == "again":
         return READ_ONCE
     if how.share:
         return NO_BYTE if how.share == "none" else ""
-    return "" if how.error == errno.EINTR and it.call in TRIED_ANEW else os.strerror(how.error)
+    return "" if how.error == errno.EINTR and event.call in TRIED_ANEW else os.strerror(how.error)
 
 
 def wanted_of(case: Case, calls: list[Call], number: int, how: How) -> Wanted:
-    it, part = calls[number - 1], part_of(case, calls, number)
-    reason = "" if part == "aside" else reason_of(it, part, how)
+    event, part = calls[number - 1], part_of(case, calls, number)
+    reason = "" if part == "aside" else reason_of(event, part, how)
     outputs = "stay" if case.stays() else "whole"
     if not reason:
         # (the advice of a refusal looks at the file again)
         is_lost = part == "aside" and (
-            it.name == "<2>" or (case.refuses() and it.call in ("lseek", "read"))
+            event.name == "<2>" or (case.refuses() and event.call in ("lseek", "read"))
         )
         return Wanted(case.status, case.printed, False, None if is_lost else b"", outputs)
-    called = {"<1>": "standard output", "/dev/stdin": "standard input"}.get(it.name, it.name)
+    called = {"<1>": "standard output", "/dev/stdin": "standard input"}.get(event.name, event.name)
     line = f"predator: {called}: {reason}\n".encode()
     wants_memory = how.error == errno.ENOMEM and part != "again"
     if part == "print":
@@ -141,9 +141,9 @@ def wanted_of(case: Case, calls: list[Call], number: int, how: How) -> Wanted:
     return Wanted(status, printed, False, line, "begun" if part == "write" or is_begun else "stay")
 
 
-def hows_of(it: Call, number: int, is_long: bool) -> Iterator[How]:
+def hows_of(event: Call, number: int, is_long: bool) -> Iterator[How]:
     """In which ways a call goes wrong: in the short form with the first errno that it may have, with EINTR, and with two others in turn."""
-    names = ERRORS[it.call].split()
+    names = ERRORS[event.call].split()
     if not is_long:
         others = [name for name in names[1:] if name != "EINTR"]
         names = (
@@ -153,16 +153,16 @@ def hows_of(it: Call, number: int, is_long: bool) -> Iterator[How]:
         )
     for name in names:
         yield How(name, getattr(errno, name))
-    for share in SHARES.get(it.call, ()):
-        if it.asked > 1 or share == "none":
+    for share in SHARES.get(event.call, ()):
+        if event.asked > 1 or share == "none":
             yield How(share, share=share)
 
 
 def chosen(calls: list[Call], is_long: bool) -> Iterator[int]:
     """The numbers of the calls that are to go wrong: all, or of those that are alike the first two and the last."""
     alike = collections.defaultdict(list)
-    for number, it in enumerate(calls, 1):
-        alike[it.call, it.name].append(number)
+    for number, event in enumerate(calls, 1):
+        alike[event.call, event.name].append(number)
     for numbers in alike.values():
         yield from numbers if is_long else dict.fromkeys(numbers[:2] + numbers[-1:])
 
@@ -178,8 +178,8 @@ def try_case(bench: Bench, case: Case, is_long: bool) -> None:
         faults_of(case, bench.call(case, is_new=True), good_end(case)),
     )
     for number in chosen(good.calls, is_long):
-        it = good.calls[number - 1]
-        for how in hows_of(it, number, is_long):
+        event = good.calls[number - 1]
+        for how in hows_of(event, number, is_long):
             try_call(bench, case, good.calls, number, how, False)
             if is_long and case.writes:
                 try_call(bench, case, good.calls, number, how, True)
@@ -194,8 +194,8 @@ def try_call(
 ) -> None:
     ending = bench.call(case, how.told(number), is_new)
     found = faults_of(case, ending, wanted_of(case, calls, number, how))
-    it = calls[number - 1]
-    bench.count(it.call, how.name, (*case.words, f"(call {number}, of {it.name})"), found)
+    event = calls[number - 1]
+    bench.count(event.call, how.name, (*case.words, f"(call {number}, of {event.name})"), found)
 
 
 def try_room(bench: Bench, case: Case) -> None:
@@ -242,8 +242,8 @@ def try_last_pieces(bench: Bench) -> None:
         calls = bench.call(case).calls
         last = max(
             at
-            for at, it in enumerate(calls, 1)
-            if it.call == "write" and it.name in dict(case.writes)
+            for at, event in enumerate(calls, 1)
+            if event.call == "write" and event.name in dict(case.writes)
         )
         ending = bench.call(case, {"EDGES_AT": str(last)})
         bench.count("as it is", "", case.words, faults_of(case, ending, good_end(case)))
@@ -298,7 +298,7 @@ PLANTS = {
 def must_find(bench: Bench, which: str) -> set[str]:
     """The commands of which each has to find a mistake."""
     writing, reading = {it.words[0] for it in bench.writing()}, {
-        it.words[0] for it in bench.cases if it.reads
+        case.words[0] for case in bench.cases if case.reads
     }
     return {"writing": writing, "reading": reading, "both": writing & reading, "any": set()}[which]
 
@@ -361,8 +361,8 @@ def main(words: list[str]) -> int:
             try_all(bench, "--long" in words)
         if "--planted" in words:
             try_plants(bench)
-        for it in bench.failed:
-            print(it)
+        for fault in bench.failed:
+            print(fault)
         print(bench.closing())
         return 1 if bench.failed else 0
 

@@ -80,9 +80,9 @@ def try_commands(bench: Bench) -> None:
     wanted = {it: slots(it) for it in sorted(names_of) if slots(it)[1]}
     refused = {it.words[0] for it in bench.cases if it.stays() and it.writes}
     found = [
-        f"{it} is tried with {tried.get(it)} files, and it has {wanted[it]}"
-        for it in wanted
-        if tried.get(it) != wanted[it]
+        f"{case} is tried with {tried.get(case)} files, and it has {wanted[case]}"
+        for case in wanted
+        if tried.get(case) != wanted[case]
     ]
     found += [f"no refusal of {it} is tried" for it in wanted if it not in refused]
     bench.count("main", "commands", sorted(wanted), found)
@@ -179,7 +179,9 @@ def try_dash(bench: Bench) -> None:
         )
     remove("-")
     bench.kept = bench.inputs()
-    cut = b"predator: standard input: it ends after 10 bytes, before the trace does: write or copy it again\n"
+    cut = (
+        b"predator: standard input: the trace is cut off after 10 bytes: record or copy it again\n"
+    )
     for words in (
         "replay -",
         "misses -",

@@ -111,7 +111,7 @@ class Messages(unittest.TestCase):
         )
         self.assertEqual(
             heard[len(said) :],
-            "predator: own: an ELF file for x86-64: guest/build.sh builds for RV32IMA\n",
+            "predator: own: the file is an ELF file for x86-64: build it for RV32IMA with guest/build.sh\n",
         )
         self.is_refused("./own is a native program: use `predator view ./own`", "run", "./own")
         self.is_refused(
@@ -134,7 +134,9 @@ class Messages(unittest.TestCase):
 
     def test_a_trace_that_was_cut(self):
         said = "predator: cut.trace: where a kill or Ctrl-C cut it, `predator native --mend cut.trace` gives it an end\n"
-        said += "predator: cut.trace: it ends after 3000 bytes, before the trace does: write or copy it again\n"
+        said += (
+            "predator: cut.trace: the trace is cut off after 3000 bytes: record or copy it again\n"
+        )
         said += "predator view: `predator replay` failed: trace Truncated 3000\n"
         self.assertEqual(self.view("cut.trace"), (2, "", said))
 
@@ -146,7 +148,7 @@ class Messages(unittest.TestCase):
         said = f"predator: did you mean `quantum`? The keys are: {keys.replace(',', '')}\n"
         self.assertEqual(
             (status, out, heard),
-            (1, "", f"{said}predator: 'quantom=3' in --set names no key of the settings\n"),
+            (1, "", f"{said}predator: 'quantom=3' in --set names an unknown key\n"),
         )
         # (before the program runs, which would put something out)
         status, out, heard = self.view("run", "ring.elf", "--html-page", "x")
@@ -164,7 +166,8 @@ class Messages(unittest.TestCase):
         )
 
     def test_an_object_that_is_not_there(self):
-        said = "predator: no object symbol of the trace has this name, nor was exactly one block made at that address\n"
+        said = "predator: no object symbol of the trace has this name, "
+        said += "and not exactly one block was allocated at that address: name another object\n"
         said += "predator: objects on lines that are taken: ring, stats\n"
         self.assertEqual(
             self.predator("place", "ring.trace", "nosuch"), (13, "predator: place NoObject\n", said)

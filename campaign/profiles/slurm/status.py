@@ -1,11 +1,12 @@
 #!/usr/bin/python3 -IS
-"""Tells Snakemake what became of a job of Slurm's: status.py JOB. It asks the controller alone, so no accounting is needed."""
+"""The state of a job of Slurm, as Snakemake asks for it: status.py JOB. Only the controller is asked, so no
+accounting is needed."""
 
 import re
 import subprocess
 import sys
 
-UNDER_WAY = (
+ACTIVE_STATES = (
     "PENDING",
     "CONFIGURING",
     "RUNNING",
@@ -18,21 +19,21 @@ UNDER_WAY = (
 )
 
 
-def asked(*words):
+def call(*words):
     ran = subprocess.run(words, capture_output=True, text=True, stdin=subprocess.DEVNULL)
     return ran.returncode, ran.stdout + ran.stderr
 
 
-def main(job):
-    status, text = asked("scontrol", "--oneliner", "show", "job", job)
+def job_state(job):
+    status, text = call("scontrol", "--oneliner", "show", "job", job)
     state = re.search(r"\bJobState=(\w+)", text)
     if state is None:
-        # Slurm forgets a job minutes after its end. Whether it succeeded, its result tells, which Snakemake looks for; a controller
-        # that doesn't answer is asked again.
+        # Slurm forgets a job minutes after its end. Whether it succeeded, its result tells, which Snakemake
+        # looks for; a controller that doesn't answer is asked again.
         return "success" if status and "Invalid job id" in text else "running"
     if state[1] == "COMPLETED":
         return "success"
-    return "running" if state[1] in UNDER_WAY else "failed"
+    return "running" if state[1] in ACTIVE_STATES else "failed"
 
 
-print(main(sys.argv[1]))
+print(job_state(sys.argv[1]))

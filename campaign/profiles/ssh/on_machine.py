@@ -1,9 +1,10 @@
 #!/usr/bin/python3 -IS
-"""Runs a job of Snakemake's on the first machine that has room, and ends with its status: on_machine.py SCRIPT.
+"""A job of Snakemake on the first machine that has room, whose status it ends with: on_machine.py
+SCRIPT.
 
-The file `machines` names the machines, each with its number of places. A place is a lock, which this process holds as long as it lives,
-and a log of what the machine said.
-A machine that can't be reached, or is lost on the way, is left out for the job."""
+The file `machines` names the machines, each with its number of places. A place is a lock, which this process
+holds as long as it lives, and a log of what the machine said. A machine that can't be reached, or is lost on
+the way, is left out for the job."""
 
 import fcntl
 import os
@@ -12,14 +13,14 @@ import subprocess
 import sys
 import time
 
-# What ssh ends with if it couldn't reach the machine, or lost it.
-LOST = 255
+# The status with which ssh ends if it couldn't reach the machine, or lost it.
+LOST_STATUS = 255
 SSH = os.environ.get("PREDATOR_SSH", "ssh")
 # No password is asked for, and a machine that says nothing for a minute, at the beginning or later, is lost.
 OPTIONS = ["BatchMode=yes", "ConnectTimeout=60", "ServerAliveInterval=20", "ServerAliveCountMax=3"]
 
 
-def places():
+def list_places():
     """Each place of each machine, by turns, so that no machine is full before all have a job."""
     found = []
     with open("machines", encoding="utf-8") as file:
@@ -35,9 +36,9 @@ def places():
     return sorted(found)
 
 
-def free(left_out):
+def take_place(left_out):
     """A machine with room, its place and the lock of that; none where no machine is left."""
-    own = [it for it in places() if it[1] not in left_out]
+    own = [place for place in list_places() if place[1] not in left_out]
     os.makedirs("places", exist_ok=True)
     while own:
         for at, machine in own:
@@ -54,7 +55,7 @@ def free(left_out):
 def main(script):
     left_out = set()
     while True:
-        machine, place, lock = free(left_out)
+        machine, place, lock = take_place(left_out)
         if machine is None:
             print(f"no machine could be reached: {', '.join(sorted(left_out))}", file=sys.stderr)
             return 1
@@ -67,7 +68,7 @@ def main(script):
                 words, stdin=subprocess.DEVNULL, stdout=log, stderr=log
             ).returncode
         os.close(lock)
-        if status != LOST:
+        if status != LOST_STATUS:
             return status
         left_out.add(machine)
 

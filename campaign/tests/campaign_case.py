@@ -1,4 +1,4 @@
-"""Calls campaign as a user does, over a stand-in for the program."""
+"""The base of tests that call campaign as a user does, with a stand-in for the program."""
 
 import os
 import subprocess
@@ -15,34 +15,34 @@ def environment(**more):
     return {**os.environ, "PREDATOR_PROGRAM": STAND_IN, "PREDATOR_BUILD": "no", **more}
 
 
-class Folder(unittest.TestCase):
+class CampaignCase(unittest.TestCase):
     """A folder with a plan and the programs `one` and `two`."""
 
     def setUp(self):
-        # What a process that was killed still writes must not fail a test that has passed.
+        # A process that was killed may still write, which must not fail a test that has passed.
         work = tempfile.TemporaryDirectory(prefix="try-campaign-", ignore_cleanup_errors=True)
         self.addCleanup(work.cleanup)
         self.work = work.name
-        self.log = self.at("log")
-        for it in ("one", "two"):
-            self.write(it, it)
+        self.log = self.path("log")
+        for name in ("one", "two"):
+            self.write(name, name)
 
-    def at(self, *names):
+    def path(self, *names):
         return os.path.join(self.work, *names)
 
     def write(self, name, text):
-        with open(self.at(name), "w", encoding="utf-8") as file:
+        with open(self.path(name), "w", encoding="utf-8") as file:
             file.write(text)
 
     def read(self, *names):
-        with open(self.at(*names), encoding="utf-8") as file:
+        with open(self.path(*names), encoding="utf-8") as file:
             return file.read()
 
-    def plan(self, text):
+    def write_plan(self, text):
         self.write("plan.yaml", text)
 
-    def campaign(self, *words, **more):
-        """The status of a call over the plan, what it printed and what it said."""
+    def call_campaign(self, *words, **more):
+        """The status of a call with the plan, its output and its messages."""
         command = [*COMMAND, "plan.yaml", *words]
         env = environment(STAND_IN_LOG=self.log, **more)
         ran = subprocess.run(
@@ -55,8 +55,8 @@ class Folder(unittest.TestCase):
         )
         return ran.returncode, ran.stdout, ran.stderr
 
-    def calls(self):
-        """What was called since it was asked last, sorted."""
+    def take_calls(self):
+        """The calls of the stand-in since the last question, sorted."""
         try:
             text = self.read("log")
         except OSError:
