@@ -2,7 +2,7 @@
 # shellcheck disable=SC2154,SC2034 # (so these come from there, and go there)
 
 # The Debian packages that all parts together want. bin/test names those that are missing.
-packages=(clang lld llvm picolibc-riscv64-unknown-elf gcc libc6-dev valgrind libc6-dbg python3 python3-pyelftools python3-jinja2 python3-jsonschema
+packages=(clang lld llvm picolibc-riscv64-unknown-elf libc++-14-dev gcc g++ libc6-dev valgrind libc6-dbg python3 python3-pyelftools python3-jinja2 python3-jsonschema
     chromium snakemake slurmctld slurmd slurm-client munge git shellcheck python3-flake8 mypy black clang-format clang-tidy)
 # What the long forms want too.
 long_packages=(mmdebstrap)
@@ -28,8 +28,8 @@ part() {
 declare_parts() {
     local kit="program clang ld.lld llvm-readelf llvm-objcopy" picolibc=/usr/lib/picolibc/riscv64-unknown-elf
     # The forms of some parts: the everyday ones, and those of the long run.
-    local long=() short=(--short) all=() reports=300 judges=200 seeds=3 studies=(histogram bounded_queue)
-    if [ -n "${is_long:-}" ]; then long=(--long) short=() all=(--all) reports=2000 judges=1000 seeds=20 studies=(); fi
+    local long=() short=(--short) all=() reports=300 judges=200 seeds=3 cxx_seeds=1 studies=(histogram bounded_queue)
+    if [ -n "${is_long:-}" ]; then long=(--long) short=() all=(--all) reports=2000 judges=1000 seeds=20 cxx_seeds=20 studies=(); fi
     part shell daily 1 1 9 shellcheck tools/lint.sh shell
     part python daily 1 1 5 python3 tools/lint.sh python
     part types daily 1 1 14 "mypy python3:jinja2 python3:elftools" tools/lint.sh types
@@ -57,6 +57,7 @@ declare_parts() {
     part kit daily 1 2 30 "$kit" guest/try.sh kit
     part builds daily 1 2 60 "python3 clang ld.lld llvm-readelf llvm-objcopy $picolibc" env PREDATOR="$program" guest/kit.sh
     part c_library daily 1 2 30 "$kit cc $picolibc" guest/try.sh c_library
+    part cxx daily 1 1 60 "program g++ $kit $picolibc /usr/lib/llvm-14/include/c++/v1" env PREDATOR="$program" guest/cxx/try.sh --seeds "$cxx_seeds"
     part threads daily 1 2 60 "$kit $picolibc" guest/threads.sh --seeds "$seeds"
     part studies daily 1 2 30 "program python3 guest/built/studies" guest/studies/run.py "${studies[@]}"
     part clock daily 1 2 30 "python3 gcc" bench/clock/run.py --check

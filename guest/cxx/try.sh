@@ -2,7 +2,7 @@
 # Tries C++ guests with LLVM's headers of the library: each header compiles, each program of tries/ prints under several schedules what it
 # prints on this machine by its own compiler and library, and what would be thrown ends a program with its text.
 #
-#     try.sh [--seeds N]       so many schedules, 5 without it
+#     try.sh [--seeds N]       so many schedules, 5 without it; with fewer the headers are compiled for C++20 alone
 #
 # PREDATOR names another program than bin/predator. What isn't installed is skipped: the status is 77 where that is all of it.
 set -u
@@ -29,7 +29,9 @@ headers="algorithm any array atomic barrier bit bitset charconv chrono compare c
     cstring deque exception forward_list functional future initializer_list iterator latch limits list map memory mutex new numbers
     numeric optional queue random ratio semaphore set shared_mutex span stack stdexcept string string_view system_error thread tuple
     type_traits typeinfo unordered_map unordered_set utility variant vector"
-for standard in c++17 c++20; do
+standards=(c++20)
+((seeds < 5)) || standards+=(c++17)
+for standard in "${standards[@]}"; do
     for it in $headers; do
         printf '#include <%s>\nint main() { return 0; }\n' "$it" >header.cpp
         expect_status "<$it> in $standard" 0 "$cxx" -std=$standard -Wall -Wextra -Werror -fsyntax-only header.cpp
