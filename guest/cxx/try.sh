@@ -34,7 +34,7 @@ standards=(c++20)
 for standard in "${standards[@]}"; do
     for it in $headers; do
         printf '#include <%s>\nint main() { return 0; }\n' "$it" >header.cpp
-        expect_status "<$it> in $standard" 0 "$cxx" -std=$standard -Wall -Wextra -Werror -fsyntax-only header.cpp
+        expect_status "<$it> in $standard" 0 "$cxx" -std="$standard" -Wall -Wextra -Werror -fsyntax-only header.cpp
     done
 done
 for it in iostream sstream fstream iomanip locale regex filesystem; do
