@@ -126,7 +126,9 @@ def of_x86(row: Row) -> Does | None:
 def all_that_do(text: str, addresses: Iterable[int]) -> dict[int, Does]:
     """What the instructions at some addresses do, as far as a text of llvm-objdump tells it. An address may be the last byte of a call."""
     rows, found = [
-        Row(int(it[1], 16), it[2], it[3]) for line in text.split("\n") if (it := ROW.match(line))
+        Row(int(match[1], 16), match[2], match[3])
+        for line in text.split("\n")
+        if (match := ROW.match(line))
     ], FORMAT.search(text)
     begins, made = [it.addr for it in rows], {}
     for addr in addresses if found else ():
@@ -177,7 +179,7 @@ def of_file(file: str, names: str, addresses: Iterable[int]) -> dict[int, Does]:
     if not wanted or not shutil.which("llvm-objdump") or not os.path.isfile(file):
         return {}
     parts: list[tuple[int, int]] = []
-    for addr, start in sorted(starts(names, wanted).items(), key=lambda it: it[1]):
+    for addr, start in sorted(starts(names, wanted).items(), key=lambda item: item[1]):
         if parts and start <= parts[-1][1] + NEAR:
             parts[-1] = parts[-1][0], max(parts[-1][1], addr + 1)
         else:
@@ -231,8 +233,8 @@ def kind_of(pair: Pair, known: Mapping[int, Does]) -> str:
 def kinds_of(pairs: Iterable[Pair], known: Mapping[int, Does]) -> dict[str, int]:
     """How many takings of each kind some pairs make."""
     found = {it: 0 for it in KINDS}
-    for it in pairs:
-        found[kind_of(it, known)] += it.taken
+    for pair in pairs:
+        found[kind_of(pair, known)] += pair.taken
     return found
 
 

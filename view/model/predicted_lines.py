@@ -53,7 +53,9 @@ def worth_counting(report: Report, naming: Naming, is_all: bool) -> list[Layout]
     if is_all:
         return layouts(report)
     found: list[Layout] = []
-    for line in sorted(report.predicted(), key=lambda it: (-it.count, it.base)):
+    for line in sorted(
+        report.predicted(), key=lambda candidate: (-candidate.count, candidate.base)
+    ):
         if len(found) == LAYOUTS:
             break
         if layout_of(line) not in found and can_lie(line, naming):
@@ -75,18 +77,18 @@ def can_lie(line: Line, naming: Naming) -> bool:
     if line.kind == "doubled":
         return True
     return all(
-        (it.addr - line.base) % min(alignment(it, naming), line.size) == 0
-        for it in line.objects()
-        if isinstance(it, (Symbol, Block))
+        (obj.addr - line.base) % min(alignment(obj, naming), line.size) == 0
+        for obj in line.objects()
+        if isinstance(obj, (Symbol, Block))
     )
 
 
 def inside(lines: Iterable[Range], misses: Misses) -> int:
     """The useless misses of the observed lines that some predicted ones meet, each once."""
     met: set[int] = set()
-    for it in lines:
-        first = (it.base - misses.offset) // misses.size * misses.size + misses.offset
-        met.update(range(first, it.base + it.size, misses.size))
+    for line in lines:
+        first = (line.base - misses.offset) // misses.size * misses.size + misses.offset
+        met.update(range(first, line.base + line.size, misses.size))
     return sum(misses.lines[it].useless for it in met if it in misses.lines)
 
 
@@ -119,11 +121,11 @@ def judged(
         found.append(Foretold(line, keys, own, seen, not why, why))
     return sorted(
         found,
-        key=lambda it: (
-            not it.is_shown,
-            (it.inside or 0) - (it.useless or 0),
-            -it.line.count,
-            it.line.base,
+        key=lambda predicted: (
+            not predicted.is_shown,
+            (predicted.inside or 0) - (predicted.useless or 0),
+            -predicted.line.count,
+            predicted.line.base,
         ),
     )
 
@@ -131,6 +133,9 @@ def judged(
 def together(found: Iterable[Foretold]) -> list[list[Foretold]]:
     """The predicted lines of one kind, layout and reason that have the same objects, in the order of their firsts."""
     groups: dict[tuple[object, ...], list[Foretold]] = {}
-    for it in found:
-        groups.setdefault((tuple(it.keys), it.line.kind, layout_of(it.line), it.why), []).append(it)
+    for predicted in found:
+        groups.setdefault(
+            (tuple(predicted.keys), predicted.line.kind, layout_of(predicted.line), predicted.why),
+            [],
+        ).append(predicted)
     return list(groups.values())

@@ -95,15 +95,15 @@ def overflow(trace: bytes, memory: Memory) -> Overflow | None:
         for hart, own in below.items()
     ]
     deep = [it for it in found if it.depth >= it.size + LEAST]
-    return max(deep, key=lambda it: it.depth) if deep else None
+    return max(deep, key=lambda candidate: candidate.depth) if deep else None
 
 
 def edge(addresses: set[int], low: int) -> int:
     """How far down addresses go from a stack's lower end, without a gap."""
-    for it in sorted(addresses, reverse=True):
-        if low - it > FRAME:
+    for addr in sorted(addresses, reverse=True):
+        if low - addr > FRAME:
             break
-        low = it
+        low = addr
     return low
 
 

@@ -70,7 +70,7 @@ class Seen:
     def fights(self) -> list[Pair]:
         """The pairs of instructions that take the object's worst line, those first that take it most often for nothing."""
         pairs = self.explained.pairs if self.explained else []
-        return sorted(pairs, key=lambda it: (it.same - it.taken, -it.taken))
+        return sorted(pairs, key=lambda pair: (pair.same - pair.taken, -pair.taken))
 
     def fight(self) -> Pair | None:
         """The pair that takes the object's worst line most often for nothing, or none."""
@@ -203,10 +203,10 @@ class View:
         named = [(it, name) for it in worth if (name := it.name_to_place()) is not None]
         placed_at = functools.partial(predator.placed, trace, size=self.report.size)
         with concurrent.futures.ThreadPoolExecutor(max_workers=min(4, os.cpu_count() or 1)) as pool:
-            for (it, _), placed in zip(named, pool.map(placed_at, [name for _, name in named])):
+            for (obj, _), placed in zip(named, pool.map(placed_at, [name for _, name in named])):
                 # (of several variables of one name it takes the first)
-                if placed and it.example and placed.addr == it.example.addr:
-                    self.placed[it.key] = placed
+                if placed and obj.example and placed.addr == obj.example.addr:
+                    self.placed[obj.key] = placed
 
     def arrange(self) -> None:
         """Puts the lines together by objects."""
@@ -214,8 +214,8 @@ class View:
         self.naming.learn("\n".join(one.text for one in told))
         self.naming.prepare({it for one in told for it in one.sites()})
         self.things, self.all = things_of(self.report, self.misses, self.naming, self.each)
-        for it in self.all.values():
-            it.name = self.naming.key_name(it.key, it.example)
+        for obj in self.all.values():
+            obj.name = self.naming.key_name(obj.key, obj.example)
         self.rank()
         if self.blame:
             name_by_instructions(self.things, self.blame, self.naming)
@@ -245,19 +245,19 @@ class View:
             # (two words that are missed as often are of one field, or brought by one load)
             if addr % 8 != 4 or addr - 4 not in words or words[addr - 4].useful != word.useful:
                 needed[(addr - offset) // size * size + offset] += word.useful
-        for it in self.things if self.by_word or self.blame else ():
+        for obj in self.things if self.by_word or self.blame else ():
             missed = [
                 (spot.missed.useless, spot.missed.useful, spot.base)
-                for spot in it.spots
+                for spot in obj.spots
                 if spot.missed
             ]
             if self.by_word:
-                it.saves = sum(
+                obj.saves = sum(
                     max(0, min(useless, useless + useful - needed[base]))
                     for useless, useful, base in missed
                 )
             else:
-                it.saves = sum(
+                obj.saves = sum(
                     min(useless, self.taken_for_nothing(base))
                     for useless, _, base in missed
                     if useless
@@ -274,8 +274,10 @@ class View:
         """Puts the first objects in order by what their repairs were counted to save."""
         if self.tried is None:
             return
-        places = {it.key: at for at, it in enumerate(sorted(first, key=lambda it: -self.saved(it)))}
-        self.things.sort(key=lambda it: places.get(it.key, len(places)))
+        places = {
+            it.key: at for at, it in enumerate(sorted(first, key=lambda obj: -self.saved(obj)))
+        }
+        self.things.sort(key=lambda obj: places.get(obj.key, len(places)))
 
     def saved(self, thing: Thing) -> int:
         """How many misses the best repair of an object saves, as far as that was counted; what words can't tell isn't."""
@@ -305,9 +307,9 @@ class View:
         """The predicted lines of the objects that the call wants to see."""
         name = self.call.options.get("object")
         return [
-            it
-            for it in self.predicted
-            if name is None or name in {self.all[key].name for key in it.keys if key in self.all}
+            line
+            for line in self.predicted
+            if name is None or name in {self.all[key].name for key in line.keys if key in self.all}
         ]
 
     def label(self, thing: Thing) -> str:
@@ -316,8 +318,8 @@ class View:
         if self.label_counts is None:
             self.label_counts = Counter(
                 name
-                for it in dict.fromkeys(self.all.values())
-                for name in {it.name, it.name + self.caller(it)}
+                for obj in dict.fromkeys(self.all.values())
+                for name in {obj.name, obj.name + self.caller(obj)}
             )
         if self.label_counts[thing.name] < 2:
             return thing.name
@@ -336,9 +338,9 @@ class View:
         """The first line among a block's callers that no other object of its name has there, or else an address."""
         chain = self.naming.chain(block.sites)
         same = [
-            it.example
-            for it in dict.fromkeys(self.all.values())
-            if it.name == thing.name and it is not thing
+            other.example
+            for other in dict.fromkeys(self.all.values())
+            if other.name == thing.name and other is not thing
         ]
         others = [self.naming.chain(it.sites) for it in same if isinstance(it, Block) and it.sites]
         for at, site in enumerate(chain):
@@ -356,9 +358,9 @@ class View:
         ):
             return ""
         lines = [
-            it.short()
-            for it in self.naming.sources.frames(self.naming.chain(thing.example.sites)[0].addr)
-            if it.short()
+            frame.short()
+            for frame in self.naming.sources.frames(self.naming.chain(thing.example.sites)[0].addr)
+            if frame.short()
         ]
         return f", from {lines[-1]}" if len(lines) > 1 else ""
 
@@ -420,10 +422,11 @@ class View:
         counts less."""
         own = [at for at, it in enumerate(self.things) if it.worst().base in self.explained]
         ranked = sorted(
-            (self.things[at] for at in own), key=lambda it: (-it.saves * self.weight(it), it.rank())
+            (self.things[at] for at in own),
+            key=lambda obj: (-obj.saves * self.weight(obj), obj.rank()),
         )
-        for at, it in zip(own, ranked):
-            self.things[at] = it
+        for at, obj in zip(own, ranked):
+            self.things[at] = obj
 
     def weight(self, thing: Thing) -> float:
         return weight(self.takings(thing) or {}, self.is_read(thing))
@@ -447,13 +450,13 @@ class View:
             return
         asked = functools.partial(self.asked, predator, program)
         with concurrent.futures.ThreadPoolExecutor(max_workers=min(4, os.cpu_count() or 1)) as pool:
-            for spot, it in zip(spots, pool.map(asked, spots)):
-                if isinstance(it, Refused):
-                    self.notes.append(f"what fights over {spot.base:#010x} is unknown: {it}")
-                elif it.accesses == self.report.accesses and (
-                    spot.line is None or it.count == spot.line.count
+            for spot, explained in zip(spots, pool.map(asked, spots)):
+                if isinstance(explained, Refused):
+                    self.notes.append(f"what fights over {spot.base:#010x} is unknown: {explained}")
+                elif explained.accesses == self.report.accesses and (
+                    spot.line is None or explained.count == spot.line.count
                 ):
-                    self.explained[spot.base] = it.takings
+                    self.explained[spot.base] = explained.takings
                 else:
                     self.notes.append(
                         f"the program under these settings doesn't make this trace, so `explain` says nothing of {spot.base:#010x}"
@@ -462,9 +465,9 @@ class View:
     def note_idle(self) -> None:
         """Notes options that matched nothing: a type for blocks that aren't fought over, and a folder without a source of the program."""
         blocks = [
-            it.example
-            for it in self.all.values()
-            if isinstance(it.example, Block) and it.example.sites
+            obj.example
+            for obj in self.all.values()
+            if isinstance(obj.example, Block) and obj.example.sites
         ]
         sites = [self.naming.names_of_site(it) for it in blocks]
         for site in (site for site, _ in self.naming.types if not any(site in it for it in sites)):
@@ -483,9 +486,9 @@ class View:
             else []
         )
         if files and not any(
-            os.path.isfile(os.path.join(folder, it))
+            os.path.isfile(os.path.join(folder, name))
             for file in files
-            for it in (file, os.path.basename(file))
+            for name in (file, os.path.basename(file))
         ):
             self.notes.append(
                 f"`--sources {folder}` has none of the program's sources: {advice.listing(map(os.path.basename, files))}"
@@ -512,9 +515,9 @@ class View:
         """What is shown of an object."""
         if thing.key not in self.cached:
             words = [
-                it
+                word
                 for spot in thing.worst_first()
-                for it in words_of(spot, self.naming, self.by_word)
+                for word in words_of(spot, self.naming, self.by_word)
             ]
             todo = self.advised(thing, words)
             explained = self.explained.get(thing.worst().base)
@@ -629,21 +632,21 @@ def keys_over_builds(things: Iterable[Thing], naming: Naming) -> dict[Key, str]:
     """For each object a text that another build of the program has too: no address, and no line of a source."""
     found: dict[Key, str] = {}
     groups: dict[str, list[Thing]] = {}
-    for it in sorted(things, key=lambda it: order_of(it.key)):
-        if isinstance(it.key, OfSymbol):
-            text = f"symbol {naming.names.lasting(it.key.name)}"
-        elif isinstance(it.key, OfBlocks):
+    for obj in sorted(things, key=lambda obj: order_of(obj.key)):
+        if isinstance(obj.key, OfSymbol):
+            text = f"symbol {naming.names.lasting(obj.key.name)}"
+        elif isinstance(obj.key, OfBlocks):
             text = "block " + (
-                " < ".join(naming.functions(it.example.sites))
-                if isinstance(it.example, Block) and it.example.sites
+                " < ".join(naming.functions(obj.example.sites))
+                if isinstance(obj.example, Block) and obj.example.sites
                 else "-"
             )
         else:
-            text = "memory" if isinstance(it.key, OfMemory) else f"{it.key.kind} {it.key[1]}"
-        groups.setdefault(text, []).append(it)
+            text = "memory" if isinstance(obj.key, OfMemory) else f"{obj.key.kind} {obj.key[1]}"
+        groups.setdefault(text, []).append(obj)
     for text, own in groups.items():
-        for at, it in enumerate(own):
-            found[it.key] = text if at == 0 else f"{text} #{at + 1}"
+        for at, obj in enumerate(own):
+            found[obj.key] = text if at == 0 else f"{text} #{at + 1}"
     return found
 
 
@@ -659,8 +662,8 @@ def memory_of(
         return Memory()
     words = call.settings_words()
     own = [
-        it
-        for at, it in enumerate(words)
-        if not (it.startswith("--schedule") or at and words[at - 1] == "--schedule")
+        word
+        for at, word in enumerate(words)
+        if not (word.startswith("--schedule") or at and words[at - 1] == "--schedule")
     ]
     return Memory(stacks(predator, call.program, own), setting(own, "harts"))

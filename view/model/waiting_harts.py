@@ -88,7 +88,9 @@ class Ends:
 
     def look_for(self, places: dict[int, int]) -> None:
         """Looks for harts whose last accesses are farther back, at their places."""
-        missing = sorted((it for it in places if it not in self.found), key=lambda it: -places[it])
+        missing = sorted(
+            (it for it in places if it not in self.found), key=lambda place: -places[place]
+        )
         for hart in missing[:ASIDE]:
             first = max(places[hart] - BEFORE, 0)
             self.found[hart] = self.behind(first, places[hart] - first + 1)[hart]

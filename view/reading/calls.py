@@ -156,11 +156,11 @@ class Call:
             raise Fault(f"'{word}' is no option of {where}{near and '; '}{near}\n{USAGE}")
         if self.marks and self.how != "native":
             raise Fault(f"'{self.marks[0]}' is for a program of this machine")
-        for it in (one for value in self.values("--set") for one in value.split(",")):
-            key, is_set, _ = it.partition("=")
+        for pair in (one for value in self.values("--set") for one in value.split(",")):
+            key, is_set, _ = pair.partition("=")
             if is_set and key not in KEYS:
                 raise Fault(
-                    f"'{it}' in --set names no key of the settings; {nearest(key, KEYS)}the keys are: {', '.join(KEYS)}"
+                    f"'{pair}' in --set names no key of the settings; {nearest(key, KEYS)}the keys are: {', '.join(KEYS)}"
                 )
 
     def split(self, words: Sequence[str]) -> tuple[list[str], list[str]]:
@@ -225,9 +225,9 @@ class Call:
                 raise Fault(f"'--{name}' is a number, and not '{value}'")
         if self.options.get("by", "useless") not in ("useless", "count"):
             raise Fault(f"'--by' is `useless` or `count`, and not '{self.options['by']}'")
-        for it in self.options["type"]:
-            if not all(it.partition("=")[::2]):
-                raise Fault(f"'--type' is SITE=TYPE, as arena.c:78=node, and not '{it}'")
+        for assignment in self.options["type"]:
+            if not all(assignment.partition("=")[::2]):
+                raise Fault(f"'--type' is SITE=TYPE, as arena.c:78=node, and not '{assignment}'")
         if "predicted" in self.options and "no-predicted" in self.options:
             raise Fault("'--predicted' and '--no-predicted' are two answers to one question")
         if "by" in self.options and "fail-above" not in self.options:

@@ -78,7 +78,9 @@ class Word(NamedTuple):
 
 def bytes_of(name: str) -> bytes:
     """The bytes of a name that is printed."""
-    return re.sub(rb"\\x([0-9a-f]{2})", lambda it: bytes([int(it[1], 16)]), name.encode("latin-1"))
+    return re.sub(
+        rb"\\x([0-9a-f]{2})", lambda escape: bytes([int(escape[1], 16)]), name.encode("latin-1")
+    )
 
 
 class Rows:
@@ -113,8 +115,8 @@ class Rows:
 def objects_of(rows: str) -> list[Symbol | Block]:
     """What some rows say that stands on a line."""
     found: list[Symbol | Block] = []
-    for it in OBJECT.finditer(rows):
-        name, at, size, block, length, born, died, sites = it.groups()
+    for match in OBJECT.finditer(rows):
+        name, at, size, block, length, born, died, sites = match.groups()
         if name is not None:
             found.append(Symbol(name, int(at, 16), int(size)))
         else:
@@ -190,14 +192,14 @@ def listed(
     if not place:
         return found, None
     last = pattern.groups
-    for it in pattern.finditer(text, place):
-        begin, end = it.span()
+    for match in pattern.finditer(text, place):
+        begin, end = match.span()
         if begin != place:
             break
         place = end
-        fields = it.groups()
+        fields = match.groups()
         stands = known.setdefault(fields[-1], fields[-1])
-        found.append(kind(text, stands, it.end(last), end - 1, fields))
+        found.append(kind(text, stands, match.end(last), end - 1, fields))
     if text.startswith(("line ", "object ", "site ", "word "), place):
         row, shown = text.count("\n", 0, place) + 1, text[place : place + 80].partition("\n")[0]
         raise Fault(f"{of}: its row {row} is none that it may have: `{shown}`")
@@ -300,7 +302,7 @@ class Misses:
         self.size, self.offset, self.accesses = (int(it) for it in found.groups()[:3])
         self.text, self.lines = text, {it.base: it for it in listed(text, MISSES, Missed, of)[0]}
         self.total = {
-            name: int(it) for name, it in zip(("cold", "useful", "useless"), total.groups())
+            name: int(count) for name, count in zip(("cold", "useful", "useless"), total.groups())
         }
         if len(self.lines) != int(found[4]):
             raise Fault(f"{of}: it tells of {found[4]} lines and has {len(self.lines)}")

@@ -159,7 +159,7 @@ def neighbouring(array: Array, uses: Uses) -> Repair | None:
     changes = sum(one != other for one, other in zip(harts, harts[1:]))
     if len(harts) < len(found) or changes < len(set(harts)) or array.begins != sorted(array.begins):
         return None
-    order = sorted(range(len(harts)), key=lambda it: harts[it])
+    order = sorted(range(len(harts)), key=lambda place: harts[place])
     try:
         parts = in_words(
             Part(array.begins[old], wide, array.begins[new])
@@ -180,9 +180,9 @@ def bytewise(subject: Subject, uses: Uses, line: int) -> str:
                 return element_apart(subject, array, line)[0]
         for record in records_in(subject.shape, subject.begins()):
             own = [
-                it.name
-                for it in record.members
-                if any((at + it.begin) // 4 * 4 in mixed for at in record.begins)
+                member.name
+                for member in record.members
+                if any((at + member.begin) // 4 * 4 in mixed for at in record.begins)
             ]
             if len(own) > 1:
                 return f"put `{attribute(line)}` behind each of {', '.join(own)}"
@@ -213,41 +213,47 @@ class Keys:
     def __init__(self, members: Sequence[Member], found: dict[str, Pattern]) -> None:
         self.found = found
         self.first: dict[Key, str] = {}
-        for it in members:
-            if self.kind(it) == "shared":
-                self.first.setdefault(self.harts(it), it.name)
+        for member in members:
+            if self.kind(member) == "shared":
+                self.first.setdefault(self.harts(member), member.name)
 
-    def kind(self, it: Member) -> str:
-        kinds = {one.kind for one in self.found[it.name]} - {"none"}
+    def kind(self, member: Member) -> str:
+        kinds = {one.kind for one in self.found[member.name]} - {"none"}
         return next((one for one in ("shared", "read", "own") if one in kinds), "none")
 
-    def harts(self, it: Member) -> Key:
-        return tuple(one.harts for one in self.found[it.name])
+    def harts(self, member: Member) -> Key:
+        return tuple(one.harts for one in self.found[member.name])
 
-    def alone(self, it: Member) -> Key:
+    def alone(self, member: Member) -> Key:
         """What harts share is alone; what they only read, and what each has for itself, is a group."""
         return (
-            ("shared", it.name)
-            if self.kind(it) == "shared"
-            else (self.kind(it), *(self.harts(it) if self.kind(it) == "own" else ()))
+            ("shared", member.name)
+            if self.kind(member) == "shared"
+            else (self.kind(member), *(self.harts(member) if self.kind(member) == "own" else ()))
         )
 
-    def by_writer(self, it: Member) -> Key:
+    def by_writer(self, member: Member) -> Key:
         """The same, and what harts share by who writes it."""
-        return ("shared", *self.harts(it)) if self.kind(it) == "shared" else self.alone(it)
+        return (
+            ("shared", *self.harts(member)) if self.kind(member) == "shared" else self.alone(member)
+        )
 
-    def together(self, it: Member) -> Key:
+    def together(self, member: Member) -> Key:
         """The same, and all that harts share as one."""
-        return ("shared",) if self.kind(it) == "shared" else self.alone(it)
+        return ("shared",) if self.kind(member) == "shared" else self.alone(member)
 
-    def with_writer(self, it: Member) -> Key:
+    def with_writer(self, member: Member) -> Key:
         """What harts share with what its writer has for itself."""
-        return ("of", *self.harts(it)) if self.kind(it) in ("shared", "own") else self.alone(it)
+        return (
+            ("of", *self.harts(member))
+            if self.kind(member) in ("shared", "own")
+            else self.alone(member)
+        )
 
-    def with_first(self, it: Member) -> Key:
+    def with_first(self, member: Member) -> Key:
         """What a hart has for itself with the first of what it writes for others."""
-        is_writers = self.kind(it) == "own" and self.harts(it) in self.first
-        return ("shared", self.first[self.harts(it)]) if is_writers else self.alone(it)
+        is_writers = self.kind(member) == "own" and self.harts(member) in self.first
+        return ("shared", self.first[self.harts(member)]) if is_writers else self.alone(member)
 
 
 def groupings(members: Sequence[Member], found: dict[str, Pattern]) -> list[list[list[Member]]]:
@@ -271,8 +277,8 @@ def grouped(
 ) -> list[list[Member]]:
     """The fields by their keys, in the order of their firsts; those that nobody uses go to what is only read, or else behind the rest."""
     groups: dict[Key, list[Member]] = {}
-    for it in used:
-        groups.setdefault(key(it), []).append(it)
+    for member in used:
+        groups.setdefault(key(member), []).append(member)
     if groups and unused:
         into = groups.get(("read",)) or list(groups.values())[-1]
         into.extend(unused)
@@ -314,14 +320,16 @@ def alone(subjects: Sequence[Subject], line: int) -> Repair:
     room = 0
     edits: list[Edit] | None = []
     told: list[str] = []
-    for it in subjects:
-        own, size = moved(it, Change(line))
+    for subject in subjects:
+        own, size = moved(subject, Change(line))
         parts += [Part(one.begin, one.size, one.to + room) for one in own]
         room = rounded(room + size, line)
-        place = users(it.die) if it.die is not None else None
-        told.append(it.name + at(place))
+        place = users(subject.die) if subject.die is not None else None
+        told.append(subject.name + at(place))
         edits = (
-            [*edits, AlignVariable(place, it.name, line)] if edits is not None and place else None
+            [*edits, AlignVariable(place, subject.name, line)]
+            if edits is not None and place
+            else None
         )
     names = ", ".join(told[:-1]) + (" and " if len(told) > 1 else "") + told[-1]
     how = f"`{attribute(line)}` behind {'the name of each' if len(told) > 1 else 'its name'}"
@@ -454,18 +462,18 @@ def repairs_of(subject: Subject, uses: Uses, line: int) -> list[Repair]:
 
     def add(make: Callable[[], Repair | None]) -> None:
         try:
-            it = make()
+            repair = make()
         except Unmovable:
             return
-        if it is not None and tuple(it.parts) not in seen and len(found) < MOST:
-            seen.add(tuple(it.parts))
-            found.append(it)
+        if repair is not None and tuple(repair.parts) not in seen and len(found) < MOST:
+            seen.add(tuple(repair.parts))
+            found.append(repair)
 
     for make in inner(subject, uses, line):
         add(make)
     if not subject.is_blocks():
         own = list(found) if subject.neighbours else []
         add(lambda: alone([subject, *subject.neighbours], line))
-        for it in own:
-            add(lambda it=it: joined(it, subject.neighbours, line))  # type: ignore[misc]
+        for repair in own:
+            add(lambda repair=repair: joined(repair, subject.neighbours, line))  # type: ignore[misc]
     return found

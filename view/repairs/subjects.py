@@ -157,10 +157,10 @@ def symbols_beside(view: View, thing: Thing) -> dict[Key, Symbol]:
     """The variables that lie on lines of an object, by their keys."""
     found: dict[Key, Symbol] = {}
     for spot in thing.spots:
-        for it in spot.rows():
-            key = key_of(it, view.naming, spot.base)
-            if isinstance(it, Symbol) and key != thing.key:
-                found.setdefault(key, it)
+        for obj in spot.rows():
+            key = key_of(obj, view.naming, spot.base)
+            if isinstance(obj, Symbol) and key != thing.key:
+                found.setdefault(key, obj)
     return found
 
 
@@ -180,9 +180,9 @@ def of_symbol(view: View, thing: Thing, symbol: Symbol) -> Subject:
 def of_blocks(view: View, thing: Thing, example: Block) -> Subject:
     ranges: set[tuple[int, int]] = set()
     for spot in thing.spots:
-        for it in spot.rows():
-            if isinstance(it, Block) and key_of(it, view.naming, spot.base) == thing.key:
-                ranges.add((it.addr, it.size))
+        for obj in spot.rows():
+            if isinstance(obj, Block) and key_of(obj, view.naming, spot.base) == thing.key:
+                ranges.add((obj.addr, obj.size))
     of = sound(lambda: view.naming.type_of_block(example), None)
     shape = Shape(of) if of is not None and size_of(of) else None
     return Subject(thing, view.label(thing), disjoint(ranges), shape)

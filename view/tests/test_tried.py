@@ -107,7 +107,7 @@ class Used(Folder):
 
     def test_the_front_of_a_long_trace(self):
         accesses = [(0, W, 0x2000, 4)] * 9 + [(1, W, 0x1000, 4), (2, W, 0x1004, 4)] * 200
-        with mock.patch.multiple("spelled", PART=16, FEW=4, MANY=4):
+        with mock.patch.multiple("view.reading.trace_files", PART=16, FEW=4, MANY=4):
             front = self.uses(*accesses).front
             self.assertEqual(self.uses(*accesses[:40]).front, b"")
         self.assertEqual(self.uses(*accesses).front, b"")
