@@ -128,13 +128,13 @@ try_completion() {
     completes "--sources --sarif --settings --set --schedule" view run p --s
     completes "--sources --sarif --settings --set --size --shift --save" view replay t --s
     completes "--sources --sarif --settings --set --size --shift" view native p --s
-    completes "" view run p --ba
+    completes "" view run p --ma
     completes "--sources --sarif --settings --set --schedule" view "$here/built/counters.elf" --s
-    completes "--back" view r --ba
+    completes "--map" view r --ma
     completes "--size --top --html --help" view sweep t --
     completes "--shape --top --html --help" view caches t --
-    completes "--back" view replay t --ba
-    completes "useless count" view run p --fail-above 3 --by ""
+    completes "--map" view replay t --ma
+    completes "false-sharing invalidations" view run p --fail-above 3 --by ""
     completes "run" view ru
     completes "--cores --check" campaign p.yaml --c
     completes "--trace --table" native --t

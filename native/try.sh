@@ -477,19 +477,19 @@ if /usr/bin/python3 -c 'import elftools, jinja2' 2>/dev/null && command -v llvm-
     has "view: a field" "counters[1].count" "$said"
     # (enough misses for a repair to be named)
     "$run" --quantum 100 --most 60000 --trace u -- ./counters >/dev/null 2>&1
-    has "view: its type" "by \`struct __attribute__((aligned(64))) own\` (counters.c:" "$(view replay u --settings few --explain 0 | tr -s '\n ' ' ')"
+    has "view: its type" "its own line: struct __attribute__((aligned(64))) own (counters.c:" "$(view replay u --settings few --explain 0 | tr -s '\n ' ' ')"
     "$run" --trace h -- ./heap
     said=$(view replay h --explain 0)
     has "view: a block" "block made at heap.c:13 < main" "$said"
     "$run" --built --trace b -- ./heap.tsan
     has "view: a block, built" "block made at heap.c:13 < main" "$(view replay b --explain 0)"
     has "view: a block's fields" ".sum" "$(view replay h --explain 0 --type heap.c:13=tally --words)"
-    has "view: another table" "isn't the table of this report" "$(view replay h --back b.table --explain 0)"
-    said=$(view replay t --back few)
+    has "view: another table" "b.table isn't the address map of this report and isn't used" "$(view replay h --map b.table --explain 0)"
+    said=$(view replay t --map few)
     same "view: no table: status" 2 "$?"
-    has "view: no table" "it is no table back" "$said"
+    has "view: no table" "few isn't an address map" "$said"
     has "view: a table that isn't there" "No such file" "$(view replay t --back nowhere)"
-    has "view: a run has no table" "'--back' is for" "$(view run x --back t.table)"
+    has "view: a run has no table" "'--map' applies to" "$(view run x --back t.table)"
     # What ends a call that records ends the program, and its screen is shown; an interrupt comes to the program from the terminal.
     for number in TERM HUP INT; do
         mkdir view-$number

@@ -25,7 +25,7 @@ from report import renew, table  # noqa: E402
 OUT = os.path.join(HERE, "out")
 ROWS = os.path.join(HERE, "first_rows.txt")
 # A row of a screen: its place, four numbers, and the object.
-ROW = re.compile(r"^ +([123])(?: +[0-9-]+){4}  (.*)$", re.MULTILINE)
+ROW = re.compile(r"^ *([123])(?: +[0-9,]+){4}  (.*(?:\n {30,}.*)*)$", re.MULTILINE)
 # What stands for a new folder, for a text in it, a folder of a thousand texts, sixty objects to be linked, a short film, and a server's
 # settings.
 FOLDER, TEXT, TREE, OBJECTS, FILM, CONFIG = "FOLDER", "TEXT", "TREE", "OBJECTS", "FILM", "CONFIG"
@@ -268,7 +268,7 @@ def is_named(name: str) -> bool:
 
 def named(name: str) -> str:
     """A row's object, without what tells it from others of its name and what lies beside it."""
-    name = re.sub(r" \(\d+ lives\).*|, beside .*", "", name)
+    name = re.sub(r" \([\d,]+ blocks\).*", "", " ".join(name.split()))
     return name if len(name) <= 200 else name[:200] + " .."
 
 
@@ -287,19 +287,19 @@ def row(study: Study, program: str) -> tuple[list[object], str]:
         for it in objects
         if any(what in it["name"] + json.dumps(it["sites"]) for what in study.looked_at)
     ]
-    known = sum(it["useless"] for it in objects if is_named(it["name"]))
-    is_clean = "nothing here is worth doing" in screen
+    known = sum(it["false_sharing"] for it in objects if is_named(it["name"]))
+    is_clean = "no change is worth it" in screen
     rows = "".join(f"  {place}  {named(name)}\n" for place, name in ROW.findall(screen))
     cells = [
         os.path.basename(program),
         f"{found['accesses']:,}",
         f"{size / found['accesses']:.1f}",
-        total["useful"],
-        total["useless"],
-        sum(it["useless"] for it in own) if own else "-",
-        f"{100 * known // total['useless']} %" if total["useless"] else "-",
+        total["true_sharing"],
+        total["false_sharing"],
+        sum(it["false_sharing"] for it in own) if own else "-",
+        f"{100 * known // total['false_sharing']} %" if total["false_sharing"] else "-",
     ]
-    return cells, f"{cells[0]}{': nothing here is worth doing' if is_clean else ''}\n{rows}"
+    return cells, f"{cells[0]}{': no change is worth it' if is_clean else ''}\n{rows}"
 
 
 def main(words: Sequence[str]) -> int:

@@ -20,7 +20,7 @@ if command -v g++ >/dev/null && names g++ names -g; then
     has "names: code without a name" "block made in libbare.so+0x" "$said"
     # (enough misses for repairs to be named)
     "$run" --quantum 5 --trace m -- ./names
-    has "names: a type" "by \`struct __attribute__((aligned(64))) Slot\` (names.cpp:" "$(view replay m --explain 0 --top 30 | tr -s '\n ' ' ')"
+    has "names: a type" "its own line: struct __attribute__((aligned(64))) Slot (names.cpp:" "$(view replay m --explain 0 --top 30 | tr -s '\n ' ' ')"
     has "names: whole in JSON" "app::detail::Table<std::__cxx11::basic_string<char,std::char_traits<char>,std::allocator<char> >" "$(cat n.json)"
     declared=$(python3 -c 'import json, sys; print(*{it["declared"]["line"] for it in json.load(sys.stdin)["objects"] if it["name"] == "app::Pool::shared"})' <n.json)
     same "names: a definition" "$(grep -n "^detail::Slot Pool::shared" "$here/tries/names.cpp" | cut -d: -f1)" "$declared"
@@ -56,8 +56,8 @@ if command -v rustc >/dev/null; then
     "$run" --trace n -- ./panics.bare
     said=$(view replay n --top 30 --json n.json --html n.html | tr -s '\n ' ' ')
     own="near a panic at own-1.0.0/src/panics.rs:" line=$(grep -n "near\[at\]" "$here/tries/panics.rs" | cut -d: -f1)
-    has "stripped Rust: what its names are" "is no place of the code itself, but one where its function may panic" "$said"
-    has "stripped Rust: an instruction" "(${own}$line) takes the line from panics.bare+0x" "$said"
+    has "stripped Rust: what its names are" "names a panic of the same function, not the instruction itself" "$said"
+    has "stripped Rust: an instruction" "(${own}$line) invalidates panics.bare+0x" "$said"
     has "stripped Rust: what is called" "(called $own" "$said"
     has "stripped Rust: a block" "(${own}$(grep -n "assert!" "$here/tries/panics.rs" | cut -d: -f1)) <" "$said"
     has "stripped Rust: the page" "(${own}$line)" "$(cat n.html)"
@@ -65,7 +65,7 @@ if command -v rustc >/dev/null; then
 import json
 
 objects = json.load(open("n.json"))["objects"]
-sides = [fight["taker"] for it in objects for fight in it["fights"] if fight["taker"]["panics"]]
+sides = [one["invalidator"] for it in objects for one in it["conflicts"] if one["invalidator"]["panics"]]
 own = [it for it in sides if "/own-1.0.0/" in it["panics"]["places"][0]["file"]]
 print(*sorted({f"called {it['panics']['called']}, file {it['file']!r}, line {it['line']}" for it in own}), sep="; ")
 END
@@ -85,7 +85,7 @@ if command -v go >/dev/null; then
     said=$(view replay n --top 30 --json n.json | tr -s '\n ' ' ')
     line=$(grep -n "t.sum += by" "$here/tries/golang.go" | cut -d: -f1)
     has "stripped Go: memory of the program" "memory used at golang.go:$line (main.(*tally).add < main.work)" "$said"
-    has "stripped Go: what is lacking" "golang.bare has Go's table of functions and lines, but no types, so fields are unknown" "$said"
+    has "stripped Go: what is lacking" "golang.bare has Go's function table but no types, so fields are unknown" "$said"
     same "stripped Go: nothing else is said" "" "$(grep -o "no debug information\|golang.bare+0x[0-9a-f]*" <<<"$said" | head -n 1)"
     has "stripped Go: JSON" "\"function\": \"main.(*tally).add\"" "$(tr -s '\n ' ' ' <n.json)"
 else

@@ -7,7 +7,7 @@ import re
 from typing import Callable, ClassVar, Literal, NamedTuple, TypeVar
 
 from view.faults import Fault
-from view.reading.file_kinds import other
+from view.reading.file_kinds import describe_other_text
 
 SIZES = [1 << it for it in range(2, 11)]
 ANY, MANY = r"-?0x[0-9a-f]{8,16}", r"\d{1,20}"
@@ -38,7 +38,7 @@ Verdict = Literal["false", "true", "mixed"]
 # The words of a line, one text for all lines.
 KINDS: dict[str, LineKind] = {"observed": "observed", "shifted": "shifted", "doubled": "doubled"}
 VERDICTS: dict[str, Verdict] = {"false": "false", "true": "true", "mixed": "mixed"}
-A = TypeVar("A", bound="Rows")
+AnyRows = TypeVar("AnyRows", bound="LineRows")
 
 
 class Site(NamedTuple):
@@ -76,27 +76,27 @@ class Word(NamedTuple):
         return self.reads + self.writes
 
 
-def bytes_of(name: str) -> bytes:
+def name_bytes(name: str) -> bytes:
     """The bytes of a name that is printed."""
     return re.sub(
         rb"\\x([0-9a-f]{2})", lambda escape: bytes([int(escape[1], 16)]), name.encode("latin-1")
     )
 
 
-class Rows:
+class LineRows:
     """The rows of a listed line in a text: `stands` are those that tell what stands on it, one text for all lines where it is the same, and
     its words are between two places."""
 
-    __slots__ = ("text", "stands", "begin", "end")
+    __slots__ = ("text", "object_rows", "begin", "end")
     # The call sites of blocks by their rows: blocks are many, and chains few.
     chains: ClassVar[dict[str, tuple[Site, ...]]] = {}
 
     def __init__(self, text: str, stands: str, begin: int, end: int) -> None:
-        self.text, self.stands, self.begin, self.end = text, stands, begin, end
+        self.text, self.object_rows, self.begin, self.end = text, stands, begin, end
 
     def objects(self) -> list[Symbol | Block]:
         """The symbols and the blocks on the line, in the report's order."""
-        return objects_of(self.stands)
+        return parse_objects(self.object_rows)
 
     def words(self) -> list[Word]:
         return [
@@ -112,7 +112,7 @@ class Rows:
         ]
 
 
-def objects_of(rows: str) -> list[Symbol | Block]:
+def parse_objects(rows: str) -> list[Symbol | Block]:
     """What some rows say that stands on a line."""
     found: list[Symbol | Block] = []
     for match in OBJECT.finditer(rows):
@@ -126,23 +126,23 @@ def objects_of(rows: str) -> list[Symbol | Block]:
                     int(length),
                     int(born),
                     None if died is None else int(died),
-                    chain(sites),
+                    parse_sites(sites),
                 )
             )
     return found
 
 
-def chain(rows: str) -> tuple[Site, ...]:
+def parse_sites(rows: str) -> tuple[Site, ...]:
     """The call sites that some rows tell."""
-    found = Rows.chains.get(rows)
+    found = LineRows.chains.get(rows)
     if found is None:
-        found = Rows.chains[rows] = tuple(
+        found = LineRows.chains[rows] = tuple(
             Site(int(addr, 16), name) for addr, name in SITE.findall(rows)
         )
     return found
 
 
-class Line(Rows):
+class Line(LineRows):
     """A listed line of a report."""
 
     __slots__ = ("kind", "base", "size", "start", "count", "verdict")
@@ -150,7 +150,7 @@ class Line(Rows):
     def __init__(
         self, text: str, stands: str, begin: int, end: int, fields: tuple[str, ...]
     ) -> None:
-        self.text, self.stands, self.begin, self.end = text, stands, begin, end
+        self.text, self.object_rows, self.begin, self.end = text, stands, begin, end
         kind, base, size, start, count, verdict, _ = fields
         self.kind, self.verdict = KINDS[kind], VERDICTS[verdict]
         self.base, self.size, self.start, self.count = (
@@ -161,7 +161,7 @@ class Line(Rows):
         )
 
 
-class Missed(Rows):
+class MissLine(LineRows):
     """A line of a count of misses."""
 
     __slots__ = ("base", "cold", "useful", "useless")
@@ -169,7 +169,7 @@ class Missed(Rows):
     def __init__(
         self, text: str, stands: str, begin: int, end: int, fields: tuple[str, ...]
     ) -> None:
-        self.text, self.stands, self.begin, self.end = text, stands, begin, end
+        self.text, self.object_rows, self.begin, self.end = text, stands, begin, end
         base, cold, useful, useless, _ = fields
         self.base, self.cold, self.useful, self.useless = (
             int(base, 16),
@@ -179,14 +179,14 @@ class Missed(Rows):
         )
 
 
-def listed(
+def parse_lines(
     text: str,
     pattern: re.Pattern[str],
-    kind: Callable[[str, str, int, int, tuple[str, ...]], A],
+    kind: Callable[[str, str, int, int, tuple[str, ...]], AnyRows],
     of: str,
-) -> tuple[list[A], int | None]:
+) -> tuple[list[AnyRows], int | None]:
     """The lines that a text lists, each with its rows, and where the text goes on behind them."""
-    found: list[A] = []
+    found: list[AnyRows] = []
     known: dict[str, str] = {}
     place = text.find("\nline ") + 1
     if not place:
@@ -202,30 +202,30 @@ def listed(
         found.append(kind(text, stands, match.end(last), end - 1, fields))
     if text.startswith(("line ", "object ", "site ", "word "), place):
         row, shown = text.count("\n", 0, place) + 1, text[place : place + 80].partition("\n")[0]
-        raise Fault(f"{of}: its row {row} is none that it may have: `{shown}`")
+        raise Fault(f"{of}, line {row}: unexpected `{shown}`")
     return found, place
 
 
-def head(text: str, of: str) -> dict[str, str]:
+def parse_head(text: str, of: str) -> dict[str, str]:
     """The first lines of a text, as a word and what follows it, and whether the text is whole."""
     fields: dict[str, str] = {}
     for row in text[:2000].split("\n")[1:8]:
         name, _, value = row.partition(" ")
         fields.setdefault(name, value)
     if "\nend\n" not in text[-2000:] and not re.search(r"^end$", text, re.MULTILINE):
-        raise Fault(f"{of}: it is cut: a whole one ends with a line `end`")
+        raise Fault(f"{of} is cut short: the last line `end` is missing")
     return fields
 
 
-def number(fields: dict[str, str], name: str, of: str) -> int:
+def head_number(fields: dict[str, str], name: str, of: str) -> int:
     if not re.fullmatch(MANY, fields.get(name, "")):
-        raise Fault(f"{of}: it has no line `{name} N` where a report has one")
+        raise Fault(f"{of} has no line `{name} N` in its head")
     return int(fields[name])
 
 
-def sites_of(text: str) -> set[int]:
+def site_addresses(text: str) -> set[int]:
     """The addresses of all call sites in a text."""
-    return {it.addr for rows in {it[0] for it in SITES.finditer(text)} for it in chain(rows)}
+    return {it.addr for rows in {it[0] for it in SITES.finditer(text)} for it in parse_sites(rows)}
 
 
 class Report:
@@ -235,21 +235,23 @@ class Report:
         self.text = text
         first = text[: text.find("\n") if "\n" in text else None]
         if not text or text.isspace():
-            raise Fault(f"{of}: it is empty, and no report")
+            raise Fault(f"{of} is empty")
         if first != "predator report 1":
             what = (
-                "a report of another version"
+                "has an unknown report version"
                 if re.fullmatch(r"predator report \d+", first)
-                else "no report"
+                else "isn't a report"
             )
-            if other(text):
-                raise Fault(f"{of}: it is no report, but {other(text)}")
-            raise Fault(f"{of}: it is {what}: its first line isn't `predator report 1`")
-        fields = head(text, of)
+            if describe_other_text(text):
+                raise Fault(f"{of} isn't a report but {describe_other_text(text)}")
+            raise Fault(f"{of} {what}: the first line isn't `predator report 1`")
+        fields = parse_head(text, of)
         self.outcome = fields.get("outcome", "")
         if not OUTCOME.fullmatch(self.outcome):
-            raise Fault(f"{of}: it has no outcome that a report has")
-        self.steps, self.accesses = number(fields, "steps", of), number(fields, "accesses", of)
+            raise Fault(f"{of} has no valid line `outcome`")
+        self.steps, self.accesses = head_number(fields, "steps", of), head_number(
+            fields, "accesses", of
+        )
         layout = re.fullmatch(rf"{NUMBER} {NUMBER}", fields.get("layout", ""))
         told = re.fullmatch(rf"{NUMBER} ({MANY}|none) {NUMBER}", fields.get("thresholds", ""))
         if (
@@ -258,30 +260,32 @@ class Report:
             or int(layout[1]) not in SIZES
             or int(layout[2]) >= int(layout[1])
         ):
-            raise Fault(f"{of}: it has no layout or no thresholds that a report has")
+            raise Fault(f"{of} has no valid line `layout` or `thresholds`")
         self.size, self.offset = int(layout[1]), int(layout[2])
         self.thresholds = told.groups()
-        self.lines, place = listed(text, LINE, Line, of)
-        if len(self.lines) != number(fields, "lines", of):
-            raise Fault(f"{of}: it tells of {fields['lines']} lines and has {len(self.lines)}")
+        self.lines, place = parse_lines(text, LINE, Line, of)
+        if len(self.lines) != head_number(fields, "lines", of):
+            raise Fault(
+                f"{of}: the header says {fields['lines']} lines, the file has {len(self.lines)}"
+            )
         if {(it.kind == "doubled", it.size) for it in self.lines} - {
             (False, self.size),
             (True, 2 * self.size),
         }:
-            raise Fault(f"{of}: it has lines of another size than its layout says")
+            raise Fault(f"{of} has lines of another size than its layout")
         # What native/predator-native prints behind a report: where a call site stands.
-        self.where = {int(it[1], 16): it[2] for it in WHERE.finditer(text, place or 0)}
+        self.site_places = {int(it[1], 16): it[2] for it in WHERE.finditer(text, place or 0)}
 
     def ended_well(self) -> bool:
         return self.outcome == "exit 0"
 
     def sites(self) -> set[int]:
-        return sites_of(self.text)
+        return site_addresses(self.text)
 
     def observed(self) -> list[Line]:
         return [it for it in self.lines if it.kind == "observed"]
 
-    def at(self) -> dict[int, Line]:
+    def observed_by_base(self) -> dict[int, Line]:
         """The observed lines by their bases."""
         return {it.base: it for it in self.observed()}
 
@@ -298,40 +302,46 @@ class Misses:
             r"^total cold (\d+) useful (\d+) useless (\d+)\nend\n", text, re.MULTILINE
         )
         if not found or not total:
-            raise Fault(f"{of}: it isn't what `misses` prints")
+            raise Fault(f"{of}: unexpected output of `predator misses`")
         self.size, self.offset, self.accesses = (int(it) for it in found.groups()[:3])
-        self.text, self.lines = text, {it.base: it for it in listed(text, MISSES, Missed, of)[0]}
+        self.text, self.lines = text, {
+            it.base: it for it in parse_lines(text, MISSES, MissLine, of)[0]
+        }
         self.total = {
             name: int(count) for name, count in zip(("cold", "useful", "useless"), total.groups())
         }
         if len(self.lines) != int(found[4]):
-            raise Fault(f"{of}: it tells of {found[4]} lines and has {len(self.lines)}")
+            raise Fault(f"{of}: the header says {found[4]} lines, the text has {len(self.lines)}")
 
     def sites(self) -> set[int]:
-        return sites_of(self.text)
+        return site_addresses(self.text)
 
 
-class Pair(NamedTuple):
+class InstructionPair(NamedTuple):
     """Two instructions: the second one takes the line from the first so often, so often for one word."""
 
     victim: int
-    taker: int
-    taken: int
-    same: int
+    invalidator: int
+    times: int
+    same_word_times: int
 
 
-class Takings(NamedTuple):
+class LineInvalidations(NamedTuple):
     """What takes a line: pairs of instructions, and how often each hart takes it from which."""
 
     base: int
-    pairs: list[Pair]
+    pairs: list[InstructionPair]
     harts: dict[tuple[int, int], int]
 
 
-def takings(base: int, rows: str) -> Takings:
+def parse_invalidations(base: int, rows: str) -> LineInvalidations:
     """What the rows of a line say that take it."""
-    pairs = [Pair(int(a, 16), int(b, 16), int(c), int(d)) for a, b, c, d in PAIR.findall(rows)]
-    return Takings(base, pairs, {(int(a), int(b)): int(c) for a, b, c in FROM.findall(rows)})
+    pairs = [
+        InstructionPair(int(a, 16), int(b, 16), int(c), int(d)) for a, b, c, d in PAIR.findall(rows)
+    ]
+    return LineInvalidations(
+        base, pairs, {(int(a), int(b)): int(c) for a, b, c in FROM.findall(rows)}
+    )
 
 
 class Blame:
@@ -342,29 +352,29 @@ class Blame:
             r"predator blame 1\naccesses (\d+)\nlayout (\d+) (\d+)\nlines (\d+)\n", text
         )
         if not head or not re.search(r"^total takings \d+\nend\n\Z", text[-80:], re.MULTILINE):
-            raise Fault(f"{of}: it isn't what `blame` prints")
+            raise Fault(f"{of}: unexpected output of `predator blame`")
         self.accesses, self.text = int(head[1]), text
         self.places = {int(it[1], 16): it.span() for it in TAKEN.finditer(text)}
         if len(self.places) != int(head[4]):
-            raise Fault(f"{of}: it tells of {head[4]} lines and has {len(self.places)}")
+            raise Fault(f"{of}: the header says {head[4]} lines, the text has {len(self.places)}")
 
-    def takings(self, base: int) -> Takings | None:
+    def invalidations(self, base: int) -> LineInvalidations | None:
         place = self.places.get(base)
-        return takings(base, self.text[slice(*place)]) if place else None
+        return parse_invalidations(base, self.text[slice(*place)]) if place else None
 
 
-class Explained:
+class Explanation:
     """What `explain` says of a line."""
 
     def __init__(self, text: str, of: str = "explain") -> None:
         if not text.startswith("predator explain 1\n") or not text.endswith("\nend\n"):
-            raise Fault(f"{of}: it isn't what `explain` prints")
+            raise Fault(f"{of}: unexpected output of `predator explain`")
         line = re.search(rf"^line {ADDRESS} (\d+) start (\d+) count (\d+)$", text, re.MULTILINE)
         steps, accesses = (
             re.search(rf"^{it} (\d+)$", text, re.MULTILINE) for it in ("steps", "accesses")
         )
         if not line or not steps or not accesses:
-            raise Fault(f"{of}: it isn't what `explain` prints")
+            raise Fault(f"{of}: unexpected output of `predator explain`")
         self.base, self.size, self.start, self.count = (
             int(line[1], 16),
             int(line[2]),
@@ -372,15 +382,15 @@ class Explained:
             int(line[4]),
         )
         self.steps, self.accesses = int(steps[1]), int(accesses[1])
-        self.takings = takings(self.base, text)
-        self.pairs, self.harts = self.takings.pairs, self.takings.harts
+        self.invalidations = parse_invalidations(self.base, text)
+        self.pairs, self.harts = self.invalidations.pairs, self.invalidations.harts
         sites = re.findall(
             rf"^site {ADDRESS} reads (\d+) writes (\d+) (hart \d+|many) (\S+)$", text, re.MULTILINE
         )
         self.sites = {int(it[0], 16): (int(it[1]), int(it[2]), it[3], it[4]) for it in sites}
 
 
-class Placed:
+class Placement:
     """What `place` says: where an object lies, where its words go, by their old places, with whose they are, and how often all lines are
     taken before and after."""
 
@@ -390,7 +400,7 @@ class Placed:
             rf"^before {NUMBER}\nafter {NUMBER}\nmany {NUMBER}\nend\n", text, re.MULTILINE
         )
         if not head or not counts:
-            raise Fault(f"{of}: it isn't what `place` prints")
+            raise Fault(f"{of}: unexpected output of `predator place`")
         self.name, self.addr, self.line = head[1], int(head[2], 16), int(head[4])
         words = re.findall(rf"^word {ADDRESS} to {ADDRESS} (?:hart )?(\w+)$", text, re.MULTILINE)
         self.words = {int(it, 16): (int(to, 16), hart) for it, to, hart in words}

@@ -12,7 +12,7 @@ import tempfile
 import unittest
 import warnings
 
-from calling import HERE, PROGRAM, built, has, view
+from calling import HERE, PROGRAM, built, has, joined, view
 
 with warnings.catch_warnings():
     warnings.simplefilter("ignore")
@@ -73,7 +73,9 @@ class Files(unittest.TestCase):
         jsonschema.validate(found, schema(), cls=jsonschema.Draft202012Validator)
         self.assertEqual([it["kind"] for it in found["objects"]], ["symbol", "stack", "symbol"])
         self.assertEqual(found["objects"][0]["declared"], {"file": "odd.c", "line": 22})
-        self.assertEqual(sum(it["useless"] for it in found["objects"]), found["total"]["useless"])
+        self.assertEqual(
+            sum(it["false_sharing"] for it in found["objects"]), found["total"]["false_sharing"]
+        )
         found["more"] = 1
         with self.assertRaises(jsonschema.ValidationError):
             jsonschema.validate(found, schema(), cls=jsonschema.Draft202012Validator)
@@ -167,10 +169,15 @@ class Predicted(unittest.TestCase):
                 found = json.load(file)["predicted"]
             self.assertTrue(found)
             for it in found:
-                self.assertEqual(it["shown"], it["useless"] > it["inside"] and not it["why"])
+                more = it["false_sharing"] > it["observed_false_sharing"]
+                self.assertEqual(it["shown"], more and not it["reason"])
             self.assertEqual({it["kind"] for it in found if it["shown"]}, {"doubled"})
-            self.assertTrue(any("can't come to lie so" in it["why"] for it in found))
-            self.assertIn("with lines of 128 bytes", text)
+            self.assertTrue(
+                any("the data's alignment rules it out" in it["reason"] for it in found)
+            )
+            self.assertIn(
+                "with 128-byte lines at 0x00011000, 1,189 false-sharing misses instead of 0", text
+            )
             told = [
                 it
                 for it in sarif(f"{path}.sarif")["results"]
@@ -192,7 +199,7 @@ print(len({it.addr: it for it in (Word(int(it[1], 16), int(it[2]), int(it[3])) f
 # So many times as long may view take at most. (It takes twice as long.)
 TIMES = 4
 # What view does with it; its folder is the first word.
-SHOWS = "import sys; sys.argv[0:1] = []; sys.path.insert(0, sys.argv[0]); from view import main; main.main(sys.argv[1:])"
+SHOWS = "import sys; sys.argv[0:1] = []; sys.path.insert(0, sys.argv[0]); from view from view import main; main.main(sys.argv[1:])"
 
 
 class Ran:
@@ -246,8 +253,10 @@ class Large(unittest.TestCase):
             for _ in range(2):
                 read, shown = Ran(READS, path), Ran(SHOWS, os.path.join(HERE, "..", ".."), path)
                 self.assertEqual(read.text, f"{2 * lines}\n")
-                self.assertIn(f"{7 * lines // 8}  table", shown.text)
-                self.assertIn("block made in work < begin, by 0x00010408 (25000 lives)", shown.text)
+                self.assertIn(f"{7 * lines // 8:,}  table", shown.text)
+                self.assertIn(
+                    "block made in work < begin, by 0x00010408 (25,000 blocks)", joined(shown.text)
+                )
                 self.assertLess(shown.memory, 1 << 20)
                 if shown.seconds < TIMES * read.seconds:
                     break
@@ -288,18 +297,19 @@ class Program(unittest.TestCase):
                     if not is_tried and has(PROGRAM, "move")
                     else ()
                 ):
-                    it["todo"] = it["repaired"] = None
+                    it["fix"] = it["tried"] = it["who"] = None
                 if is_tried:
                     self.assertEqual(text, told)
                     self.assertIn(
-                        "counted so: useless 2147 before, 0 after", " ".join(told.split())
+                        "tried misses false 2,147 → 0, true 0 → 0, invalidations 1,833 → 0",
+                        " ".join(told.split()),
                     )
                 by_name = [
                     sorted(it.pop("objects"), key=lambda it: it["key"]) for it in (found, wanted)
                 ]
                 self.assertEqual(*by_name, name)
                 notes = [
-                    [row for row in it.pop("notes") if not row.startswith("all that is to do")]
+                    [row for row in it.pop("notes") if not row.startswith("all fixes together")]
                     for it in (found, wanted)
                 ]
                 self.assertEqual((one, found, notes[0]), (other, wanted, notes[1]), name)

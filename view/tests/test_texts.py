@@ -1,4 +1,4 @@
-"""What is read: reports, counts of misses, what explains a line, the words of a call, and what is said of bad ones."""
+"""The texts that view reads: reports, counts of misses, explained lines, the arguments of a call, and the messages for bad ones."""
 
 import functools
 import os
@@ -13,8 +13,8 @@ from view.reading.calls import Call  # noqa: E402
 from view.output.drawings import visible  # noqa: E402
 from view.faults import Fault, plain  # noqa: E402
 from view.output.page import PLACE  # noqa: E402
-from view.reading.recording import parted  # noqa: E402
-from view.reading.reports import Explained, Misses, Report  # noqa: E402
+from view.reading.recording import split_words  # noqa: E402
+from view.reading.reports import Explanation, Misses, Report  # noqa: E402
 
 HEAD = "predator report 1\noutcome exit 0\nsteps 3\naccesses 3\nlayout 64 0\nthresholds 1 64 1\n"
 ROWS = """line observed 0x00001000 64 start 0 count 2 verdict false
@@ -74,7 +74,7 @@ class Texts(unittest.TestCase):
 
     def test_report_behind_which_sites_are_told(self):
         self.assertEqual(
-            Report(WHOLE + "where 0x000100b0 /home/me/kinds.c:59\n").where,
+            Report(WHOLE + "where 0x000100b0 /home/me/kinds.c:59\n").site_places,
             {0x100B0: "/home/me/kinds.c:59"},
         )
 
@@ -82,22 +82,39 @@ class Texts(unittest.TestCase):
         self.assertEqual(Report(HEAD + "lines 0\nend\n").lines, [])
 
     def test_bad_reports(self):
-        self.fault("", "empty")
-        self.fault("\n", "empty")
-        self.fault("predator report 2\nend\n", "another version")
-        self.fault("\x7fELF", "no report")
-        self.fault("PRDTRC01\1", "no report, but a trace: `predator view replay -`")
-        self.fault('{"format": 1}', "no report, but what --json wrote")
-        self.fault("PRDSTA01", "no report, but a saved state")
-        self.fault("predator: trace BadMagic\n", "no report")
+        self.fault("", "r is empty")
+        self.fault("\n", "r is empty")
+        self.fault(
+            "predator report 2\nend\n", "r has an unknown report version: the first line isn't"
+        )
+        self.fault("\x7fELF", "r isn't a report: the first line isn't `predator report 1`")
+        self.fault(
+            "PRDTRC01\1", "r isn't a report but a trace: use `predator view replay -` to read one"
+        )
+        self.fault(
+            '{"format": 1}', "r isn't a report but JSON of `predator view --json`: use `--against`"
+        )
+        self.fault("PRDSTA01", "r isn't a report but a saved state: use `predator replay --resume`")
+        self.fault("predator: trace BadMagic\n", "r isn't a report: ")
         for cut in range(30, len(WHOLE) - 4, 11):
-            self.fault(WHOLE[:cut], "r: ")
-        self.fault(HEAD + "lines 3\n" + ROWS + "end\n", "tells of 3 lines and has 2")
-        self.fault(WHOLE.replace("exit 0", "exit well"), "no outcome")
-        self.fault(WHOLE.replace("layout 64 0", "layout 64"), "no layout")
-        self.fault(WHOLE.replace("layout 64 0", "layout 63 0"), "no layout")
-        self.fault(WHOLE.replace("layout 64 0", "layout 64 64"), "no layout")
-        self.fault(WHOLE.replace("steps 3", "steps \xb2"), "no line `steps N`")
+            self.fault(WHOLE[:cut], "r is cut short: the last line `end` is missing")
+        self.fault(
+            HEAD + "lines 3\n" + ROWS + "end\n", "r: the header says 3 lines, the file has 2"
+        )
+        self.fault(WHOLE.replace("exit 0", "exit well"), "r has no valid line `outcome`")
+        self.fault(
+            WHOLE.replace("layout 64 0", "layout 64"),
+            "r has no valid line `layout` or `thresholds`",
+        )
+        self.fault(
+            WHOLE.replace("layout 64 0", "layout 63 0"),
+            "r has no valid line `layout` or `thresholds`",
+        )
+        self.fault(
+            WHOLE.replace("layout 64 0", "layout 64 64"),
+            "r has no valid line `layout` or `thresholds`",
+        )
+        self.fault(WHOLE.replace("steps 3", "steps \xb2"), "r has no line `steps N` in its head")
         self.fault(
             WHOLE.replace("0x00001000 64 start", "0x00001000 32 start"), "lines of another size"
         )
@@ -109,8 +126,10 @@ class Texts(unittest.TestCase):
         ):
             rows = WHOLE.split("\n")
             rows[row - 1] = bad
-            self.fault("\n".join(rows), f"its row {row} is none that it may have: `{bad}`")
-        self.fault(WHOLE.replace("count 2", f"count {'9' * 5000}"), "r: ")
+            self.fault("\n".join(rows), f"r, line {row}: unexpected `{bad}`")
+        self.fault(
+            WHOLE.replace("count 2", f"count {'9' * 5000}"), "r, line 8: unexpected `line observed"
+        )
 
     def test_where_rows_end(self):
         for row, wanted in (
@@ -139,13 +158,13 @@ class Texts(unittest.TestCase):
                 Misses(bad)
 
     def test_explained(self):
-        found = Explained(EXPLAINED)
+        found = Explanation(EXPLAINED)
         self.assertEqual((found.base, found.count, found.accesses), (0x11000, 9, 19))
         self.assertEqual(tuple(found.pairs[0]), (0x10044, 0x10044, 5, 2))
         self.assertEqual(found.harts, {(0, 1): 1, (0, 2): 8})
         self.assertEqual(found.sites[0x10004], (0, 1, "hart 0", "-"))
         with self.assertRaises(Fault):
-            Explained(EXPLAINED[:-4])
+            Explanation(EXPLAINED[:-4])
 
     def test_names_on_a_terminal(self):
         self.assertEqual(plain("a\x1b[31mb\nc"), "a\\x1b[31mb\\nc")
@@ -173,33 +192,33 @@ class Words(unittest.TestCase):
                 "--words",
             ]
         )
-        self.assertEqual((call.how, call.subject, call.program), ("run", "p.elf", "p.elf"))
+        self.assertEqual((call.action, call.subject, call.program), ("run", "p.elf", "p.elf"))
         self.assertEqual(
             call.words, ["p.elf", "--settings", "s", "--trace=t", "--set", "quantum=1"]
         )
         self.assertEqual(call.settings_words(), ["--settings", "s", "--set", "quantum=1"])
         self.assertEqual(
-            call.words_to_run(), ["run", "p.elf", "--settings", "s", "--set", "quantum=1"]
+            call.rerun_words(), ["run", "p.elf", "--settings", "s", "--set", "quantum=1"]
         )
         self.assertEqual(
-            (call.number("top", 10), call.value_of("--trace"), "words" in call.options),
+            (call.number_option("top", 10), call.option_value("--trace"), "words" in call.options),
             (3, "t", True),
         )
 
     def test_words_of_the_guest(self):
         call = Call(["run", "--top=3", "p.elf", "--settings", "s", "--", "--words", "a"])
         self.assertEqual(
-            (call.subject, call.words, call.own),
+            (call.subject, call.words, call.guest_words),
             ("p.elf", ["p.elf", "--settings", "s"], ["--", "--words", "a"]),
         )
         self.assertEqual(
-            (call.words_to_run(), "words" in call.options),
+            (call.rerun_words(), "words" in call.options),
             (["run", "p.elf", "--settings", "s"], False),
         )
 
     def test_others(self):
         self.assertEqual(Call(["replay", "t", "--program", "p"]).program, "p")
-        self.assertEqual(Call(["r.report"]).how, "file")
+        self.assertEqual(Call(["r.report"]).action, "file")
         self.assertEqual(Call(["run", "--", "-p.elf"]).subject, "-p.elf")
         self.assertEqual(
             Call(["run", "p", "--type", "a.c:7=node", "--type=b=c"]).options["type"],
@@ -209,15 +228,17 @@ class Words(unittest.TestCase):
     def test_sweeps(self):
         call = Call(["sweep", "t", "--size", "64", "--html=f"])
         self.assertEqual(
-            (call.how, call.subject, call.words), ("sweep", "t", ["t", "--size", "64"])
+            (call.action, call.subject, call.words), ("sweep", "t", ["t", "--size", "64"])
         )
-        self.assertIn("a sweep is of lines of a size", self.refused("sweep", "t"))
+        self.assertEqual(
+            "`view sweep` needs a line size, such as '--size 64'", self.refused("sweep", "t")
+        )
         self.assertIn(
-            "'--json' isn't for `view sweep`, which takes --html",
+            "`view sweep` has no option '--json'; it takes --html, --top",
             self.refused("sweep", "t", "--size=64", "--json=f"),
         )
         self.assertIn(
-            "'--shift' is no option of view sweep",
+            "view sweep has no option '--shift'",
             self.refused("sweep", "t", "--size=64", "--shift", "4"),
         )
 
@@ -230,65 +251,86 @@ class Words(unittest.TestCase):
                     file.write(head)
             call = Call([at("guest"), "--set", "quantum=3", "--top", "2", "--", "--words"])
             self.assertEqual(
-                (call.how, call.program, call.own, call.options["top"]),
+                (call.action, call.program, call.guest_words, call.options["top"]),
                 ("run", at("guest"), ["--", "--words"], "2"),
             )
             self.assertEqual(call.words, [at("guest"), "--set", "quantum=3"])
-            self.assertEqual(Call([at("trace"), "--size=32"]).how, "replay")
+            self.assertEqual(Call([at("trace"), "--size=32"]).action, "replay")
             call = Call(["--quantum", "10", "--all", at("own"), "--size", "32", "--", "a"])
             self.assertEqual(
-                (call.how, call.named, call.own, call.marks),
+                (call.action, call.named, call.guest_words, call.recorder_flags),
                 ("native", at("own"), ["--", "a"], ["--all"]),
             )
-            self.assertEqual(parted(call.words, at("own")), (["--quantum", "10"], ["--size", "32"]))
+            self.assertEqual(
+                split_words(call.words, at("own")), (["--quantum", "10"], ["--size", "32"])
+            )
             call = Call(["native", "--all", "--", at("own"), "a", "--b"])
             self.assertEqual(
-                (call.subject, call.own, call.marks), (at("own"), ["--", "a", "--b"], ["--all"])
+                (call.subject, call.guest_words, call.recorder_flags),
+                (at("own"), ["--", "a", "--b"], ["--all"]),
             )
             strange = (
                 ("run", "trace", "a trace"),
-                ("run", "own", "a program of this machine"),
-                ("replay", "guest", "a program"),
+                ("run", "own", "a native program"),
+                ("replay", "guest", "a program for RV32"),
             )
             for how, name, said in strange:
                 self.assertIn(
-                    f"{at(name)} is {said}: `predator view {at(name)}`", self.refused(how, at(name))
+                    f"{at(name)} is {said}: use `predator view {at(name)}`",
+                    self.refused(how, at(name)),
                 )
             self.assertIn(
-                "'--quantum' is no option of view run", self.refused(at("guest"), "--quantum", "10")
+                "view run has no option '--quantum'", self.refused(at("guest"), "--quantum", "10")
             )
             self.assertIn(
-                "'--all' is for a program of this machine", self.refused(at("guest"), "--all")
+                "'--all' applies to native programs only", self.refused(at("guest"), "--all")
             )
             self.assertIn(
-                "'--sources' is a folder", self.refused(at("guest"), "--sources", at("trace"))
+                "'--sources' takes a folder, and ",
+                self.refused(at("guest"), "--sources", at("trace")),
             )
 
     def test_refusals(self):
         self.assertIn(
-            "'--saves=1' is no option of view replay; did you mean `--save`?",
+            "view replay has no option '--saves=1'; did you mean `--save`?",
             self.refused("replay", "t", "--saves=1"),
         )
-        near = "names no key of the settings; did you mean `quantum`? the keys are: harts"
+        near = "'--set quantom=3': there is no setting 'quantom'; did you mean `quantum`? the settings are harts, "
         self.assertIn(near, self.refused("run", "p", "--set=quantom=3"))
         self.assertIn(
-            "'x=3' in --set names no key of the settings; the keys are",
+            "'--set x=3': there is no setting 'x'; the settings are harts, ",
             self.refused("run", "p", "--set", "quantum=1,x=3"),
         )
-        self.assertIn("a report is wanted", self.refused())
-        self.assertIn("a program is wanted", self.refused("run", "--top", "3"))
-        self.assertIn("'b' is one word more", self.refused("a", "b"))
-        self.assertIn("'--top' is a number", self.refused("a", "--top", "many"))
-        self.assertIn("stands twice", self.refused("a", "--top=1", "--top=2"))
-        self.assertIn("a value is required", self.refused("a", "--top"))
-        self.assertIn("'--fast=1' is no option", self.refused("a", "--fast=1"))
-        self.assertIn("`useless` or `count`", self.refused("a", "--by", "size"))
-        self.assertIn("SITE=TYPE", self.refused("a", "--type", "node"))
-        self.assertIn("wants the types of a program", self.refused("a", "--type", "a.c:7=node"))
-        self.assertIn("'--fail-above' is a number", self.refused("a", "--fail-above", "9" * 5000))
-        self.assertIn("'--fail-above' is a number", self.refused("a", "--fail-above", "\u0663"))
-        self.assertIn("is for '--fail-above'", self.refused("a", "--by", "count"))
-        self.assertIn("named already", self.refused("run", "p", "--program", "q"))
+        self.assertIn("missing argument: a report\n", self.refused())
+        self.assertIn("missing argument: a program\n", self.refused("run", "--top", "3"))
+        self.assertIn("unexpected argument 'b'\n", self.refused("a", "b"))
+        self.assertIn("'--top' takes a number, not 'many'", self.refused("a", "--top", "many"))
+        self.assertIn("'--top' is given twice", self.refused("a", "--top=1", "--top=2"))
+        self.assertIn("'--map' is given twice", self.refused("a", "--map=1", "--back=2"))
+        self.assertIn("'--top' needs a value", self.refused("a", "--top"))
+        self.assertIn("view has no option '--fast=1'", self.refused("a", "--fast=1"))
+        self.assertIn(
+            "'--by' takes false-sharing or invalidations, not 'size'",
+            self.refused("a", "--by", "size"),
+        )
+        self.assertIn(
+            "'--json-version' takes 1 or 2, not '3'", self.refused("a", "--json-version", "3")
+        )
+        self.assertIn("'--json-version' needs '--json'", self.refused("a", "--json-version", "1"))
+        self.assertIn("'--type' takes SITE=TYPE, such as", self.refused("a", "--type", "node"))
+        self.assertIn(
+            "'--type' needs a program's types: name the program with '--program'",
+            self.refused("a", "--type", "a.c:7=node"),
+        )
+        self.assertIn(
+            "'--fail-above' takes a number", self.refused("a", "--fail-above", "9" * 5000)
+        )
+        self.assertIn("'--fail-above' takes a number", self.refused("a", "--fail-above", "\u0663"))
+        self.assertIn("'--by' needs '--fail-above'", self.refused("a", "--by", "count"))
+        self.assertIn(
+            "'--program' applies to a trace or a report, not to `view run`",
+            self.refused("run", "p", "--program", "q"),
+        )
 
     def test_what_pages_are_given(self):
         self.assertEqual(visible("a\tb\n\x1b[1m\u202e\x00é"), "a\tb\n\\x1b[1m\\u202e\\x00é")

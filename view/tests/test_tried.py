@@ -1,4 +1,4 @@
-"""Repairs that are tried before they are named: whose words are, where they would lie, and what is said of it."""
+"""Repairs that are tried before they are named: whose words are, where they would lie, and the fix as a sentence."""
 
 import contextlib
 import io
@@ -18,26 +18,26 @@ sys.path[:0] = [os.path.join(HERE, "..", ".."), os.path.join(HERE, "..", "..", "
 
 from view import main  # noqa: E402
 from view.repairs import patches  # noqa: E402
-from view.reading.trace_prefix import accesses_of, cut  # noqa: E402
+from view.reading.trace_prefix import trace_accesses, write_prefix  # noqa: E402
 from view.names.fields import Program  # noqa: E402
 from judge_report import Access, Case, Ending, trace_of  # noqa: E402
 from view.repairs.layouts import (  # noqa: E402
-    Change,
-    Part,
+    LayoutChange,
+    MovedRange,
     Shape,
     Unmovable,
     arrays_in,
-    in_words,
-    laid,
-    members_of,
+    to_whole_words,
+    lay_out,
+    record_members,
 )
-from view.repairs.candidates import Repair, groupings  # noqa: E402
-from view.reading.trace_files import Uses  # noqa: E402
-from view.repairs.subjects import UNUSED, Whose, whose  # noqa: E402
+from view.repairs.candidates import Repair, field_groupings  # noqa: E402
+from view.reading.trace_files import WordUses  # noqa: E402
+from view.repairs.subjects import UNUSED, Sharing, sharing_of  # noqa: E402
 from traces import Access as Accessed  # noqa: E402
 from traces import Alloc, Symbol, placed, records, with_pcs  # noqa: E402
-from view.repairs.trial_results import Counted, Tried  # noqa: E402
-from view.repairs.trials import free, table, together_of  # noqa: E402
+from view.repairs.trial_results import TrialCount, Trial  # noqa: E402
+from view.repairs.trials import free_places, move_table, join_repairs  # noqa: E402
 
 
 class Folder(unittest.TestCase):
@@ -64,7 +64,7 @@ class Folder(unittest.TestCase):
             64,
             None,
         )
-        return Uses(self.path("trace", trace_of(case)))
+        return WordUses(self.path("trace", trace_of(case)))
 
 
 W, R = True, False
@@ -81,10 +81,12 @@ class Used(Folder):
             (1, W, 0x1000, 4),
             *after,
         )
-        self.assertEqual({hart: tuple(it) for hart, it in uses.of(0x1000).items()}, {1: (1, 2, 15)})
-        self.assertEqual(list(uses.of(0x2000)), [0])
-        self.assertEqual(whose(uses, 0x1000, 4), Whose("own", frozenset({1})))
-        self.assertEqual(whose(uses, 0x3000, 64), UNUSED)
+        self.assertEqual(
+            {hart: tuple(it) for hart, it in uses.users_of(0x1000).items()}, {1: (1, 2, 15)}
+        )
+        self.assertEqual(list(uses.users_of(0x2000)), [0])
+        self.assertEqual(sharing_of(uses, 0x1000, 4), Sharing("own", frozenset({1})))
+        self.assertEqual(sharing_of(uses, 0x3000, 64), UNUSED)
 
     def test_one_hart_alone_is_no_thread(self):
         self.assertEqual(self.uses(*[(0, W, 0x1000, 4)] * 9).words, {})
@@ -97,13 +99,15 @@ class Used(Folder):
             (70, Alloc(0x3000, 16, sites)),
         ]
         uses = self.uses(*([(0, W, 0x1000, 4), (1, R, 0x1004, 4)] * 100), others=others)
-        self.assertEqual((uses.of(0x1000)[0].writes, uses.of(0x1004)[1].reads), (99, 100))
+        self.assertEqual(
+            (uses.users_of(0x1000)[0].writes, uses.users_of(0x1004)[1].reads), (99, 100)
+        )
 
     def test_a_look_is_no_use(self):
         uses = self.uses((1, W, 0x1000, 4), *[(2, R, 0x1000, 4)] * 300, *[(3, R, 0x1000, 4)] * 300)
-        self.assertEqual(whose(uses, 0x1000, 4), Whose("read", frozenset()))
+        self.assertEqual(sharing_of(uses, 0x1000, 4), Sharing("read", frozenset()))
         uses = self.uses(*[(1, W, 0x1000, 4), (2, R, 0x1000, 4)] * 40)
-        self.assertEqual(whose(uses, 0x1000, 4), Whose("shared", frozenset({1})))
+        self.assertEqual(sharing_of(uses, 0x1000, 4), Sharing("shared", frozenset({1})))
 
     def test_the_front_of_a_long_trace(self):
         accesses = [(0, W, 0x2000, 4)] * 9 + [(1, W, 0x1000, 4), (2, W, 0x1004, 4)] * 200
@@ -128,15 +132,17 @@ class Used(Folder):
 
     def test_free_places(self):
         self.assertEqual(
-            list(free([0x1000, 0x12FFC], 64)), [0xC0000000, 0x80000000, 0x40000000, 0x13000, 0]
+            list(free_places([0x1000, 0x12FFC], 64)),
+            [0xC0000000, 0x80000000, 0x40000000, 0x13000, 0],
         )
         self.assertEqual(
-            list(free([0, 0x5000, 0x40000FFC, 0x80000000, 0xC0001000, 0xFFFFFFFC], 0x4000)),
+            list(free_places([0, 0x5000, 0x40000FFC, 0x80000000, 0xC0001000, 0xFFFFFFFC], 0x4000)),
             [0x1000],
         )
-        self.assertEqual(list(free(range(0, 1 << 32, 4096), 4096)), [])
+        self.assertEqual(list(free_places(range(0, 1 << 32, 4096), 4096)), [])
         self.assertEqual(
-            table([Part(8, 4, 64), Part(4, 4, 0)], 0x1000), "0x4 4 0x1000\n0x8 4 0x1040\n"
+            move_table([MovedRange(8, 4, 64), MovedRange(4, 4, 0)], 0x1000),
+            "0x4 4 0x1000\n0x8 4 0x1040\n",
         )
 
 
@@ -155,9 +161,9 @@ class Cut(Folder):
         third = with_pcs(first, lambda access, before: (before * 5 + access.addr) % 2**32)
         for trace in (first, third):
             path, out = self.path("whole", trace), self.path("part")
-            self.assertEqual(accesses_of(path), 5000)
+            self.assertEqual(trace_accesses(path), 5000)
             for most in (1, 1024, 2000, 9999):
-                found = cut(path, most, out)
+                found = write_prefix(path, most, out)
                 self.assertTrue(min(most, 5000) <= found <= min(most + 1024, 5000))
                 with open(out, "rb") as file:
                     own = file.read()
@@ -165,8 +171,8 @@ class Cut(Folder):
                 self.assertEqual(told, whole[: len(told)])
                 self.assertEqual(sum(isinstance(it, Accessed) for *_, it in told), found)
                 self.assertEqual(own[-25:-8], b"\6\4" + bytes(15))
-                self.assertEqual(accesses_of(out), found)
-        self.assertEqual(accesses_of(self.path("none", b"PRDTRC01")), 0)
+                self.assertEqual(trace_accesses(out), found)
+        self.assertEqual(trace_accesses(self.path("none", b"PRDTRC01")), 0)
 
     @unittest.skipUnless(has(PROGRAM, "misses", "move"), "the program isn't built, or has no move")
     def test_a_screen_of_a_long_trace(self):
@@ -194,18 +200,18 @@ class Cut(Folder):
                 self.assertEqual(main.main(words), 0)
         shown = joined(text.getvalue())
         found = re.search(
-            r"counted so in the first (\d+(?:,\d+)?) accesses: useless (\d+) before, (\d+) after; useful (\d+), \d+;",
+            r"tried misses false (\d+) → (\d+), true (\d+) → \d+, invalidations \d+ → \d+ \(first (\d+(?:,\d+)?) accesses\)",
             shown,
         )
-        accesses, useless, after, useful = (int(it.replace(",", "")) for it in found.groups())
-        self.assertEqual(cut(trace, accesses, part), accesses)
+        useless, after, useful, accesses = (int(it.replace(",", "")) for it in found.groups())
+        self.assertEqual(write_prefix(trace, accesses, part), accesses)
         total = subprocess.run(
             [PROGRAM, "misses", part], capture_output=True, text=True, check=True
         ).stdout
         self.assertIn(f" useful {useful} useless {useless}\n", total)
         self.assertTrue(1000 < accesses < 2111 and after < useless / 5, shown)
-        said = "note: of a long trace repairs are counted in its first part, and predicted lines left out, unless `--words` asks for all "
-        said += "note: of a long trace without pcs the instructions that fight are unknown, unless `--explain N` asks: each takes a run "
+        said = "note: the trace is long: fixes were tried on its first part, predicted lines weren't counted; --words does both in full "
+        said += "note: the trace is long and has no program counters: --explain N finds the instructions of N objects, with a run each "
         self.assertIn(said, shown)
 
 
@@ -242,31 +248,31 @@ class LaidOut(Folder):
     def test_as_the_compiler_lays_it_out(self):
         shape = Shape(self.program(SOURCE).type_named("struct all"))
         record = shape.record()
-        members = {it.name: it for it in members_of(record)}
+        members = {it.name: it for it in record_members(record)}
         # (a number of eight bytes is one field, and so is a union)
         self.assertEqual([*members], ["first", "value", "sum", "inner", "next", "marks", "last"])
         groups = [
             [members[it] for it in own]
             for own in (("sum", "first"), ("inner", "value", "marks"), ("next", "last"))
         ]
-        change = Change(64)
-        change.parted[record.offset] = groups
-        found = laid(shape, change)
+        change = LayoutChange(64)
+        change.grouped_fields[record.offset] = groups
+        found = lay_out(shape, change)
         place = SimpleNamespace(file=self.path("all.c"), line=4)
         edits = [patches.OrderFields(place, "all", groups, 64)]
-        ((_, (_, text)),) = patches.applied(edits, patches.text_of).items()
+        ((_, (_, text)),) = patches.apply_edits(edits, patches.read_source).items()
         after = Shape(self.program(text).type_named("struct all"))
         self.assertEqual(found.size, after.size())
-        wanted = {members[it.name].begin: it.begin for it in members_of(after.record())}
+        wanted = {members[it.name].begin: it.begin for it in record_members(after.record())}
         self.assertEqual({it.begin: it.to for it in found.parts if it.begin in wanted}, wanted)
         self.assertIn("/* a number */\n    uint64_t sum;\n", text)
 
     def test_elements_that_fill_lines(self):
         program = self.program(SOURCE)
         variable = next(it for it in self.variables(program) if it.name == "all")
-        change = Change(64)
-        change.aligned.add(Shape(program.type_named("struct all")).record().offset)
-        found = laid(Shape(variable.type), change)
+        change = LayoutChange(64)
+        change.aligned_records.add(Shape(program.type_named("struct all")).record().offset)
+        found = lay_out(Shape(variable.type), change)
         text = SOURCE.replace("struct all {", "struct __attribute__((aligned(64))) all {")
         self.assertEqual(
             found.size,
@@ -276,7 +282,7 @@ class LaidOut(Folder):
         )
 
     def variables(self, program):
-        program.scan()
+        program.scan_variables()
         return program.variables.values()
 
     def test_rows(self):
@@ -286,36 +292,36 @@ class LaidOut(Folder):
         self.assertEqual(
             (first.path, first.shape.size(), first.begins[:3]), ("[]", 84, [0, 84, 168])
         )
-        change = Change(64)
-        change.wrapped.add("[]")
-        self.assertEqual(laid(grid, change).size, 6 * 128)
-        self.assertIsNone(members_of(Shape(program.type_named("struct odd")).record()))
+        change = LayoutChange(64)
+        change.wrapped_arrays.add("[]")
+        self.assertEqual(lay_out(grid, change).size, 6 * 128)
+        self.assertIsNone(record_members(Shape(program.type_named("struct odd")).record()))
 
     def test_words(self):
         self.assertEqual(
-            in_words([Part(0, 4, 64), Part(4, 2, 68), Part(8, 4, 0)]),
-            [Part(0, 8, 64), Part(8, 4, 0)],
+            to_whole_words([MovedRange(0, 4, 64), MovedRange(4, 2, 68), MovedRange(8, 4, 0)]),
+            [MovedRange(0, 8, 64), MovedRange(8, 4, 0)],
         )
         for parts in (
-            [Part(0, 1, 0), Part(1, 1, 64)],
-            [Part(0, 4, 2)],
-            [Part(0, 2, 0), Part(2, 2, 66)],
+            [MovedRange(0, 1, 0), MovedRange(1, 1, 64)],
+            [MovedRange(0, 4, 2)],
+            [MovedRange(0, 2, 0), MovedRange(2, 2, 66)],
         ):
-            self.assertRaises(Unmovable, in_words, parts)
+            self.assertRaises(Unmovable, to_whole_words, parts)
 
     def test_several_repairs(self):
-        first, second = Repair([], [Part(8, 8, 0), Part(32, 4, 64)], 128, None), Repair(
-            [], [Part(0, 36, 0), Part(40, 4, 64)], 128, None
+        first, second = Repair([], [MovedRange(8, 8, 0), MovedRange(32, 4, 64)], 128, None), Repair(
+            [], [MovedRange(0, 36, 0), MovedRange(40, 4, 64)], 128, None
         )
         parts = [
-            Part(0, 8, 128),
-            Part(8, 8, 0),
-            Part(16, 16, 144),
-            Part(32, 4, 64),
-            Part(40, 4, 192),
+            MovedRange(0, 8, 128),
+            MovedRange(8, 8, 0),
+            MovedRange(16, 16, 144),
+            MovedRange(32, 4, 64),
+            MovedRange(40, 4, 192),
         ]
-        self.assertEqual(together_of([first, second], 64), Repair([], parts, 256, None))
-        self.assertEqual(together_of([first, first], 64).parts, first.parts)
+        self.assertEqual(join_repairs([first, second], 64), Repair([], parts, 256, None))
+        self.assertEqual(join_repairs([first, first], 64).parts, first.parts)
 
 
 class Grouped(unittest.TestCase):
@@ -323,17 +329,17 @@ class Grouped(unittest.TestCase):
         members = [SimpleNamespace(name=it) for it in found]
         return [
             [[it.name for it in own] for own in way]
-            for way in groupings(members, {it: (own,) for it, own in found.items()})
+            for way in field_groupings(members, {it: (own,) for it, own in found.items()})
         ]
 
     def test_groups_of_fields(self):
         def shared(*harts):
-            return Whose("shared", frozenset(harts))
+            return Sharing("shared", frozenset(harts))
 
         own, other, read = (
-            Whose("own", frozenset({1})),
-            Whose("own", frozenset({2})),
-            Whose("read", frozenset()),
+            Sharing("own", frozenset({1})),
+            Sharing("own", frozenset({2})),
+            Sharing("read", frozenset()),
         )
         ways = self.ways(
             head=shared(1), tail=shared(2), seen_tail=own, seen_head=other, room=read, name=UNUSED
@@ -350,9 +356,9 @@ class Grouped(unittest.TestCase):
 class Patched(Folder):
     def patch(self, text, *edits):
         path = self.path("a.c", text)
-        return patches.applied(
+        return patches.apply_edits(
             [it._replace(place=SimpleNamespace(file=path, line=it.place)) for it in edits],
-            patches.text_of,
+            patches.read_source,
         )[path][1]
 
     def test_records(self):
@@ -398,7 +404,9 @@ class Patched(Folder):
             ("struct a *f(int b);\nstruct c x = {1};", False),
         ):
             self.assertEqual(
-                patches.OrderFields(None, "a", [], 64).by_position(text.split("\n")), wanted, text
+                patches.OrderFields(None, "a", [], 64).has_positional_values(text.split("\n")),
+                wanted,
+                text,
             )
 
     def test_the_last_line_may_have_no_end(self):
@@ -427,41 +435,71 @@ class Patched(Folder):
 
 
 class Sentences(unittest.TestCase):
-    def tried(self, useless, useful, accesses, after=None, many=1, own_there=None):
-        before = Counted({"useless": useless, "useful": useful}, 9)
-        found = Tried(
-            SimpleNamespace(useless=useless, useful=useful), before, accesses, own_there=own_there
+    def tried(self, useless, useful, accesses, after=None, many=1, own_there=None, quantum=0):
+        before = TrialCount({"useless": useless, "useful": useful}, 9)
+        found = Trial(
+            SimpleNamespace(useless=useless, useful=useful),
+            before,
+            accesses,
+            own_misses_in_part=own_there,
         )
         if after:
-            found.repair, found.many = Repair(["do it"], [], 64, None), many
-            found.after = Counted(dict(zip(("useless", "useful"), after)), 2)
-        return found.sentence("queue", []) if found.knows() else None
+            found.repair, found.tried_repairs = Repair(["do it"], [], 64, None), many
+            found.after = TrialCount(dict(zip(("useless", "useful"), after)), 2)
+        return (found.fix([], quantum), found.outcome(False)) if found.is_decisive() else None
 
     def test_what_was_counted(self):
-        told = "do it; counted so: useless 2188 before, 23 after; useful 2457, 2458; by the report's rule 9, 2"
-        self.assertEqual(self.tried(2188, 2457, 90000, (23, 2458)), told)
+        told = "misses false 2,188 → 23, true 2,457 → 2,458, invalidations 9 → 2"
+        self.assertEqual(self.tried(2188, 2457, 90000, (23, 2458)), ("do it", told))
 
     def test_what_was_counted_of_a_part(self):
-        told = "do it; counted so in the first 90,000 accesses: useless 2188 before, 23 after; useful 2457, 2458; by the report's rule 9, 2"
-        self.assertEqual(self.tried(2188, 2457, 90000, (23, 2458), own_there=4645), told)
-        told = "the one repair that was counted saves 3 of 4000 misses in the first 90,000 accesses"
-        self.assertIn(told, self.tried(2188, 2457, 90000, (2185, 2457), own_there=4000))
+        told = "misses false 2,188 → 23, true 2,457 → 2,458, invalidations 9 → 2 (first 90,000 accesses)"
+        self.assertEqual(self.tried(2188, 2457, 90000, (23, 2458), own_there=4645), ("do it", told))
+        none = "none: no layout change helps on this trace; write shared data less often"
+        told = "one layout, which saves 3 of 4,000 misses (first 90,000 accesses)"
+        self.assertEqual(self.tried(2188, 2457, 90000, (2185, 2457), own_there=4000), (none, told))
+
+    def test_the_other_way(self):
+        before = TrialCount({"useless": 900, "useful": 10}, 9)
+        found = Trial(SimpleNamespace(useless=900, useful=10), before, 9000)
+        other = Repair(["do that"], [], 64, None)
+        found.repair = Repair(["do it"], [], 64, None, None, (), (16, 1024), other)
+        found.after = TrialCount({"useless": 0, "useful": 10}, 2)
+        told = "misses false 900 → 0, true 10 → 10, invalidations 9 → 2"
+        self.assertEqual(found.fix([]), "do it, 16 → 1,024 bytes in all")
+        self.assertEqual(found.outcome(False), told)
+        found.other = TrialCount({"useless": 3, "useful": 10}, 2)
+        other = "misses false 900 → 3, true 10 → 10, invalidations 9 → 2"
+        self.assertEqual(found.outcome(False), f"{told}; or do that: {other}")
+
+    def test_bytes_of_words(self):
+        before = TrialCount({"useless": 0, "useful": 900}, 9)
+        found = Trial(SimpleNamespace(useless=0, useful=900), before, 9000)
+        found.instead = "pad it"
+        told = "pad it, then run again, because threads use different bytes of a, b and misses are counted per 4-byte word"
+        self.assertEqual((found.fix(["a", "b"]), found.outcome(True)), (told, ""))
+        found.repair = Repair(["do it"], [], 64, None)
+        found.after = TrialCount({"useless": 0, "useful": 10}, 2)
+        self.assertEqual(found.fix(["a", "b"]), f"do it; for the rest {told}")
 
     def test_nothing_to_do(self):
         self.assertEqual(
-            self.tried(100, 41, 22_900_000), "nothing to do: 141 of 22,900,000 accesses miss"
+            self.tried(100, 41, 22_900_000), ("none needed: 141 of 22,900,000 accesses miss", "")
         )
-        self.assertIn(
-            "the one repair that was counted saves 3 of 4645 misses",
-            self.tried(2188, 2457, 90000, (2185, 2457)),
+        none = "none: no layout change helps"
+        self.assertEqual(
+            self.tried(2188, 2187, 90000, (2185, 2187), quantum=100),
+            (
+                f"{none} at this interleaving (quantum 100)",
+                "one layout, which saves 3 of 4,375 misses",
+            ),
         )
-        told = self.tried(0, 900, 9000, (0, 990), 4)
-        self.assertIn(
-            "nothing by putting words elsewhere: the best of 4 repairs that were counted saves 0 of 900 misses",
-            told,
-        )
-        self.assertIn(
-            "what harts hand to each other in queue costs less where it is written less often", told
+        self.assertEqual(
+            self.tried(0, 900, 9000, (0, 990), 4),
+            (
+                f"{none} on this trace; write shared data less often",
+                "4 layouts, the best saves 0 of 900 misses",
+            ),
         )
         self.assertIsNone(self.tried(900, 0, 9000))
 
@@ -483,25 +521,29 @@ class Screens(unittest.TestCase):
             self.assertEqual((status, said), (0, ""))
             text = joined(text)
             self.assertIn(
-                "give each element of stats lines of its own by `struct __attribute__((aligned(64))) stats` (ring.c:24)",
+                "fix give each element of stats its own line: struct __attribute__((aligned(64))) stats (ring.c:24), "
+                "16 → 64 bytes each, 64 → 256 bytes in all tried",
                 text,
             )
             self.assertIn(
-                "counted so: useless 342 before, 44 after; useful 314, 314; by the report's rule 658, 359",
+                "tried misses false 342 → 44, true 314 → 314, invalidations 658 → 359 2 44 314",
                 text,
             )
             # (what it says where nothing is moved is what it says else)
             self.assertNotIn("place", text)
-            self.assertNotIn("counted so", view(*words)[1])
+            self.assertNotIn("tried", view(*words)[1])
             status, _, said = view(*words, "--patch", patch)
             self.assertEqual((status, "a predator with `move`" in said), (2, True))
 
     def test_what_a_run_says_is_heard(self):
-        says = "predator: no hart was free for the last thread that was to start: `harts` is 8, and in the settings it may be up to 256\n"
+        says = "predator: the last thread could not start: all 8 harts are in use (setting `harts`, at most 256)\n"
         words = ("run", built("ring.elf"), *TURNS, "--explain", "0", "--fail-above", "9999")
         status, text, said = view(*words, STAND_IN_HAS="move", STAND_IN_SAYS=says)
         self.assertEqual((status, said.startswith(says), said.count(says)), (3, True, 1))
-        self.assertIn("note: no hart was free for the last thread that was to start", joined(text))
+        self.assertIn(
+            "note: the last thread never ran, because all 8 harts were in use: use `--set harts=16`",
+            joined(text),
+        )
         self.assertEqual(view(*words, STAND_IN_HAS="move", STAND_IN_PUTS="put out")[2], "put out\n")
 
     def test_a_trace_is_read_as_a_run_is(self):
@@ -517,9 +559,9 @@ class Screens(unittest.TestCase):
             _, replay, _ = view(
                 "replay", trace, "--program", built("shards.elf"), *words, STAND_IN_HAS="move"
             )
-            (one, other) = (re.search("to do .*", joined(it))[0] for it in (run, replay))
+            (one, other) = (re.search(" fix .*", joined(it))[0] for it in (run, replay))
             self.assertEqual(one, other)
-            self.assertIn("useless 2147 before, 0 after; useful 0, 0", one)
+            self.assertIn("tried misses false 2,147 → 0, true 0 → 0, invalidations 1,833 → 0", one)
 
 
 if __name__ == "__main__":

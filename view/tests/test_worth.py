@@ -1,4 +1,4 @@
-"""What misses may be worth in time, and what kinds of instructions take a line."""
+"""The severity of misses, and the kinds of invalidations by their instructions."""
 
 import json
 import os
@@ -8,8 +8,9 @@ import sys
 import tempfile
 import unittest
 from types import SimpleNamespace
+from unittest import mock
 
-from calling import HERE, PROGRAM, STAND_IN, built, has, joined, view
+from calling import HERE, PROGRAM, STAND_IN, TOP, built, has, joined, view
 
 sys.path[:0] = [os.path.dirname(os.path.dirname(HERE))]
 
@@ -22,14 +23,20 @@ from view.model.instruction_pairs import (  # noqa: E402
     LOAD,
     STORE,
     UNKNOWN,
-    all_that_do,
-    kind_of,
-    kinds_of,
-    told,
+    parse_effects,
+    pair_kind,
+    count_kinds,
+    describe_kinds,
 )
 from view.model.view import View  # noqa: E402
 from view.names.naming import Naming  # noqa: E402
-from view.reading.reports import Misses, Pair, Report, Takings, Word  # noqa: E402
+from view.reading.reports import (  # noqa: E402
+    Misses,
+    InstructionPair,
+    Report,
+    LineInvalidations,
+    Word,
+)
 
 REPORT = "predator report 1\noutcome exit 0\nsteps {}\naccesses 2000\nlayout 64 0\nthresholds 16 64 100\nlines 0\nend\n"
 LINE = "line 0x0001{} cold 2 useful {} useless {}\nobject symbol {} 0x0001{} 64\n"
@@ -69,8 +76,11 @@ a:	file format elf64-x86-64
 """
 
 
+SEVERE = "severe: padding typically makes such programs 1.8 to 2.6 times faster"
+
+
 def misses_of(*lines):
-    """A count of lines, each by its place, useful and useless misses, and its object."""
+    """A count of lines, each by its place, true-sharing and false-sharing misses, and its object."""
     rows = "".join(
         LINE.format(at, useful, useless, name, at) for at, useful, useless, name in lines
     )
@@ -79,11 +89,11 @@ def misses_of(*lines):
 
 
 def view_of(*lines, steps=1000, words=("run", "p"), alternating=None):
-    """What is seen of a run with some misses, and of the same one in turns of one step."""
+    """A view of a run with some misses, and of the same one at quantum 1."""
     report = Report(REPORT.format(steps))
     made = View(SimpleNamespace(**vars_of(words)), report, Naming(report))
     made.misses = misses_of(*lines)
-    made.arrange()
+    made.group_by_objects()
     made.worth = miss_rates.Worth(made, None)
     if alternating:
         made.worth.known, made.worth.alternating = True, miss_rates.Alternating(
@@ -96,7 +106,14 @@ def view_of(*lines, steps=1000, words=("run", "p"), alternating=None):
 def vars_of(words):
     """A call without its file."""
     call = Call.__new__(Call)
-    call.how, call.options, call.own, call.marks, call.given, call.spare = (
+    (
+        call.action,
+        call.options,
+        call.guest_words,
+        call.recorder_flags,
+        call.engine_options,
+        call.run_trace,
+    ) = (
         words[0],
         {"type": [], "shape": []},
         [],
@@ -122,15 +139,24 @@ class InTime(unittest.TestCase):
             [0, 0, 1, 1, 2, 2, 3, 3],
         )
         self.assertEqual(BANDS[0].least, 0)
+        self.assertEqual([it.severity for it in BANDS], ["low", "moderate", "high", "severe"])
         self.assertEqual(len({it.told for it in BANDS}), len(BANDS))
+
+    def test_the_numbers_of_the_bands_are_those_of_the_studies(self):
+        with open(os.path.join(TOP, "docs", "STUDIES.md"), encoding="utf-8") as file:
+            table = file.read().partition("<!-- clock -->\n")[2].partition("\n\n| Study")[0]
+        rows = [[it.strip() for it in row.split("|")[1:-1]] for row in table.split("\n") if row]
+        middle = [at for at, it in enumerate(rows[0]) if it == "middle"]
+        for band, row in zip(BANDS[1:], rows[3:], strict=True):
+            medians = [float(row[at]) for at in middle]
+            told = f"{min(medians):.1f} to {max(medians):.1f} times faster"
+            self.assertTrue(band.told.endswith(told), (band.told, told))
+            self.assertIn(f"{band.least:g}", row[0])
+        self.assertTrue(all(float(rows[2][at]) <= 1 for at in middle))
 
     def test_bound(self):
         self.assertEqual(at_most(0, 140, 0.4), 0)
         self.assertAlmostEqual(at_most(10, 40, 0.4), 0.5)
-        self.assertEqual(
-            [miss_rates.percent(it) for it in (0, 0.001, 0.014, 0.5, 1)],
-            ["0%", "less than 1%", "1%", "50%", "100%"],
-        )
 
     def test_a_run(self):
         own = view_of(
@@ -138,46 +164,46 @@ class InTime(unittest.TestCase):
             ("1040", 5, 2, "few"),
             alternating=(4000, ("1000", 1, 100, "many")),
         )
-        self.assertEqual((own.worth.rate(9), own.worth.unit()), (9.0, "steps"))
-        most = at_most(100 / 4, 140, 0.4)
-        how = "by 140 ns for each in turns of one step, 0.4 ns for a step: a bound and no estimate"
-        bound = f"at most {100 * most:.0f}% of the time, {how}"
+        self.assertEqual((own.worth.rate(9), own.worth.unit()), (9.0, "instructions"))
+        self.assertEqual(own.worth.total(), f"9.00 false per 1,000 instructions ({SEVERE})")
+        self.assertEqual(own.worth.at_most(), at_most(100 / 4, 140, 0.4))
+        many, few = own.objects
         self.assertEqual(
-            own.worth.total(),
-            f"9.00 useless misses by 1000 steps: fought over in every turn; {bound}",
+            [own.worth.band(it.useless).severity for it in (many, few)], ["high", "moderate"]
         )
-        many, few = own.things
+        # (this run has more than the one at quantum 1)
+        self.assertAlmostEqual(own.worth.at_most(few), at_most(2, 140, 0.4))
+        self.assertEqual(
+            own.worth.warning(few, []),
+            "; may not pay: most misses on its worst line are true sharing",
+        )
+        self.assertEqual(own.worth.warning(many, []), "")
         self.assertTrue(
-            own.worth.told(many).startswith(
-                "7.00 useless misses by 1000 steps: padding often pays: measure; at most 90%"
+            own.details(few).fix.endswith(
+                "may not pay: most misses on its worst line are true sharing"
             )
         )
-        # (what is seen is more than in turns of one step)
-        self.assertAlmostEqual(own.worth.at_most(few), at_most(2, 140, 0.4))
-        self.assertIn(
-            "; most misses of its worst line are useful, so a pad may cost time",
-            own.worth.told(few),
-        )
-        self.assertNotIn("a pad may cost time", own.worth.told(many))
 
-    def test_turns_that_the_study_has_not(self):
+    def test_an_interleaving_that_the_studies_have_not(self):
         for words in (["--set", "quantum=3"], ["--set", "seed=2"], ["--schedule", "f"]):
             own = view_of(("1000", 1, 7, "many"), words=("run", "p", *words))
             self.assertIsNone(own.worth.band(7), words)
-            self.assertEqual(own.worth.total(), "7.00 useless misses by 1000 steps")
+            self.assertEqual(own.worth.total(), "7.00 false per 1,000 instructions")
         own = view_of(("1000", 1, 7, "many"), words=("replay", "t"))
         self.assertEqual(
             own.worth.total(),
-            "7.00 useless misses by 1000 steps: padding often pays: measure, if turns had 100 steps",
+            f"7.00 false per 1,000 instructions (high if recorded at quantum 100: {BANDS[2].told})",
         )
         own = view_of(("1000", 1, 7, "many"), steps=0, words=("replay", "t"))
-        self.assertEqual(own.worth.total(), "3.50 useless misses by 1000 accesses")
+        self.assertEqual(own.worth.total(), "3.50 false per 1,000 accesses")
+        own = view_of(("1000", 7, 0, "many"))
+        self.assertEqual(own.worth.total(), "")
         own.misses = None
-        self.assertEqual((own.worth.total(), own.worth.told(own.things[0])), ("", ""))
+        self.assertEqual(own.worth.total(), "")
 
     def test_the_words_of_a_run_in_turns_of_one_step(self):
         def words_of(*words):
-            return miss_rates.in_turns_of_one(SimpleNamespace(**vars_of(("run", *words))))
+            return miss_rates.count_at_quantum_one(SimpleNamespace(**vars_of(("run", *words))))
 
         self.assertEqual(words_of("p"), ["run", "--set", "quantum=1,seed=0", "p"])
         self.assertEqual(
@@ -216,9 +242,9 @@ class InTime(unittest.TestCase):
             file.write(REPORT.format(3))
             file.flush()
             status, _, said = view(file.name, "--latency", "100")
-        self.assertEqual((status, "'--latency' is for `view run`" in said), (2, True))
+        self.assertEqual((status, "'--latency' applies to `view run` only" in said), (2, True))
         status, _, said = view("run", built("ring.elf"), "--latency", "1.5")
-        self.assertEqual((status, "'--latency' is a number, and not '1.5'" in said), (2, True))
+        self.assertEqual((status, "'--latency' takes a number, not '1.5'" in said), (2, True))
 
 
 class OnTheScreen(unittest.TestCase):
@@ -234,19 +260,38 @@ class OnTheScreen(unittest.TestCase):
                 found = json.load(file)
         time, first = found["time"], found["objects"][0]
         self.assertEqual(
-            (time["by"], time["latency"], time["alternating"]["steps"]), ("steps", 70, 6107)
+            (time["per"], time["severity"], time["latency_ns"], time["quantum_1"]["instructions"]),
+            ("instructions", "severe", 70, 6107),
         )
         self.assertEqual(
-            time["most"], round(at_most(1000 * time["alternating"]["useless"] / 6107, 70, 0.4), 4)
+            time["upper_bound"],
+            round(at_most(1000 * time["quantum_1"]["false_sharing"] / 6107, 70, 0.4), 4),
         )
+        self.assertIn(f"{time['rate']:.2f} false per 1,000 instructions ({SEVERE})", joined(text))
+        kinds = {"atomic": 0, "read_write": 0, "write_write": 61, "unknown": 0}
+        self.assertEqual(first["invalidation_kinds"], kinds)
+        self.assertEqual({it["kind"] for it in first["conflicts"]}, {"write_write"})
         self.assertIn(
-            f"time: {time['rate']:.2f} useless misses by 1000 steps: fought over in every turn; at most",
+            "(write after write); in all 61 write → write; the line is hardly read, so store buffers hide most of them who",
             joined(text),
         )
-        self.assertEqual(first["takings"], {"atomic": 0, "load": 0, "store": 61, "unknown": 0})
-        self.assertEqual({it["kind"] for it in first["fights"]}, {"store"})
-        self.assertIn("takings 61 by stores over stores: the line is hardly read", joined(text))
-        self.assertIn("never for the same word; from a load takings", joined(text))
+        self.assertIn(
+            "(write after read); in all 31 read → write, 30 write → write who", joined(text)
+        )
+
+    def test_a_bound_is_counted_for_json_alone(self):
+        own = view_of(("1000", 1, 7, "many"))
+        for options, is_begun in (
+            ({}, False),
+            ({"json": "f"}, True),
+            ({"json": "f", "latency": "0"}, False),
+        ):
+            own.call.options.update(options)
+            with mock.patch("view.model.miss_rates.counted", lambda *_: "a count"):
+                found = miss_rates.begin_count(
+                    own.call, SimpleNamespace(has=lambda _: True), (64, 0)
+                )
+            self.assertEqual(found is not None and found.result(), is_begun and "a count")
 
 
 @unittest.skipUnless(has(PROGRAM, "misses", "explain"), "the program isn't built")
@@ -256,7 +301,7 @@ class OnTheScreenOfTheProgram(OnTheScreen):
 
 class Kinds(unittest.TestCase):
     def test_riscv(self):
-        found = all_that_do(RISCV, range(0x10340, 0x10368, 4))
+        found = parse_effects(RISCV, range(0x10340, 0x10368, 4))
         self.assertNotIn(0x10340, found)
         self.assertNotIn(0x10358, found)
         self.assertEqual([at for at, it in found.items() if it.is_atomic], [0x1034C, 0x10354])
@@ -267,7 +312,7 @@ class Kinds(unittest.TestCase):
         self.assertEqual([at for at, it in found.items() if not it.reads], [0x10344, 0x1035C])
 
     def test_x86(self):
-        found = all_that_do(X86, range(0x1129, 0x1170))
+        found = parse_effects(X86, range(0x1129, 0x1170))
         self.assertEqual(
             [at for at, it in found.items() if it.is_atomic],
             [0x1129, 0x1144, *range(0x115E, 0x1163)],
@@ -282,7 +327,7 @@ class Kinds(unittest.TestCase):
         self.assertEqual(stores, [0x1136, 0x1150, 0x1151, *range(0x1154, 0x1159)])
 
     def test_pairs(self):
-        known = all_that_do(RISCV, range(0x10340, 0x10368, 4))
+        known = parse_effects(RISCV, range(0x10340, 0x10368, 4))
         store, load, amo = 0x10344, 0x10348, 0x1034C
         for victim, taker, kind in (
             *(
@@ -294,45 +339,66 @@ class Kinds(unittest.TestCase):
             ),
             *((0, amo, ATOMIC), (0, store, UNKNOWN), (store, 0, UNKNOWN), (0x10350, store, LOAD)),
         ):
-            self.assertEqual(kind_of(Pair(victim, taker, 1, 0), known), kind, (victim, taker))
-        own = kinds_of([Pair(store, store, 5, 0), Pair(load, store, 2, 0), Pair(0, 0, 1, 0)], known)
+            self.assertEqual(
+                pair_kind(InstructionPair(victim, taker, 1, 0), known), kind, (victim, taker)
+            )
+        own = count_kinds(
+            [
+                InstructionPair(store, store, 5, 0),
+                InstructionPair(load, store, 2, 0),
+                InstructionPair(0, 0, 1, 0),
+            ],
+            known,
+        )
         self.assertEqual(own, {ATOMIC: 0, LOAD: 2, STORE: 5, UNKNOWN: 1})
-        self.assertEqual(told(own), "2 from loads, 5 by stores over stores, 1 by what isn't known")
-        self.assertIn("a store buffer hides most of that", told(own, is_read=False))
-        self.assertEqual((told({}), told(kinds_of([Pair(0, 0, 1, 0)], known))), ("", ""))
+        self.assertEqual(
+            describe_kinds(own), "2 read → write, 5 write → write, 1 by unknown instructions"
+        )
+        self.assertIn(
+            "; the line is hardly read, so store buffers hide most",
+            describe_kinds(own, is_read=False),
+        )
+        self.assertEqual(
+            (describe_kinds({}), describe_kinds(count_kinds([InstructionPair(0, 0, 1, 0)], known))),
+            ("", ""),
+        )
         # (an instruction that loads and stores waits for the line itself)
         self.assertEqual(
-            kind_of(Pair(0x1136, 0x1163, 1, 0), all_that_do(X86, range(0x1129, 0x1170))), LOAD
+            pair_kind(
+                InstructionPair(0x1136, 0x1163, 1, 0), parse_effects(X86, range(0x1129, 0x1170))
+            ),
+            LOAD,
         )
 
     def test_the_order_of_objects(self):
         own = view_of(("1000", 0, 9, "stored"), ("1040", 0, 7, "loaded"), ("1080", 0, 1, "other"))
-        own.does = all_that_do(RISCV, range(0x10340, 0x10368, 4))
-        for it in own.things:
-            it.saves = it.useless
+        own.effects = parse_effects(RISCV, range(0x10340, 0x10368, 4))
+        for it in own.objects:
+            it.savable_misses = it.useless
         own.is_read = lambda thing: thing.name != "stored"
         takings = {
-            "stored": [Pair(0x10344, 0x10344, 9, 0)],
-            "loaded": [Pair(0x10348, 0x10344, 9, 0)],
+            "stored": [InstructionPair(0x10344, 0x10344, 9, 0)],
+            "loaded": [InstructionPair(0x10348, 0x10344, 9, 0)],
         }
-        own.explained = {
-            it.worst().base: Takings(it.worst().base, takings[it.name], {})
-            for it in own.things
+        own.invalidations_by_line = {
+            it.worst_line().base: LineInvalidations(it.worst_line().base, takings[it.name], {})
+            for it in own.objects
             if it.name in takings
         }
-        own.put_dear_first()
-        self.assertEqual([it.name for it in own.things], ["loaded", "stored", "other"])
+        own.rank_by_cost()
+        self.assertEqual([it.name for it in own.objects], ["loaded", "stored", "other"])
         self.assertTrue(instruction_pairs.is_read([Word(0, 2, 10, "1")]))
         self.assertFalse(instruction_pairs.is_read([Word(0, 1, 10, "1"), Word(4, 0, 9, "2")]))
 
     @unittest.skipUnless(shutil.which("llvm-objdump"), "llvm-objdump isn't installed")
     def test_a_guest(self):
-        found = instruction_pairs.of_file(
+        found = instruction_pairs.file_effects(
             built("shards.elf"), built("shards.elf"), range(0x10000, 0x10400, 4)
         )
         self.assertTrue(any(it.is_atomic for it in found.values()))
         self.assertEqual(
-            instruction_pairs.of_file(built("missing.elf"), built("missing.elf"), [0x10000]), {}
+            instruction_pairs.file_effects(built("missing.elf"), built("missing.elf"), [0x10000]),
+            {},
         )
         words = ["explain", built("shards.elf"), "0x00011000", "64", "0"]
         text = subprocess.run([STAND_IN, *words], capture_output=True, text=True, check=True).stdout
@@ -357,7 +423,7 @@ class Kinds(unittest.TestCase):
                 ).stdout.partition(" T f\n")[0][-16:],
                 16,
             )
-            found = instruction_pairs.of_file(path, path, range(begin, begin + 32))
+            found = instruction_pairs.file_effects(path, path, range(begin, begin + 32))
         if os.uname().machine == "x86_64":
             self.assertEqual(
                 (
