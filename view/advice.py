@@ -251,7 +251,7 @@ def cost(thing: Thing, words: Iterable[Told]) -> str:
             fields[it.base, it.whole()] = max(fields.get((it.base, it.whole()), 0), it.useful or 0)
     own = sum(fields.values())
     more = own - thing.useful - thing.useless
-    return f"; its own line for each word would cost {more:,} misses more" if more > 0 else ""
+    return f"; a separate line per word would cost {more:,} more misses" if more > 0 else ""
 
 
 def placing(placed: Placed | None, name: Callable[[int], str], owner: Callable[[int], str]) -> str:

@@ -154,7 +154,7 @@ def next_step(view: View) -> str:
     if sources and is_strange(outcome, sources.code):
         return (
             "the program jumped to an address without code, through a bad function pointer or an overwritten return address; "
-            "a stack that is too small does this too (`--set stack=1048576`)"
+            "a larger stack may help (`--set stack=1048576`)"
         )
     advice = {
         "budget": "the run used up its budget of instructions: raise the setting `budget`",
@@ -358,7 +358,7 @@ def order(view: View, rows: Sequence[Thing]) -> str:
     leading = [numbers_of(view, it)[0] for it in rows]
     if leading == sorted(leading, reverse=True):
         return ""
-    return "sorted by the misses that a fix would save, less where store buffers hide them"
+    return "sorted by the misses that a fix would save (fewer where store buffers hide them)"
 
 
 def minors(view: View, rows: Sequence[Thing]) -> str:

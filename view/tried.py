@@ -148,6 +148,6 @@ class Tried:
         if is_mixed:
             return ""
         what = (
-            f"{self.many} layouts, the best saves" if self.many > 1 else "one layout, which saves"
+            f"{self.many} layouts; the best saves" if self.many > 1 else "one layout, which saves"
         )
         return f"{what} {max(self.saved(), 0):,} of {self.own():,} misses{self.there()}"

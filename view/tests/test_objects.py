@@ -213,9 +213,9 @@ class Advised(unittest.TestCase):
             "lock.sum: true sharing (300 of 300 misses): write less", self.todo(*words[:2])
         )
         # (each load brings both of its words)
-        self.assertNotIn("misses more", self.todo(*words[:2], useful=90))
+        self.assertNotIn("more misses", self.todo(*words[:2], useful=90))
         self.assertIn(
-            "its own line for each word would cost 90 misses more",
+            "a separate line per word would cost 90 more misses",
             self.todo(words[0], used("lock.other", 8, 90), useful=90),
         )
 
