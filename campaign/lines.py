@@ -4,13 +4,13 @@ import os
 import sys
 from typing import Iterator, Literal, NamedTuple, Sequence, Union
 
-sys.path.insert(0, os.path.join(os.path.dirname(os.path.abspath(__file__)), "..", "view"))
+sys.path.insert(0, os.path.join(os.path.dirname(os.path.abspath(__file__)), ".."))
 
-import reports  # noqa: E402
+from view.reading import reports  # noqa: E402
 from folder import Record  # noqa: E402
-from naming import Memory, Naming, shown  # noqa: E402
-from objects import Spot, parties  # noqa: E402
-from reports import Block, LineKind, Misses, Report, Site, Symbol  # noqa: E402
+from view.names.naming import Memory, Naming, address_text  # noqa: E402
+from view.model.objects import ObjectLine, contending_objects  # noqa: E402
+from view.reading.reports import Block, LineKind, Misses, Report, Site, Symbol  # noqa: E402
 from takings import Blame  # noqa: E402
 
 
@@ -87,31 +87,31 @@ class Told:
         for it in self.report.predicted():
             layout = it.size, it.base % it.size
             missed = self.misses[layout].lines.get(it.base) if layout in self.misses else None
-            yield layout, it.kind, self.line(Spot(it.base, it, missed), layout in self.misses)
+            yield layout, it.kind, self.line(ObjectLine(it.base, it, missed), layout in self.misses)
 
     def of_layout(self, listed: Sequence[reports.Line], misses: Misses | None) -> Iterator[Line]:
         """The lines of one layout, those that are listed first."""
         missed, seen = misses.lines if misses else {}, {it.base for it in listed}
         for it in listed:
-            yield self.line(Spot(it.base, it, missed.get(it.base)), misses is not None)
+            yield self.line(ObjectLine(it.base, it, missed.get(it.base)), misses is not None)
         for base, own in missed.items():
             if base not in seen:
-                yield self.line(Spot(base, None, own), True)
+                yield self.line(ObjectLine(base, None, own), True)
 
-    def line(self, spot: Spot, is_counted: bool) -> Line:
-        things = (spot.missed.objects() if spot.missed else []) or spot.rows()
+    def line(self, spot: ObjectLine, is_counted: bool) -> Line:
+        things = (spot.missed.objects() if spot.missed else []) or spot.objects()
         count = spot.line.count if spot.line else None
         useless = spot.missed.useless if spot.missed else None
         return Line(spot.base, self.key(spot.base, things), self.parties(spot), count, useless)
 
-    def parties(self, spot: Spot) -> dict[Party, float]:
+    def parties(self, spot: ObjectLine) -> dict[Party, float]:
         """The names of the objects on a line, each with its share of the accesses and where the line begins in it."""
         found: dict[Party, float] = {}
-        for key, (thing, share) in parties(spot, spot.rows(), self.naming).items():
+        for key, (thing, share) in contending_objects(spot, spot.objects(), self.naming).items():
             name, addr = (
                 (self.block_name(thing), thing.addr)
                 if isinstance(thing, Block)
-                else (self.naming.key_name(key, thing), spot.base)
+                else (self.naming.object_name(key, thing), spot.base)
             )
             found[name, spot.base - (thing.addr if isinstance(thing, Symbol) else addr)] = max(
                 share, 0
@@ -152,4 +152,6 @@ def name_of(sites: Sequence[Site], order: int | None, naming: Naming) -> str:
     which = f"block {order} of" if order else "block of"
     if not sites:
         return f"{which} no call site"
-    return f"{which} " + " < ".join(f"{it.name}@{shown(it.addr)}" for it in naming.chain(sites))
+    return f"{which} " + " < ".join(
+        f"{it.name}@{address_text(it.addr)}" for it in naming.own_sites(sites)
+    )

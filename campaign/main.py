@@ -12,9 +12,9 @@ import threading
 from typing import TYPE_CHECKING, Sequence
 
 HERE = os.path.dirname(os.path.abspath(__file__))
-sys.path[:0] = [HERE, os.path.join(HERE, "..", "view")]
+sys.path[:0] = [HERE, os.path.join(HERE, "..")]
 
-from faults import Fault, plain  # noqa: E402
+from view.faults import Fault, plain  # noqa: E402
 from folder import Record  # noqa: E402
 
 if TYPE_CHECKING:
@@ -312,7 +312,7 @@ def check_page(call: Call) -> None:
     path = call.options.get("html")
     if path is None:
         return
-    from drawing import templates
+    from view.output.drawings import templates
 
     templates()
     if os.path.exists(path) and os.path.samefile(path, call.plan):

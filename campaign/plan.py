@@ -8,9 +8,9 @@ from typing import Any, Callable, Iterator, Sequence
 
 import jsonschema
 import yaml
-from faults import Fault
+from view.faults import Fault
 from folder import Record, of_group, short, spans
-from settings import USUAL
+from view.reading.settings import USUAL
 
 HERE = os.path.dirname(os.path.abspath(__file__))
 BATCH = 100

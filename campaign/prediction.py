@@ -17,13 +17,13 @@ import sys
 from typing import Iterable, NamedTuple
 
 HERE = os.path.dirname(os.path.abspath(__file__))
-sys.path[:0] = [HERE, os.path.join(HERE, "..", "view")]
+sys.path[:0] = [HERE, os.path.join(HERE, "..")]
 
 import results  # noqa: E402
 from folder import Record, campaign_of, seeds_in  # noqa: E402
 from lines import Told  # noqa: E402
-from naming import Memory  # noqa: E402
-from predicted import inside  # noqa: E402
+from view.names.naming import Memory  # noqa: E402
+from view.model.predicted_lines import observed_false_sharing  # noqa: E402
 from table import settings_of  # noqa: E402
 
 HEADS = (
@@ -71,7 +71,7 @@ def found_of(told: Told) -> tuple[set[Range], set[Range], set[Range]]:
         for it, many in useless.items()
         if many >= threshold and (it.size, it.base % it.size) != (own.size, own.offset)
     }
-    new = {it for it in there if useless[it] >= inside([it], own) + threshold}
+    new = {it for it in there if useless[it] >= observed_false_sharing([it], own) + threshold}
     return there, new, {Range(it.size, it.base) for it in report.predicted()}
 
 

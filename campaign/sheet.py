@@ -6,7 +6,7 @@ import shlex
 from collections import Counter
 from typing import Iterator, Mapping, NamedTuple, Sequence
 
-from drawing import Given, bar, strip, templates
+from view.output.drawings import Given, bar, strip, templates
 from folder import Record
 from table import Family, Part, Under, families, ordered, settings_of, weight
 

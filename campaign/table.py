@@ -13,14 +13,14 @@ from collections import Counter
 from typing import Any, Iterable, Iterator, Mapping, Sequence, cast
 
 HERE = os.path.dirname(os.path.abspath(__file__))
-sys.path[:0] = [HERE, os.path.join(HERE, "..", "view")]
+sys.path[:0] = [HERE, os.path.join(HERE, "..")]
 
 import results  # noqa: E402
 from commands import command_of, settings_text  # noqa: E402
 from folder import Record, campaign_of, seeds_in  # noqa: E402
 from lines import At, InBlock, Key, Layout, Party, Taking, Told  # noqa: E402
-from naming import Memory, shown as address  # noqa: E402
-from program import Predator, setting, stacks  # noqa: E402
+from view.names.naming import Memory, address_text as address  # noqa: E402
+from view.reading.engine import Predator, setting_value, stack_range  # noqa: E402
 
 KINDS = ("observed", "shifted", "doubled")
 # The numbers of a row that are a least, a middle and a greatest one.
@@ -436,7 +436,9 @@ def memory_of(campaign: Record, group: Record) -> Memory:
         file.write(settings_text({"settings": group["settings"], "seed": 0}))
         file.flush()
         words = ["--settings", file.name]
-        return Memory(stacks(Predator(), program["file"], words), setting(words, "harts"))
+        return Memory(
+            stack_range(Predator(), program["file"], words), setting_value(words, "harts")
+        )
 
 
 def part_of(work: tuple[str, int, list[int], Memory]) -> Part:

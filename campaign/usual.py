@@ -18,7 +18,7 @@ from collections import Counter
 from typing import Any, Iterable, Mapping
 
 HERE = os.path.dirname(os.path.abspath(__file__))
-sys.path[:0] = [HERE, os.path.join(HERE, "..", "view")]
+sys.path[:0] = [HERE, os.path.join(HERE, "..")]
 
 from folder import Record, campaign_of  # noqa: E402
 from table import Part, family, middle, own_name, read, settings_of  # noqa: E402

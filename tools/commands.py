@@ -25,7 +25,7 @@ NUMBERS = "crates/command_files/specs/Numbers.antt"
 USAGE = "crates/worked_runs/data/usage.txt"
 # The pages of help of what the launcher answers itself.
 PAGES = {
-    "view": "view/calls.py",
+    "view": "view/reading/calls.py",
     "campaign": "campaign/main.py",
     "native": "native/predator-native",
 }
@@ -323,7 +323,7 @@ PLACES = {
     "docs/FORMATS.md": marked("<!-- commands.toml: {} -->", "<!-- (so far) -->", format_parts),
     "bin/predator.bash": marked("    # commands.toml: {}", "    # (so far)", completion_parts),
     "bin/commands.bash": marked("# commands.toml: {}", "# (so far)", launcher_parts),
-    "view/settings.py": marked("# commands.toml: {}", "# (so far)", view_parts),
+    "view/reading/settings.py": marked("# commands.toml: {}", "# (so far)", view_parts),
     USAGE: renew_usage,
 }
 

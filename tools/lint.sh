@@ -80,7 +80,9 @@ case ${1:-} in
         command -v mypy >/dev/null || lacks mypy mypy
         status=0
         # (each folder by itself: two have a main.py)
-        for it in view campaign bench/clock; do
+        mapfile -t found < <(python_files | grep '^view/' | grep -v '^view/tests/')
+        mypy --cache-dir=/dev/null "${found[@]}" || status=1
+        for it in campaign bench/clock; do
             mypy --cache-dir=/dev/null "$it"/*.py || status=1
         done
         exit "$status"

@@ -8,27 +8,36 @@ import sys
 import traceback
 from typing import TYPE_CHECKING, Callable
 
-sys.path.insert(0, os.path.dirname(os.path.abspath(__file__)))
+sys.path.insert(0, os.path.dirname(os.path.dirname(os.path.abspath(__file__))))
 
-import compare  # noqa: E402
-import worth  # noqa: E402
-from calls import ALONE, BY, HELP, MISSES, OUTPUTS, TOP, Call, nearest  # noqa: E402
-from faults import Fault, plain  # noqa: E402
-from model import View, memory_of  # noqa: E402
-from naming import Naming  # noqa: E402
-from objects import Thing  # noqa: E402
-from passes import Passes, begun  # noqa: E402
-from pipes import fed, kept  # noqa: E402
-from program import Predator  # noqa: E402
-from recording import recorded, traced  # noqa: E402
-from reports import Report, Symbol  # noqa: E402
-from screen import Paint, counted, screen, width_of_screen  # noqa: E402
-from source_lines import Sources  # noqa: E402
-from worth import Worth  # noqa: E402
+from view.model import comparison  # noqa: E402
+from view.model import miss_rates  # noqa: E402
+from view.reading.calls import (  # noqa: E402
+    ALONE,
+    BY,
+    HELP,
+    MISSES,
+    OUTPUTS,
+    TOP,
+    Call,
+    suggest_nearest,
+)
+from view.faults import Fault, plain  # noqa: E402
+from view.model.view import View, stack_memory  # noqa: E402
+from view.names.naming import Naming  # noqa: E402
+from view.model.objects import DataObject  # noqa: E402
+from view.reading.passes import Passes, start_passes  # noqa: E402
+from view.reading.pipes import open_as_pipe, copy_pipes  # noqa: E402
+from view.reading.engine import Predator  # noqa: E402
+from view.reading.recording import record_program, keep_run_trace  # noqa: E402
+from view.reading.reports import Report, Symbol  # noqa: E402
+from view.output.screen import Paint, counted, screen, width_of_screen  # noqa: E402
+from view.names.source_lines import Sources  # noqa: E402
+from view.model.miss_rates import Worth  # noqa: E402
 
 if TYPE_CHECKING:
-    from fields import Program
-    from native import NativeProgram
+    from view.names.fields import Program
+    from view.names.native import NativeProgram
 
 ABOVE, ENDED = 1, 3
 
@@ -54,12 +63,12 @@ def program_of(call: Call) -> "tuple[Program | NativeProgram | None, Sources | N
     program: "Program | NativeProgram"
     sources: Sources
     if table:
-        from native import Back, NativeProgram, NativeSources
+        from view.names.native import AddressMap, NativeProgram, NativeSources
 
-        program = native = NativeProgram(Back(table))
+        program = native = NativeProgram(AddressMap(table))
         sources = NativeSources(native, folders)
     elif call.program:
-        from fields import Program
+        from view.names.fields import Program
 
         program = guest = Program(call.program)
         sources = Sources(call.program, folders, guest.code())
@@ -67,8 +76,8 @@ def program_of(call: Call) -> "tuple[Program | NativeProgram | None, Sources | N
         return None, None
     if program.dwarf is None:
         say(f"{program.path} has {lacking(native if table else None)}")
-    for it in call.options["type"]:
-        program.type_named(it.partition("=")[2])
+    for assignment in call.options["type"]:
+        program.type_named(assignment.partition("=")[2])
     return program, sources
 
 
@@ -90,41 +99,41 @@ def native_of(program: "Program | NativeProgram | None") -> "NativeProgram | Non
     """A program where it is one of this machine."""
     if program is None:
         return None
-    from fields import Program
+    from view.names.fields import Program
 
     return None if isinstance(program, Program) else program
 
 
 def table_of(call: Call) -> str | None:
     """The address map of a native program: the one that is named, or that beside the trace."""
-    if "map" in call.options or call.program or call.how != "replay":
+    if "map" in call.options or call.program or call.action != "replay":
         return call.options.get("map")
-    from native import beside
+    from view.names.native import find_address_map
 
-    return beside(call.subject)
+    return find_address_map(call.subject)
 
 
 def stranger(program: "Program | NativeProgram", report: Report) -> str | None:
     """A symbol of the report that the program hasn't, or none."""
-    from fields import Program
+    from view.names.fields import Program
 
     if not isinstance(program, Program):
-        return program.stranger(report)
+        return program.mismatch(report)
     known = program.symbols()
     for line in report.lines[:1000]:
-        for it in line.objects():
-            if isinstance(it, Symbol) and (it.addr, it.size) not in known:
-                return f"no symbol {it.name} of {it.size:,} bytes at {it.addr:#010x}"
+        for obj in line.objects():
+            if isinstance(obj, Symbol) and (obj.addr, obj.size) not in known:
+                return f"no symbol {obj.name} of {obj.size:,} bytes at {obj.addr:#010x}"
     return None
 
 
 def report_of(call: Call, predator: Predator | None) -> Report:
     if predator is None:
         return Report(read(call.subject), call.subject)
-    if not call.reads_once():
-        return predator.report([call.how, *call.words, *call.own])
-    with fed(call.subject) as trace:
-        return predator.report([call.how, *call.words_of_pipe()], stdin=trace)
+    if not call.reads_trace_once():
+        return predator.read_report([call.action, *call.words, *call.guest_words])
+    with open_as_pipe(call.subject) as trace:
+        return predator.read_report([call.action, *call.words_of_pipe()], stdin=trace)
 
 
 def check_name(name: str | None, naming: Naming) -> None:
@@ -132,16 +141,16 @@ def check_name(name: str | None, naming: Naming) -> None:
     program = naming.program
     if name is None or program is None or ":" in name or " " in name:
         return
-    known = {naming.readable(it) for it in program.symbols().values()}
+    known = {naming.readable_name(it) for it in program.symbols().values()}
     if name not in known:
-        near = nearest(name, known).strip()
+        near = suggest_nearest(name, known).strip()
         raise Fault(f"{program.path} has no variable '{name}'{near and '; '}{near}")
 
 
 def check_seen(view: View) -> None:
     """Refuses a test of an object that isn't in the report, where the program may have none of that name."""
     name = view.call.options.get("object")
-    if name is not None and not view.chosen():
+    if name is not None and not view.chosen_objects():
         if view.naming.program is None and "fail-above" in view.call.options:
             raise Fault(
                 f"'{name}' isn't in the report: add '--program' to check that there is such a variable"
@@ -149,33 +158,33 @@ def check_seen(view: View) -> None:
         check_name(name, view.naming)
 
 
-def trial_of(view: View, predator: Predator | None) -> Callable[[list[Thing]], None] | None:
+def trial_of(view: View, predator: Predator | None) -> Callable[[list[DataObject]], None] | None:
     """What tries the repairs of some objects once their misses are counted, or none where no type is known."""
     program = view.naming.program
     if program is None or program.dwarf is None:
         return None
-    from trying import begin, try_all
+    from view.repairs.trials import begin_reading, try_objects
 
-    return functools.partial(try_all, view, predator, reading=begin(view, predator))
+    return functools.partial(try_objects, view, predator, reading=begin_reading(view, predator))
 
 
 def look(call: Call) -> View:
     """All that is found."""
     if "html" in call.options:
-        from drawing import templates
+        from view.output.drawings import templates
 
         templates()
-    predator = Predator() if call.how != "file" else None
-    with begun(call, predator) as passes:
+    predator = Predator() if call.action != "file" else None
+    with start_passes(call, predator) as passes:
         return found(call, predator, passes)
 
 
 def found(call: Call, predator: Predator | None, passes: Passes | None) -> View:
     program, sources = program_of(call)
-    if call.how == "run":
+    if call.action == "run":
         check_name(call.options.get("object"), Naming(None, program))
     report = report_of(call, predator)
-    strange = stranger(program, report) if program and call.how != "run" else None
+    strange = stranger(program, report) if program and call.action != "run" else None
     if strange:
         named = (
             f"{call.program} isn't the program"
@@ -184,44 +193,46 @@ def found(call: Call, predator: Predator | None, passes: Passes | None) -> View:
         )
         say(f"{named} of this report and isn't used: it has {strange}")
         call.program = program = sources = None
-    memory = memory_of(call, predator, native_of(program))
+    memory = stack_memory(call, predator, native_of(program))
     view = View(call, report, Naming(report, program, sources, call.options["type"], memory))
-    view.worth = Worth(view, worth.begin(call, predator, (report.size, report.offset)))
+    view.worth = Worth(view, miss_rates.begin_count(call, predator, (report.size, report.offset)))
     trial = trial_of(view, predator)
-    view.count(predator, passes)
+    view.count_misses(predator, passes)
     view.look_for_overflow(predator)
     if report.outcome in ("deadlock", "budget"):
-        from waiting import note_waiting
+        from view.model.waiting_harts import note_waiting
 
         note_waiting(view, predator)
-    view.arrange()
+    view.group_by_objects()
     check_seen(view)
-    first = view.listed()[: call.number("top", TOP)]
+    first = view.listed_objects()[: call.number_option("top", TOP)]
     view.explain(predator, first)
-    first = view.listed()[: call.number("top", TOP)]
+    first = view.listed_objects()[: call.number_option("top", TOP)]
     if trial:
         trial(first)
-        view.rank_tried(first)
-        first = view.listed()[: len(first)]
-    view.place(predator, first)
-    view.note_idle()
+        view.rank_by_trials(first)
+        first = view.listed_objects()[: len(first)]
+    view.place_objects(predator, first)
+    view.note_unmatched_options()
     return view
 
 
 def is_above(view: View) -> bool:
     """Whether an object has more than the call allows, with a message for each."""
-    most, by = view.call.number("fail-above", 0), view.call.options.get("by", BY[0])
+    most, by = view.call.number_option("fail-above", 0), view.call.options.get("by", BY[0])
     if by in MISSES and view.misses is None:
         raise Fault(
             "false-sharing misses are unknown here: use '--fail-above' with '--by invalidations'"
         )
     found = False
-    for it in view.chosen():
+    for obj in view.chosen_objects():
         # (`count` is the former name, of what the report lists)
-        much = it.useless if by in MISSES else it.count if by == "count" else view.invalidations(it)
+        much = (
+            obj.useless if by in MISSES else obj.count if by == "count" else view.invalidations(obj)
+        )
         if much > most:
             what = counted(much, "false-sharing miss" if by in MISSES else "invalidation")
-            say(f"{view.label(it)} has {what}, more than {most:,}")
+            say(f"{view.label(obj)} has {what}, more than {most:,}")
             found = True
     return found
 
@@ -231,8 +242,8 @@ def status_of(view: View) -> int:
         return 0
     if not view.report.ended_well():
         return ENDED
-    if view.lacked:
-        say(view.lacked)
+    if view.missing_harts:
+        say(view.missing_harts)
         return ENDED
     return ABOVE if is_above(view) else 0
 
@@ -258,46 +269,48 @@ def is_same(one: str, other: str) -> bool:
 def keep_inputs(call: Call) -> None:
     """Refuses an output that is an input, an output of the program or another output, and one without a folder."""
     taken = [
-        it
-        for it in (
+        path
+        for path in (
             call.subject,
             call.program,
             table_of(call),
             *call.words,
             *(word.partition("=")[2] for word in call.words),
         )
-        if it and it != "-"
+        if path and path != "-"
     ]
     if [call.options.get(name) for name in OUTPUTS].count("-") > 1:
         raise Fault("only one output can be `-`, standard output")
     for name in OUTPUTS:
-        it, old = call.options.get(name), call.options.get("against") if name != "json" else None
-        if it is None or it == "-":
+        path, old = call.options.get(name), call.options.get("against") if name != "json" else None
+        if path is None or path == "-":
             continue
-        if any(is_same(it, other) for other in (*taken, *([old] if old else []))):
-            raise Fault(f"{it} is used twice: outputs must differ from each other and from inputs")
-        if not os.path.isdir(os.path.dirname(it) or "."):
-            raise Fault(f"{it}: No such file or directory")
-        taken.append(it)
+        if any(is_same(path, other) for other in (*taken, *([old] if old else []))):
+            raise Fault(
+                f"{path} is used twice: outputs must differ from each other and from inputs"
+            )
+        if not os.path.isdir(os.path.dirname(path) or "."):
+            raise Fault(f"{path}: No such file or directory")
+        taken.append(path)
 
 
 def outputs(view: View) -> None:
     """Writes the files that the call names."""
     options = view.call.options
     if "patch" in options:
-        from mending import patch_text
+        from view.repairs.call_patch import patch_text
 
         write(options["patch"], patch_text(view))
     if "json" in options:
-        from exports import json_text
+        from view.output.exports import json_text
 
         write(options["json"], json_text(view))
     if "sarif" in options:
-        from exports import sarif_text
+        from view.output.exports import sarif_text
 
         write(options["sarif"], sarif_text(view))
     if "html" in options:
-        from page import page
+        from view.output.page import page
 
         write(options["html"], page(view))
 
@@ -305,11 +318,11 @@ def outputs(view: View) -> None:
 def show(call: Call) -> int:
     """Runs a call, and returns its status."""
     keep_inputs(call)
-    if call.how in ALONE:
+    if call.action in ALONE:
         return show_alone(call)
     # (before --json writes to the same file)
-    old = compare.loaded(call.options["against"], call) if "against" in call.options else None
-    with kept(call), recorded(call), traced(call):
+    old = comparison.load_view(call.options["against"], call) if "against" in call.options else None
+    with copy_pipes(call), record_program(call), keep_run_trace(call):
         view = look(call)
         outputs(view)
         if all(call.options.get(it) != "-" for it in OUTPUTS):
@@ -319,10 +332,10 @@ def show(call: Call) -> int:
 
 
 def show_alone(call: Call) -> int:
-    from caches import show as caches
-    from sweep import show as sweep
+    from view.output.caches import show as caches
+    from view.output.sweep import show as sweep
 
-    rows, page = (sweep if call.how == "sweep" else caches)(call)
+    rows, page = (sweep if call.action == "sweep" else caches)(call)
     if page is not None:
         write(call.options["html"], page)
     if call.options.get("html") != "-":
@@ -331,21 +344,21 @@ def show_alone(call: Call) -> int:
     return 0
 
 
-def tell(view: View, old: compare.Before | None) -> None:
+def tell(view: View, old: comparison.Before | None) -> None:
     """Prints the screen, and the comparison."""
-    for it in screen(view, Paint(), width_of_screen()):
-        print(it)
+    for row in screen(view, Paint(), width_of_screen()):
+        print(row)
     if old is not None:
-        for it in compare.compared(view, old, view.call.options["against"]):
-            print(it)
+        for row in comparison.compare_views(view, old, view.call.options["against"]):
+            print(row)
 
 
 def main(words: list[str]) -> int:
     # (millions of lines live as long as the call, and none goes round in a ring)
     gc.disable()
-    for it in (sys.stdout, sys.stderr):
-        if isinstance(it, io.TextIOWrapper):
-            it.reconfigure(errors="backslashreplace")
+    for stream in (sys.stdout, sys.stderr):
+        if isinstance(stream, io.TextIOWrapper):
+            stream.reconfigure(errors="backslashreplace")
     try:
         call = Call(words)
         if "help" in call.options:

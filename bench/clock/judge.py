@@ -7,7 +7,7 @@ from counts import Count
 from pairs import FORMS, Program
 from timing import Timed
 
-from bands import BANDS, at_most, band_of
+from view.model.rate_bands import BANDS, at_most, band_of
 
 QUANTA = (1, 10, 100, 1000)
 USUAL = 100

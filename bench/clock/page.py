@@ -8,7 +8,7 @@ from judge import EDGES, Row, bands
 from pairs import HERE, KINDS
 from tables import Study, bound_told, shown
 
-from bands import BANDS
+from view.model.rate_bands import BANDS
 
 Given = dict[str, Any]
 # The picture: its width and height, and what is kept free at the left and below, and at the other sides.
@@ -212,8 +212,8 @@ def rows_of(studies: Mapping[str, Study]) -> list[Given]:
 
 def page(studies: Mapping[str, Study]) -> str | None:
     """The page, or None where jinja2 isn't installed."""
-    from drawing import templates
-    from faults import Fault
+    from view.output.drawings import templates
+    from view.faults import Fault
 
     try:
         found = templates(HERE)

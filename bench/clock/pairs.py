@@ -10,7 +10,7 @@ HERE = os.path.dirname(os.path.abspath(__file__))
 TOP = os.path.dirname(os.path.dirname(HERE))
 PROGRAMS = os.path.join(HERE, "programs")
 # (whose bands view tells, and whose templates are used here)
-sys.path.append(os.path.join(TOP, "view"))
+sys.path.append(TOP)
 GUESTS = os.path.join(HERE, "guests.sh")
 # What a first line may say that its program is.
 KINDS = ("false", "mixed", "handover", "true", "none")

@@ -8,9 +8,9 @@ import unittest
 
 from calling import HERE, Folder
 
-sys.path[:0] = [os.path.join(HERE, ".."), os.path.join(HERE, "..", "..", "view")]
+sys.path[:0] = [os.path.join(HERE, ".."), os.path.join(HERE, "..", "..")]
 
-from faults import Fault  # noqa: E402
+from view.faults import Fault  # noqa: E402
 from plan import expanded  # noqa: E402
 
 GOOD = "programs:\n  one: one\nseeds: 1-3\n"

@@ -7,12 +7,12 @@ import sys
 import unittest
 
 HERE = os.path.dirname(os.path.abspath(__file__))
-sys.path[:0] = [os.path.join(HERE, ".."), os.path.join(HERE, "..", "..", "view")]
+sys.path[:0] = [os.path.join(HERE, ".."), os.path.join(HERE, "..", "..")]
 
 import sheet  # noqa: E402
-from drawing import COLUMNS, DOWN, UP, spread, strip  # noqa: E402
+from view.output.drawings import COLUMNS, DOWN, UP, spread, strip  # noqa: E402
 from lines import At  # noqa: E402
-from naming import Memory  # noqa: E402
+from view.names.naming import Memory  # noqa: E402
 from table import Part, families, rows_of  # noqa: E402
 from test_tables import record, symbol  # noqa: E402
 

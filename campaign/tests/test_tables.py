@@ -5,9 +5,9 @@ import sys
 import unittest
 
 HERE = os.path.dirname(os.path.abspath(__file__))
-sys.path[:0] = [os.path.join(HERE, ".."), os.path.join(HERE, "..", "..", "view")]
+sys.path[:0] = [os.path.join(HERE, ".."), os.path.join(HERE, "..", "..")]
 
-from naming import Memory  # noqa: E402
+from view.names.naming import Memory  # noqa: E402
 from table import Part, cells, middle, pair_rows, rows_of, worst  # noqa: E402
 
 LAYOUT = 64, 0

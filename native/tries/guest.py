@@ -14,9 +14,9 @@ import sys
 HERE = os.path.dirname(os.path.abspath(__file__))
 TOP = os.path.dirname(os.path.dirname(HERE))
 GUEST = os.path.join(TOP, "guest")
-sys.path.insert(0, os.path.join(TOP, "view"))
+sys.path.insert(0, TOP)
 
-from reports import Report, Symbol  # noqa: E402
+from view.reading.reports import Report, Symbol  # noqa: E402
 
 # Each example, and what of its C library for RV32 isn't here.
 NAMES = {

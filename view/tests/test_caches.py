@@ -9,11 +9,20 @@ import unittest
 
 from calling import PROGRAM, STAND_IN, TOP, has, view
 
-sys.path[:0] = [os.path.join(TOP, "view"), os.path.join(TOP, "tools")]
+sys.path[:0] = [TOP, os.path.join(TOP, "tools")]
 
-from caches import LINES, USUAL, Caches, Shape, Sized, page, rows, shape_of  # noqa: E402
-from drawing import BAR, bar  # noqa: E402
-from faults import Fault  # noqa: E402
+from view.output.caches import (  # noqa: E402
+    LINES,
+    USUAL,
+    Caches,
+    Shape,
+    Sized,
+    page,
+    rows,
+    shape_of,
+)
+from view.output.drawings import BAR, bar  # noqa: E402
+from view.faults import Fault  # noqa: E402
 from judge_report import Access, Case, Ending, trace_of  # noqa: E402
 from traces import Symbol  # noqa: E402
 

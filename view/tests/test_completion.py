@@ -7,11 +7,11 @@ import unittest
 
 from calling import HERE, TOP, built
 
-sys.path.insert(0, os.path.dirname(HERE))
+sys.path.insert(0, os.path.dirname(os.path.dirname(HERE)))
 
-from calls import FLAGS, FORMER, LISTS, MARKS, RECORDS, VALUES, Call  # noqa: E402
-from faults import Fault  # noqa: E402
-from settings import OPTIONS  # noqa: E402
+from view.reading.calls import FLAGS, FORMER, LISTS, MARKS, RECORDS, VALUES, Call  # noqa: E402
+from view.faults import Fault  # noqa: E402
+from view.reading.settings import OPTIONS  # noqa: E402
 
 # What each way to look takes besides an option.
 WAYS = {"run": (), "replay": (), "native": (), "sweep": ("--size", "64"), "caches": ()}

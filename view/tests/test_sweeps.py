@@ -9,13 +9,13 @@ import unittest
 
 from calling import PROGRAM, STAND_IN, TOP, has, view
 
-sys.path[:0] = [os.path.join(TOP, "view"), os.path.join(TOP, "tools")]
+sys.path[:0] = [TOP, os.path.join(TOP, "tools")]
 
-from borders import Under, ordered  # noqa: E402
-from drawing import curve  # noqa: E402
-from faults import Fault  # noqa: E402
+from view.model.line_borders import ShiftedLines, order_crossings  # noqa: E402
+from view.output.drawings import curve  # noqa: E402
+from view.faults import Fault  # noqa: E402
 from judge_report import Access, Case, Ending, trace_of  # noqa: E402
-from sweep import Sweep, page  # noqa: E402
+from view.output.sweep import Sweep, page  # noqa: E402
 from traces import Symbol  # noqa: E402
 
 TITLE = "8-byte lines: 39 invalidations as placed, 0 at best (shift 4); most of the difference is in memory at 0x00001000"
@@ -261,10 +261,10 @@ class Texts(unittest.TestCase):
                 Sweep(bad)
 
     def test_which_object_differs_most(self):
-        one, two = Under({1: 5, 2: 90}, {1: "a", 2: "b"}, {1: "x"}), Under(
+        one, two = ShiftedLines({1: 5, 2: 90}, {1: "a", 2: "b"}, {1: "x"}), ShiftedLines(
             {1: 1, 2: 89, 3: 4}, {1: "a", 2: "b", 3: "c"}, {}
         )
-        told = [(it.name, it.counts, it.border) for it in ordered([one, two], 0, 1)]
+        told = [(it.name, it.counts, it.border) for it in order_crossings([one, two], 0, 1)]
         self.assertEqual(told, [("a", [5, 1], "x"), ("b", [90, 89], ""), ("c", [0, 4], "")])
 
     def test_a_curve_is_drawn_from_zero_up(self):

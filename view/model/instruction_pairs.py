@@ -1,0 +1,278 @@
+"""What instructions do to memory, by llvm-objdump, and so which kind of invalidation each pair of them makes."""
+
+import bisect
+import json
+import os
+import re
+import shutil
+import struct
+import subprocess
+from typing import TYPE_CHECKING, Iterable, Mapping, NamedTuple, Sequence
+
+from view.reading.reports import InstructionPair, Word
+
+if TYPE_CHECKING:
+    from view.names.fields import Program
+    from view.names.native import NativeProgram
+
+# The kinds of invalidations: by an atomic instruction, which waits for the line; of a line that the victim reads, or that is read to be
+# written, so that a load waits; by a write after a write, for which a store buffer waits; and those whose instructions aren't known.
+ATOMIC, LOAD, STORE, UNKNOWN = KINDS = ("atomic", "load", "store", "unknown")
+# An invalidation for which no instruction waits counts as one part in so many of another; with fewer reads than one for so many writes a
+# line is hardly read.
+HIDDEN_COST_DIVISOR = 10
+# A function is looked through from its start up to an instruction that lies so far in it; functions so near to each other in one call.
+FAR, NEAR = 1 << 16, 1 << 12
+DISASSEMBLY_ROW = re.compile(r"^ *([0-9a-f]+):\s+([a-z][a-z0-9._]*)\s*(.*)$")
+FORMAT = re.compile(r"file format (\S+)")
+RISCV_MACHINE = 243
+# Those of x86-64: prefixes that llvm-objdump prints as rows, what writes its last operand and doesn't read it, and what only reads it.
+PREFIXES = (
+    "lock",
+    "rep",
+    "repne",
+    "repe",
+    "repz",
+    "repnz",
+    "data16",
+    "xacquire",
+    "xrelease",
+    "notrack",
+)
+WRITES = re.compile(
+    r"v?p?(mov|extr)|set|stos|f(n?st|ist)|pop|v?cvt|vextract|xsave|fxsave|v?stmxcsr"
+)
+READS = re.compile(
+    r"cmp(?!xchg)|test|bt[lqw]?$|v?u?com|prefetch|i?(div|mul)|push|fi?(ld|add|sub|mul|div|u?com)|v?ldmxcsr|nop|scas|lods"
+)
+
+
+class MemoryEffect(NamedTuple):
+    """What an instruction does to memory: whether it is atomic, whether it reads the place that it writes, and whether it reads."""
+
+    is_atomic: bool
+    is_update: bool
+    reads: bool
+
+
+ATOMIC_UPDATE = MemoryEffect(True, True, True)
+PLAIN_UPDATE, READS_ONLY, WRITES_ONLY = (
+    MemoryEffect(False, True, True),
+    MemoryEffect(False, False, True),
+    MemoryEffect(False, False, False),
+)
+
+
+class DisassemblyRow(NamedTuple):
+    """An instruction as it is printed."""
+
+    addr: int
+    name: str
+    operands: str
+
+
+def riscv_effect(row: DisassemblyRow) -> MemoryEffect | None:
+    """What an instruction of RV32 does."""
+    if row.name.startswith(("amo", "sc.")):
+        return ATOMIC_UPDATE
+    if re.fullmatch(r"(c\.)?f?l[bhwdq]u?(sp)?|lr\..*", row.name):
+        return READS_ONLY
+    return WRITES_ONLY if re.fullmatch(r"(c\.)?f?s[bhwdq](sp)?", row.name) else None
+
+
+def runtime_effect(name: str) -> MemoryEffect | None:
+    """What a call of the runtime says that the program does there, by the function's name."""
+    if "atomic" in name:
+        return (
+            READS_ONLY
+            if name.endswith("_load")
+            else WRITES_ONLY
+            if name.endswith("_store")
+            else ATOMIC_UPDATE
+        )
+    if "read_write" in name:
+        return PLAIN_UPDATE
+    return (
+        READS_ONLY if "read" in name else WRITES_ONLY if "write" in name or "vptr" in name else None
+    )
+
+
+def is_memory(operand: str) -> bool:
+    return bool(operand) and (operand[0] not in "$%*" or "(" in operand or ":" in operand)
+
+
+def x86_effect(row: DisassemblyRow) -> MemoryEffect | None:
+    """What an instruction of x86-64 does, by its name and which of its operands are in memory."""
+    runtime = re.search(r"<(__tsan_\w+)", row.operands)
+    if row.name.startswith("call"):
+        return runtime_effect(runtime[1]) if runtime else WRITES_ONLY
+    if row.name.startswith("j") or row.name.startswith("lea"):
+        return None
+    operands = re.split(r",\s*(?![^(]*\))", re.sub(r"\s*[#<].*", "", row.operands).strip())
+    *first, last = [is_memory(it) for it in operands]
+    if row.name.startswith("xchg") and any((*first, last)):
+        return ATOMIC_UPDATE
+    if last and WRITES.match(row.name):
+        return READS_ONLY._replace(reads=any(first))
+    if last and not READS.match(row.name):
+        return PLAIN_UPDATE
+    if row.name.startswith("push"):
+        return READS_ONLY._replace(reads=last)
+    return (
+        READS_ONLY if last or any(first) or row.name.startswith(("pop", "ret", "leave")) else None
+    )
+
+
+def parse_effects(text: str, addresses: Iterable[int]) -> dict[int, MemoryEffect]:
+    """What the instructions at some addresses do, as far as a text of llvm-objdump tells it. An address may be the last byte of a call."""
+    rows, found = [
+        DisassemblyRow(int(match[1], 16), match[2], match[3])
+        for line in text.split("\n")
+        if (match := DISASSEMBLY_ROW.match(line))
+    ], FORMAT.search(text)
+    begins, made = [it.addr for it in rows], {}
+    for addr in addresses if found else ():
+        at = bisect.bisect_right(begins, addr) - 1
+        if at < 0 or (begins[at] != addr and not rows[at].name.startswith("call")):
+            continue
+        prefixes = []
+        while found and "x86-64" in found[1] and rows[at].name in PREFIXES and at + 1 < len(rows):
+            prefixes.append(rows[at].name)
+            at += 1
+        told = (
+            riscv_effect(rows[at])
+            if found and "riscv" in found[1]
+            else x86_effect(rows[at])
+            if found and "x86-64" in found[1]
+            else None
+        )
+        if told:
+            made[addr] = ATOMIC_UPDATE if "lock" in prefixes else told
+    return made
+
+
+def function_starts(file: str, addresses: Sequence[int]) -> dict[int, int]:
+    """Where the function of each address begins, by llvm-symbolizer, and else the address itself."""
+    asked = "".join(f'"{file}" {it:#x}\n' for it in addresses)
+    words = ["llvm-symbolizer", "--output-style=JSON", "--inlines"]
+    ran = subprocess.run(
+        words, input=os.fsencode(asked), stdout=subprocess.PIPE, stderr=subprocess.DEVNULL
+    )
+    found = {it: it for it in addresses}
+    for addr, row in zip(addresses, ran.stdout.decode("utf-8", "replace").splitlines()):
+        symbols = json.loads(row).get("Symbol", [])
+        start = symbols[-1].get("StartAddress", "") if symbols else ""
+        if start and 0 <= addr - int(start, 16) <= FAR:
+            found[addr] = int(start, 16)
+    return found
+
+
+def is_riscv(file: str) -> bool:
+    with open(file, "rb") as text:
+        head = text.read(20)
+    return len(head) == 20 and bool(struct.unpack_from("<H", head, 18)[0] == RISCV_MACHINE)
+
+
+def file_effects(file: str, names: str, addresses: Iterable[int]) -> dict[int, MemoryEffect]:
+    """What the instructions of a file do at some addresses; `names` is the file that has its debug information."""
+    wanted = sorted(set(addresses))
+    if not wanted or not shutil.which("llvm-objdump") or not os.path.isfile(file):
+        return {}
+    parts: list[tuple[int, int]] = []
+    for addr, start in sorted(function_starts(names, wanted).items(), key=lambda item: item[1]):
+        if parts and start <= parts[-1][1] + NEAR:
+            parts[-1] = parts[-1][0], max(parts[-1][1], addr + 1)
+        else:
+            parts.append((start, addr + 1))
+    made: dict[int, MemoryEffect] = {}
+    # (what an older compiler or a small linker writes says nothing of its extensions)
+    more = ["--mattr=+m,+a,+f,+d,+c"] if is_riscv(file) else []
+    for begin, end in parts:
+        words = [
+            "llvm-objdump",
+            "-d",
+            "--no-show-raw-insn",
+            *more,
+            f"--start-address={begin:#x}",
+            f"--stop-address={end:#x}",
+            file,
+        ]
+        text = subprocess.run(
+            words, stdout=subprocess.PIPE, stderr=subprocess.DEVNULL
+        ).stdout.decode("utf-8", "replace")
+        made.update(parse_effects(text, [it for it in wanted if begin <= it < end]))
+    return made
+
+
+def program_effects(
+    program: "Program | NativeProgram", addresses: Iterable[int]
+) -> dict[int, MemoryEffect]:
+    """What the instructions of a program do at some addresses of its trace."""
+    from view.names.fields import Program
+
+    if isinstance(program, Program):
+        return file_effects(program.path, program.path, addresses)
+    made: dict[int, MemoryEffect] = {}
+    places = {it: found for it in addresses if (found := program.file(it))}
+    for file in {id(own): own for own, _ in places.values()}.values():
+        own = {at: it for it, (of, at) in places.items() if of is file}
+        made.update(
+            {own[at]: told for at, told in file_effects(file.path, file.debug, own).items()}
+        )
+    return made
+
+
+def pair_kind(pair: InstructionPair, known: Mapping[int, MemoryEffect]) -> str:
+    """Which kind of invalidations a pair makes."""
+    victim, taker = known.get(pair.victim), known.get(pair.invalidator)
+    if taker is None:
+        return UNKNOWN
+    if taker.is_atomic or taker.is_update:
+        return ATOMIC if taker.is_atomic else LOAD
+    if victim is None:
+        return UNKNOWN
+    return LOAD if victim.reads and not victim.is_atomic else STORE
+
+
+def count_kinds(
+    pairs: Iterable[InstructionPair], known: Mapping[int, MemoryEffect]
+) -> dict[str, int]:
+    """How many invalidations of each kind some pairs make."""
+    found = {it: 0 for it in KINDS}
+    for pair in pairs:
+        found[pair_kind(pair, known)] += pair.times
+    return found
+
+
+def describe_kinds(kinds: Mapping[str, int], is_read: bool = True) -> str:
+    """The same in words, or nothing where no instruction is known; `is_read` says whether threads read the line."""
+    if sum(kinds.values()) == kinds.get(UNKNOWN, 0):
+        return ""
+    own = (
+        (kinds[LOAD], "read → write"),
+        (kinds[STORE], "write → write"),
+        (kinds[ATOMIC], "by atomic instructions"),
+        (kinds[UNKNOWN], "by unknown instructions"),
+    )
+    hidden = (
+        ""
+        if is_read or kinds[STORE] * 2 < sum(kinds.values())
+        else "; the line is hardly read, so store buffers hide most of them"
+    )
+    return ", ".join(f"{count:,} {what}" for count, what in own if count) + hidden
+
+
+def cost_weight(kinds: Mapping[str, int], is_read: bool) -> float:
+    """How much invalidations cost, as a part of as many for which an instruction waits: on a line that is read a later load waits."""
+    total = sum(kinds.values())
+    return (
+        (total - kinds[STORE] + kinds[STORE] / HIDDEN_COST_DIVISOR) / total
+        if total and not is_read
+        else 1.0
+    )
+
+
+def is_read(words: Iterable[Word]) -> bool:
+    """Whether a line is loaded from more than seldom, by its words."""
+    reads, writes = (sum(it) for it in zip((0, 0), *((it.reads, it.writes) for it in words)))
+    return reads * HIDDEN_COST_DIVISOR > writes

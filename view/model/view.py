@@ -1,0 +1,788 @@
+"""All that a call of view has found: the data of its outputs."""
+
+import concurrent.futures
+import contextlib
+import functools
+import os
+import re
+from collections import Counter
+from typing import TYPE_CHECKING, Iterable, Sequence, cast
+
+from view.repairs import advice
+from view.reading.calls import EXPLAIN, Call
+from view.model.object_keys import Key, BlocksKey, MemoryKey, SymbolKey, key_order
+from view.model.instruction_pairs import (
+    MemoryEffect,
+    is_read,
+    count_kinds,
+    program_effects,
+    cost_weight,
+)
+from view.reading.file_kinds import has_pcs
+from view.model.foreign_objects import is_foreign
+from view.names.demangling import short_name
+from view.names.naming import Memory, Naming, address_text
+from view.model.objects import (
+    ObjectLine,
+    DataObject,
+    WordUse,
+    field_name_at,
+    group_lines,
+    word_uses,
+    worst_word,
+)
+from view.model.stack_overflow import Overflow, last_bytes_of_file, last_bytes_of_run, find_overflow
+from view.reading.passes import Layout, Passes, first_readers, can_blame, is_brief
+from view.model.predicted_lines import PredictedLine, judge_predicted_lines, choose_layouts
+from view.reading.engine import Predator, Refused, misses_reader, setting_value, stack_range
+from view.reading.reports import (
+    Blame,
+    Block,
+    Explanation,
+    Line,
+    Misses,
+    InstructionPair,
+    Placement,
+    Report,
+    Symbol,
+    LineInvalidations,
+)
+from view.names.unnamed_memory import HEAP, name_by_instructions, go_runtime_keys, join_same_names
+from view.model.miss_rates import Worth
+
+if TYPE_CHECKING:
+    from view.names.native import NativeProgram
+    from view.repairs.trial_results import Trial
+
+# A miss takes about a hundred times as long as an access: those of one in so many take a hundredth of the time.
+RARE_MISS_DIVISOR = 10_000
+# The file and the line where something is declared or made.
+Declared = tuple[str, int]
+
+
+class ObjectDetails:
+    """One object as it is shown: its words, its explained line, the fix, and what trying that came to."""
+
+    def __init__(
+        self,
+        thing: DataObject,
+        words: list[WordUse],
+        explained: LineInvalidations | None,
+        fix: str,
+        tried: str,
+        declared: Declared | None,
+    ) -> None:
+        self.thing, self.words, self.explained, self.fix, self.tried, self.declared = (
+            thing,
+            words,
+            explained,
+            fix,
+            tried,
+            declared,
+        )
+
+    def worst(self) -> WordUse | None:
+        return worst_word([it for it in self.words if it.key == self.thing.key])
+
+    def conflicts(self) -> list[InstructionPair]:
+        """The pairs of instructions that conflict on the object's worst line, the most frequent false sharing first."""
+        pairs = self.explained.pairs if self.explained else []
+        return sorted(pairs, key=lambda pair: (pair.same_word_times - pair.times, -pair.times))
+
+    def worst_conflict(self) -> InstructionPair | None:
+        """The pair whose false sharing of the object's worst line is most frequent, or none."""
+        return next(iter(self.conflicts()), None)
+
+
+class View:
+    objects: list[DataObject]
+    objects_by_key: dict[Key, DataObject]
+    lasting_keys: dict[Key, str]
+    predicted: list[PredictedLine]
+
+    def __init__(self, call: Call, report: Report, naming: Naming) -> None:
+        self.call, self.report, self.naming = call, report, naming
+        self.misses: Misses | None = None
+        self.word_misses: Misses | None = None
+        self.every_line: Report | None = None
+        self.misses_by_layout: dict[Layout, Misses] = {}
+        self.notes: list[str] = []
+        self.blame: Blame | None = None
+        self.invalidations_by_line: dict[int, LineInvalidations] = {}
+        self.placements: dict[Key, Placement] = {}
+        # (none where no repair can be tried)
+        self.trials: dict[Key, Trial] | None = None
+        self.details_by_key: dict[Key, ObjectDetails] = {}
+        # Objects of the C library, and of Go's runtime.
+        self.foreign_keys: set[Key] = set()
+        self.runtime_keys: set[Key] = set()
+        self.missing_harts = ""
+        self.label_counts: Counter[str] | None = None
+        self.overflow: Overflow | None = None
+        # (what it may be worth in time, once that is looked for)
+        self.worth = Worth(self, None)
+        self.effects: dict[int, MemoryEffect] = {}
+
+    def count_misses(self, predator: Predator | None, passes: Passes | None) -> None:
+        """Counts the misses, under the report's layout, for each word, and under the layouts of predicted lines."""
+        if predator is None:
+            self.notes.append(
+                "a report has no misses: use `predator view run` or `predator view replay` to count them"
+            )
+            return
+        if not predator.has_command("misses"):
+            self.notes.append("this predator has no command `misses`, so misses are unknown")
+            return
+        if self.call.reads_trace_once():
+            self.notes.append(
+                "a pipe can be read only once, so misses and fixes are unknown: write the trace to a file"
+            )
+            return
+        brief, foreseen = is_brief(self.call), self.predicted_layouts()
+        asked = first_readers(
+            (self.report.size, self.report.offset), can_blame(self.call, predator), brief
+        )
+        readers = [*asked.values(), *map(misses_reader, foreseen)]
+        try:
+            if passes is not None and self.call.trace_file():
+                counted = passes.results(readers)
+            else:
+                counted = predator.read_trace_of_run(
+                    [*self.call.rerun_words(), *self.call.guest_words], readers, self.call.run_trace
+                )
+        except Refused as refused:
+            self.notes.append(f"misses are unknown: {refused}")
+            return
+        if any(it.accesses != self.report.accesses for it in counted):
+            self.notes.append(
+                "the trace is only a part of what the report counts, so misses are unknown"
+            )
+            return
+        self.note_missing_harts(predator)
+        told = dict(zip(asked, counted))
+        self.word_misses, self.misses = cast("Misses | None", told.get("words")), cast(
+            Misses, told["lines"]
+        )
+        self.every_line, self.blame = cast("Report | None", told.get("each")), cast(
+            "Blame | None", told.get("blame")
+        )
+        self.misses_by_layout = dict(zip(foreseen, cast(list[Misses], counted[len(asked) :])))
+        if brief:
+            self.notes.append(
+                "the trace is long: fixes were tried on its first part, predicted lines weren't counted; --words does both in full"
+            )
+
+    def predicted_layouts(self) -> list[Layout]:
+        """The layouts of the predicted lines whose misses are counted."""
+        options = self.call.options
+        return (
+            []
+            if "no-predicted" in options or is_brief(self.call)
+            else choose_layouts(self.report, self.naming, "predicted" in options)
+        )
+
+    def note_missing_harts(self, predator: Predator) -> None:
+        """Notes that a thread never ran since all harts were in use."""
+        found = re.search(
+            "^predator: (?:no hart was free for |the last .*could not start)",
+            predator.stderr_text,
+            re.MULTILINE,
+        )
+        if found and self.call.action == "run":
+            harts = setting_value(self.call.settings_words(), "harts")
+            self.missing_harts = f"the last thread never ran, because all {harts} harts were in use: use `--set harts={min(2 * harts, 256)}`"
+            self.notes.append(self.missing_harts)
+
+    def look_for_overflow(self, predator: Predator | None) -> None:
+        """Looks, where the run didn't end well, whether a hart ran out of its stack."""
+        if (
+            predator is None
+            or self.report.ended_well()
+            or not self.naming.memory.stack_bytes
+            or self.call.reads_trace_once()
+        ):
+            return
+        trace = self.call.trace_file()
+        with contextlib.suppress(Refused, OSError):
+            last = (
+                last_bytes_of_file(trace)
+                if trace
+                else last_bytes_of_run(predator, [*self.call.rerun_words(), *self.call.guest_words])
+            )
+            self.overflow = find_overflow(last, self.naming.memory)
+
+    def place_objects(self, predator: Predator | None, things: Sequence[DataObject]) -> None:
+        """Has a placement of the first objects counted, where the trace is a file that can be read again and again."""
+        trace, most = self.call.trace_file(), self.call.number_option("explain", EXPLAIN)
+        if (
+            predator is None
+            or trace is None
+            or not predator.has_command("place")
+            or is_brief(self.call)
+        ):
+            return
+        # (what repairs were counted for, or what is to be left as it is, has no use of it)
+        worth = [
+            it for it in things[:most] if not self.decisive_trial(it) and not self.is_little(it)
+        ]
+        named = [(it, name) for it in worth if (name := it.name_to_place()) is not None]
+        placed_at = functools.partial(predator.find_placement, trace, size=self.report.size)
+        with concurrent.futures.ThreadPoolExecutor(max_workers=min(4, os.cpu_count() or 1)) as pool:
+            for (obj, _), placed in zip(named, pool.map(placed_at, [name for _, name in named])):
+                # (of several variables of one name it takes the first)
+                if placed and obj.example and placed.addr == obj.example.addr:
+                    self.placements[obj.key] = placed
+
+    def group_by_objects(self) -> None:
+        """Puts the lines together by objects."""
+        told = [one for one in (self.report, self.misses) if one]
+        self.naming.learn_symbols("\n".join(one.text for one in told))
+        self.naming.find_lines({it for one in told for it in one.sites()})
+        self.objects, self.objects_by_key = group_lines(
+            self.report, self.misses, self.naming, self.every_line
+        )
+        for obj in self.objects_by_key.values():
+            obj.name = self.naming.object_name(obj.key, obj.example)
+        self.rank_objects()
+        if self.blame:
+            name_by_instructions(self.objects, self.blame, self.naming)
+            self.runtime_keys = go_runtime_keys(self.objects, self.blame, self.naming)
+            self.objects_by_key.update(join_same_names(self.objects))
+            self.objects = sorted(
+                dict.fromkeys(self.objects_by_key[it.key] for it in self.objects),
+                key=DataObject.rank,
+            )
+        self.lasting_keys = make_lasting_keys(
+            dict.fromkeys(self.objects_by_key.values()), self.naming
+        )
+        self.predicted = (
+            []
+            if "no-predicted" in self.call.options
+            else judge_predicted_lines(self.report, self.misses, self.misses_by_layout, self.naming)
+        )
+        for line in self.predicted:
+            for key, example in line.keys.items():
+                if key not in self.objects_by_key:
+                    self.objects_by_key[key] = DataObject(key, example)
+                    self.objects_by_key[key].name = self.naming.object_name(key, example)
+
+    def rank_objects(self) -> None:
+        """Puts the objects in order by the misses that lines of their own could save their words at most."""
+        needed: Counter[int] = Counter()
+        size, offset = self.report.size, self.report.offset
+        words = self.word_misses.lines if self.word_misses else {}
+        for addr, word in words.items():
+            # (two words that are missed as often are of one field, or brought by one load)
+            if addr % 8 != 4 or addr - 4 not in words or words[addr - 4].useful != word.useful:
+                needed[(addr - offset) // size * size + offset] += word.useful
+        for obj in self.objects if self.word_misses or self.blame else ():
+            missed = [
+                (spot.missed.useless, spot.missed.useful, spot.base)
+                for spot in obj.lines
+                if spot.missed
+            ]
+            if self.word_misses:
+                obj.savable_misses = sum(
+                    max(0, min(useless, useless + useful - needed[base]))
+                    for useless, useful, base in missed
+                )
+            else:
+                obj.savable_misses = sum(
+                    min(useless, self.false_sharing_invalidations(base))
+                    for useless, _, base in missed
+                    if useless
+                )
+        self.objects.sort(key=DataObject.rank)
+        self.foreign_keys = {it.key for it in self.objects if is_foreign(it, self.naming)}
+
+    def false_sharing_invalidations(self, base: int) -> int:
+        """How often a line is taken for another word than the one for which it was there."""
+        found = self.blame.invalidations(base) if self.blame else None
+        return sum(it.times - it.same_word_times for it in found.pairs) if found else 0
+
+    def rank_by_trials(self, first: Sequence[DataObject]) -> None:
+        """Puts the first objects in order by the misses that their fixes saved on the trace."""
+        if self.trials is None:
+            return
+        places = {
+            it.key: at
+            for at, it in enumerate(sorted(first, key=lambda obj: -self.saved_misses(obj)))
+        }
+        self.objects.sort(key=lambda obj: places.get(obj.key, len(places)))
+
+    def saved_misses(self, thing: DataObject) -> int:
+        """How many misses the best repair of an object saves, as far as that was counted and whole words decide it."""
+        found = (self.trials or {}).get(thing.key)
+        return (
+            found.saved_misses()
+            if found is not None and found.after is not None and not found.mixed_words()
+            else thing.savable_misses
+        )
+
+    def chosen_objects(self) -> list[DataObject]:
+        """The objects that the call wants to see."""
+        return [it for it in self.objects if self.is_named(it)]
+
+    def listed_objects(self) -> list[DataObject]:
+        """Those of them that have a row each."""
+        folded = {it.key for it in self.folded_objects()}
+        return [it for it in self.chosen_objects() if it.key not in folded]
+
+    def folded_objects(self) -> list[DataObject]:
+        """The objects of the C library and of Go's runtime, which have one row, unless the call asks for them."""
+        is_asked = "library" in self.call.options or "object" in self.call.options
+        folded = self.foreign_keys | self.runtime_keys
+        return [] if is_asked else [it for it in self.objects if it.key in folded]
+
+    def chosen_predictions(self) -> list[PredictedLine]:
+        """The predicted lines of the objects that the call wants to see."""
+        name = self.call.options.get("object")
+        return [
+            line
+            for line in self.predicted
+            if name is None
+            or name
+            in {self.objects_by_key[key].name for key in line.keys if key in self.objects_by_key}
+        ]
+
+    def label(self, thing: DataObject) -> str:
+        """An object's name, and what tells it from others of the same one: the line that an inlined function was called from, or an
+        address."""
+        if self.label_counts is None:
+            self.label_counts = Counter(
+                name
+                for obj in dict.fromkeys(self.objects_by_key.values())
+                for name in {obj.name, obj.name + self.caller(obj)}
+            )
+        if self.label_counts[thing.name] < 2:
+            return thing.name
+        if isinstance(thing.example, Block) and thing.example.sites:
+            own = thing.name + self.caller(thing)
+            return (
+                own
+                if self.label_counts[own] == 1
+                else f"{thing.name}, by {self.distinguishing_site(thing, thing.example)}"
+            )
+        if isinstance(thing.key, (SymbolKey, MemoryKey)):
+            return f"{thing.name}, at {address_text(thing.key.addr if isinstance(thing.key, SymbolKey) else thing.key.page)}"
+        return thing.name
+
+    def distinguishing_site(self, thing: DataObject, block: Block) -> str:
+        """The first line among a block's callers that no other object of its name has there, or else an address."""
+        chain = self.naming.own_sites(block.sites)
+        same = [
+            other.example
+            for other in dict.fromkeys(self.objects_by_key.values())
+            if other.name == thing.name and other is not thing
+        ]
+        others = [
+            self.naming.own_sites(it.sites) for it in same if isinstance(it, Block) and it.sites
+        ]
+        for at, site in enumerate(chain):
+            line = self.naming.site_line(site)
+            if line and all(line != self.naming.site_line(it[at]) for it in others if at < len(it)):
+                return line
+        return address_text(chain[0].addr)
+
+    def caller(self, thing: DataObject) -> str:
+        """Of blocks that an inlined function makes the line that it was called from, as a part of their label."""
+        if (
+            not isinstance(thing.example, Block)
+            or not thing.example.sites
+            or not self.naming.sources
+        ):
+            return ""
+        lines = [
+            frame.short()
+            for frame in self.naming.sources.frames(
+                self.naming.own_sites(thing.example.sites)[0].addr
+            )
+            if frame.short()
+        ]
+        return f", from {lines[-1]}" if len(lines) > 1 else ""
+
+    def is_named(self, thing: DataObject) -> bool:
+        name = self.call.options.get("object")
+        return name is None or name in self.names_of(thing)
+
+    def name_of(self, key: Key) -> str:
+        return self.objects_by_key[key].name
+
+    def names_of(self, thing: DataObject) -> set[str]:
+        """What a call may name an object by: its own name, and those beside it."""
+        parts = [thing, *(self.objects_by_key[key] for key in thing.neighbours)]
+        own = {it.name for it in parts} | {
+            self.naming.object_name(it.key, it.example) for it in parts
+        }
+        return (
+            own
+            | {self.naming.names.shorten(it) for it in own}
+            | {it.partition(" made at ")[2].partition(" ")[0] for it in own}
+        )
+
+    def explain(self, predator: Predator | None, things: Sequence[DataObject]) -> None:
+        """Explains the invalidations of the first objects' worst lines: by the trace, or by as many runs side by side."""
+        most = self.call.number_option("explain", EXPLAIN)
+        program, trace = self.call.program, self.call.trace_file()
+        if self.blame is not None:
+            found = (self.blame.invalidations(it.worst_line().base) for it in things)
+            self.invalidations_by_line = {it.base: it for it in found if it}
+        elif (
+            predator is not None
+            and most
+            and program is None
+            and trace
+            and has_pcs(trace)
+            and not predator.has_command("blame")
+        ):
+            self.notes.append(
+                "this predator has no command `blame`, so the conflicting instructions are unknown"
+            )
+        elif is_brief(self.call) and "explain" not in self.call.options:
+            self.notes.append(
+                "the trace is long and has no program counters: --explain N finds the instructions of N objects, with a run each"
+            )
+        elif program is not None and predator is not None and most:
+            self.explain_by_runs(predator, program, things[:most])
+        shown = None if "words" in self.call.options else 8
+        self.naming.find_lines(
+            {
+                at
+                for it in self.invalidations_by_line.values()
+                for pair in it.pairs[:shown]
+                for at in pair[:2]
+            }
+        )
+        if self.naming.program is not None:
+            self.effects = program_effects(
+                self.naming.program,
+                {
+                    at
+                    for it in self.invalidations_by_line.values()
+                    for pair in it.pairs
+                    for at in pair[:2]
+                },
+            )
+            self.rank_by_cost()
+
+    def rank_by_cost(self) -> None:
+        """Puts the objects whose worst lines are explained in the order of what they save, where an invalidation for which no instruction
+        waits counts less."""
+        own = [
+            at
+            for at, it in enumerate(self.objects)
+            if it.worst_line().base in self.invalidations_by_line
+        ]
+        ranked = sorted(
+            (self.objects[at] for at in own),
+            key=lambda obj: (-obj.savable_misses * self.cost_weight(obj), obj.rank()),
+        )
+        for at, obj in zip(own, ranked):
+            self.objects[at] = obj
+
+    def cost_weight(self, thing: DataObject) -> float:
+        return cost_weight(self.invalidation_kinds(thing) or {}, self.is_read(thing))
+
+    def is_read(self, thing: DataObject) -> bool:
+        """Whether threads read an object's worst line, as far as its words are known."""
+        line = thing.worst_line().line_with_words()
+        return line is None or is_read(line.words())
+
+    def invalidation_kinds(self, thing: DataObject) -> dict[str, int] | None:
+        """How many invalidations of each kind an object's worst line has, or none where it isn't explained."""
+        found = self.invalidations_by_line.get(thing.worst_line().base)
+        return count_kinds(found.pairs, self.effects) if found else None
+
+    def explain_by_runs(
+        self, predator: Predator, program: str, things: Sequence[DataObject]
+    ) -> None:
+        spots = [spot for spot in (it.worst_line() for it in things) if spot.base >= 0]
+        if spots and not predator.has_command("explain"):
+            self.notes.append(
+                "this predator has no command `explain`, so the conflicting instructions are unknown"
+            )
+            return
+        asked = functools.partial(self.explain_line, predator, program)
+        with concurrent.futures.ThreadPoolExecutor(max_workers=min(4, os.cpu_count() or 1)) as pool:
+            for spot, explained in zip(spots, pool.map(asked, spots)):
+                if isinstance(explained, Refused):
+                    self.notes.append(
+                        f"the conflicting instructions on line {spot.base:#010x} are unknown: {explained}"
+                    )
+                elif explained.accesses == self.report.accesses and (
+                    spot.line is None or explained.count == spot.line.count
+                ):
+                    self.invalidations_by_line[spot.base] = explained.invalidations
+                else:
+                    self.notes.append(
+                        f"the program with these settings makes another trace, so line {spot.base:#010x} isn't explained"
+                    )
+
+    def note_unmatched_options(self) -> None:
+        """Notes options that matched nothing: a type for blocks that aren't contended, and a folder without a source of the program."""
+        blocks = [
+            obj.example
+            for obj in self.objects_by_key.values()
+            if isinstance(obj.example, Block) and obj.example.sites
+        ]
+        sites = [self.naming.names_of_site(it) for it in blocks]
+        for site in (site for site, _ in self.naming.types if not any(site in it for it in sites)):
+            first = [self.naming.own_sites(it.sites)[0] for it in blocks]
+            made = sorted(
+                {
+                    self.naming.site_line(it) or short_name(self.naming.function_name(it))
+                    for it in first
+                }
+            )
+            there = (
+                f"contended blocks are made at {advice.listing(made)}"
+                if made
+                else "no block is contended"
+            )
+            self.notes.append(f"`--type {site}=..` matches no contended block: {there}")
+        folder, sources = self.call.options.get("sources", ""), self.naming.sources
+        files = (
+            sorted({it.file for frames in sources.places.values() for it in frames if it.file})
+            if folder and sources
+            else []
+        )
+        if files and not any(
+            os.path.isfile(os.path.join(folder, name))
+            for file in files
+            for name in (file, os.path.basename(file))
+        ):
+            self.notes.append(
+                f"`--sources {folder}` has none of the program's sources ({advice.listing(map(os.path.basename, files))})"
+            )
+
+    def explain_line(
+        self, predator: Predator, program: str, spot: ObjectLine
+    ) -> Explanation | Refused:
+        """The text of `explain` for a line, or its refusal."""
+        start, words = spot.line.start if spot.line else 0, self.call.settings_words()
+        try:
+            return predator.explain_line(
+                [
+                    program,
+                    f"{spot.base:#010x}",
+                    str(self.report.size),
+                    str(start),
+                    *words,
+                    *self.call.guest_words,
+                ]
+            )
+        except Refused as refused:
+            return refused
+
+    def details(self, thing: DataObject) -> ObjectDetails:
+        """What is shown of an object."""
+        if thing.key not in self.details_by_key:
+            words = [
+                word
+                for spot in thing.worst_lines()
+                for word in word_uses(spot, self.naming, self.word_misses)
+            ]
+            fix, tried = self.choose_fix(thing, words), self.trial_numbers(thing)
+            explained = self.invalidations_by_line.get(thing.worst_line().base)
+            self.details_by_key[thing.key] = ObjectDetails(
+                thing, words, explained, fix, tried, self.declaration(thing)
+            )
+        return self.details_by_key[thing.key]
+
+    def type_of(self, thing: DataObject) -> str:
+        """The name of an object's type, or nothing where that isn't known."""
+        program, example = self.naming.program, thing.example
+        if program is None or example is None:
+            return ""
+        from view.names.fields import value_or_default, type_name
+
+        if isinstance(example, Symbol):
+            variable = program.variable(example.addr)
+            of = variable.type if variable else None
+        else:
+            block = example
+            of = value_or_default(lambda: self.naming.type_of_block(block), None)
+        return (
+            value_or_default(lambda: type_name(of), "").replace(" (unnamed)", "")
+            if of is not None
+            else ""
+        )
+
+    def invalidations_of(self, spot: ObjectLine) -> int | None:
+        """The invalidations of a line: since its first write where that was counted, and else as the report lists it."""
+        if self.every_line is None:
+            return spot.line.count if spot.line else None
+        line = self.each_lines.get(spot.base)
+        return line.count if line else 0
+
+    @functools.cached_property
+    def each_lines(self) -> dict[int, Line]:
+        """Each line that was ever invalidated, by its base."""
+        return self.every_line.observed_by_base() if self.every_line else {}
+
+    def invalidations(self, thing: DataObject) -> int:
+        """The invalidations of all of an object's lines."""
+        return sum(self.invalidations_of(it) or 0 for it in thing.lines)
+
+    def is_minor(self, thing: DataObject) -> bool:
+        """Whether an object behind the first one has hardly any misses, so that it has no row."""
+        if "object" in self.call.options or self.is_clean() or self.objects[0] is thing:
+            return False
+        return (thing.useless + thing.useful) * advice.LITTLE < self.total()
+
+    def total(self) -> int:
+        """The misses that aren't cold."""
+        return self.misses.total["useless"] + self.misses.total["useful"] if self.misses else 0
+
+    def is_clean(self) -> bool:
+        """Whether so few accesses of a trace miss that no change is worth it. (Of a run the severity says that.)"""
+        return not self.report.steps and 0 < self.total() * RARE_MISS_DIVISOR < self.report.accesses
+
+    def is_little(self, thing: DataObject) -> bool:
+        """Whether an object has so few of the misses that it isn't worth a change."""
+        if self.is_clean() and "object" not in self.call.options:
+            return True
+        is_first = self.objects[0] is thing or "object" in self.call.options
+        return not is_first and 0 < (thing.useless + thing.useful) * advice.LITTLE < self.total()
+
+    def decisive_trial(self, thing: DataObject) -> "Trial | None":
+        """The trial of an object's repairs, where that decides the fix."""
+        found = (self.trials or {}).get(thing.key)
+        return found if found is not None and found.is_decisive() else None
+
+    def choose_fix(self, thing: DataObject, words: list[WordUse]) -> str:
+        """The fix for an object."""
+        tried = self.decisive_trial(thing)
+        if tried:
+            mixed = [field_name_at(it, thing.example, self.naming) for it in tried.mixed_words()]
+            fix = tried.fix(list(dict.fromkeys(mixed)), self.quantum())
+            return fix + self.worth.warning(thing, words)
+        if self.is_little(thing):
+            return advice.little(thing, self.total())
+        if thing.name == HEAP:
+            return advice.of_allocator()
+        names = {key: self.label(self.objects_by_key[key]) for key in thing.neighbours}
+        todo = advice.sentence(
+            thing,
+            words,
+            names,
+            self.needed_alignment(thing),
+            self.misses is not None,
+            self.element_fix(thing),
+            self.quantum(),
+        )
+        placed = advice.placing(
+            self.placements.get(thing.key),
+            lambda addr: field_name_at(addr, thing.example, self.naming),
+            self.naming.memory.owner,
+        )
+        return todo + placed + self.worth.warning(thing, words)
+
+    def trial_numbers(self, thing: DataObject) -> str:
+        """The numbers of the trial of an object's repairs, or nothing."""
+        tried = self.decisive_trial(thing)
+        return tried.outcome(bool(tried.mixed_words())) if tried else ""
+
+    def quantum(self) -> int:
+        """The quantum of the run, or 0 where that isn't known."""
+        words = self.call.settings_words()
+        if self.call.action != "run" or any(it.startswith("--schedule") for it in words):
+            return 0
+        return setting_value(words, "quantum")
+
+    def needed_alignment(self, thing: DataObject) -> int:
+        """The alignment that keeps apart what is seen, and what is predicted of lines twice as long."""
+        sizes = [it.line.size for it in self.predicted if it.is_shown and thing.key in it.keys]
+        return max([self.report.size, *sizes])
+
+    def element_fix(self, thing: DataObject) -> advice.Element:
+        """A function that gives the code by which each element of an array in an object gets its own line, or nothing."""
+
+        def told(array: str) -> str:
+            if self.naming.program is None:
+                return ""
+            from view.names.fields import value_or_default
+
+            return value_or_default(lambda: of_array(array), "")
+
+        def of_array(array: str) -> str:
+            from view.names.fields import type_at_path, element_of
+            from view.repairs.layouts import Shape
+            from view.repairs.candidates import own_lines_code
+
+            program, is_block = self.naming.program, isinstance(thing.example, Block)
+            variable = (
+                program.variable(thing.example.addr)
+                if program and isinstance(thing.example, Symbol)
+                else None
+            )
+            whole = (
+                variable.type
+                if variable
+                else self.naming.type_of_block(thing.example)
+                if isinstance(thing.example, Block)
+                else None
+            )
+            of = type_at_path(whole, array.removeprefix(thing.name)) if whole is not None else None
+            of = element_of(of) if element_of(of) is not None else (of if is_block else None)
+            return own_lines_code(Shape(of), self.needed_alignment(thing)) if of is not None else ""
+
+        return told
+
+    def declaration(self, thing: DataObject) -> Declared | None:
+        """The file and line where an object is declared or made, or none."""
+        program = self.naming.program
+        if isinstance(thing.example, Symbol) and program:
+            from view.names.fields import value_or_default
+
+            variable = program.variable(thing.example.addr)
+            return (
+                value_or_default(functools.partial(program.declaration, variable), None)
+                if variable
+                else None
+            )
+        if isinstance(thing.example, Block) and thing.example.sites and self.naming.sources:
+            place = self.naming.sources.place(self.naming.own_sites(thing.example.sites)[0].addr)
+            return (place.file, place.line) if place else None
+        return None
+
+
+def make_lasting_keys(things: Iterable[DataObject], naming: Naming) -> dict[Key, str]:
+    """For each object a text that another build of the program has too: no address, and no line of a source."""
+    found: dict[Key, str] = {}
+    groups: dict[str, list[DataObject]] = {}
+    for obj in sorted(things, key=lambda obj: key_order(obj.key)):
+        if isinstance(obj.key, SymbolKey):
+            text = f"symbol {naming.names.lasting_name(obj.key.name)}"
+        elif isinstance(obj.key, BlocksKey):
+            text = "block " + (
+                " < ".join(naming.site_functions(obj.example.sites))
+                if isinstance(obj.example, Block) and obj.example.sites
+                else "-"
+            )
+        else:
+            text = "memory" if isinstance(obj.key, MemoryKey) else f"{obj.key.kind} {obj.key[1]}"
+        groups.setdefault(text, []).append(obj)
+    for text, own in groups.items():
+        for at, obj in enumerate(own):
+            found[obj.key] = text if at == 0 else f"{text} #{at + 1}"
+    return found
+
+
+def stack_memory(
+    call: Call, predator: Predator | None, native: "NativeProgram | None" = None
+) -> Memory:
+    """Where the stacks of a program lie: of one of this machine by its table back, and of a guest under the settings of the call."""
+    if native is not None:
+        from view.names.native import NativeMemory
+
+        return NativeMemory(native)
+    if call.program is None or predator is None:
+        return Memory()
+    words = call.settings_words()
+    own = [
+        word
+        for at, word in enumerate(words)
+        if not (word.startswith("--schedule") or at and words[at - 1] == "--schedule")
+    ]
+    return Memory(stack_range(predator, call.program, own), setting_value(own, "harts"))

@@ -1,0 +1,137 @@
+"""The assertions of stripped code of C and C++: one that fails hands its text, file, line and function to `__assert_fail`."""
+
+import functools
+import os
+import re
+from typing import NamedTuple
+
+from view.names.x86_image import CALL, THROUGH, Image, find_jumps
+from view.names.demangling import short_name
+
+FAILING = "__assert_fail"
+# What such a call takes is loaded in so many bytes before it.
+LOADED = 64
+# The instructions before the call: `lea` or `mov` of texts, `mov` of the line, and what makes room on the stack.
+LOADS = re.compile(
+    rb"(?:\x48\x8d(?:\x0d(?P<function>.{4})|\x35(?P<file>.{4})|\x3d(?P<text>.{4}))|\xba(?P<line>.{4})|\xb9(?P<function_at>.{4})"
+    rb"|\xbe(?P<file_at>.{4})|\xbf(?P<text_at>.{4})|[\x50-\x57]|\x41[\x50-\x57]|\x48\x83\xec.|\x66?\x90)+\Z",
+    re.DOTALL,
+)
+# What is called may begin before the jump to another file: where calls are checked, and where the number of a symbol is loaded.
+STUB, STUB_SIZE = re.compile(rb"\xf3\x0f\x1e\xfa(?:\x41\xbb.{4})?\xf2?\Z", re.DOTALL), 11
+SOURCE, NAME = re.compile(rb"[^\x00-\x1f\x7f]+\.[A-Za-z+]{1,4}"), re.compile(rb"[\x20-\x7e]+")
+# What is before the folder of a package's sources, as they were compiled.
+BUILT = re.compile(
+    r"^/(?:.*?/)?(?:build|builddir|usr/src)/(?:reproducible-path/)?[^/]+/|^(?:\.\./)+"
+)
+LIBRARY = re.compile(r"(?:^|/)usr/(?:local/)?include/|/include/c\+\+/|/lib/gcc/")
+HEADER = re.compile(r"\.(?:h|hh|hpp|hxx|h\+\+|inc|inl|ipp|tcc|tpp)$")
+WITH = re.compile(r" \[(?:with )?(.*)\]$")
+
+
+class Assertion(NamedTuple):
+    """A place of a source that may fail: where code loads what its call takes, that call, the source's line and function, whose name is
+    empty where it isn't known, and where this and the other texts stand."""
+
+    begin: int
+    at: int
+    file: str
+    line: int
+    function: str
+    texts: tuple[int, ...]
+
+    def is_library(self) -> bool:
+        return bool(LIBRARY.search(self.file))
+
+    def is_header(self) -> bool:
+        return bool(HEADER.search(self.file))
+
+    def text(self) -> str:
+        place = f"near an assertion at {path_in_package(self.file)}:{self.line}"
+        return f"{place} in {self.function}" if self.function else place
+
+
+def path_in_package(file: str) -> str:
+    """A source from its package's folder on."""
+    return BUILT.sub("", os.path.normpath(file))
+
+
+def short_function_name(whole: str) -> str:
+    """A function as `__PRETTY_FUNCTION__` has it, short, with what its templates stand for."""
+    given = WITH.search(whole)
+    name = whole[: given.start()] if given else whole
+    for argument in given[1].split("; ") if given else ():
+        what, _, value = argument.partition(" = ")
+        if what.isidentifier():
+            name = re.sub(rf"\b{what}\b", value.replace("\\", ""), name)
+    return short_name(name.replace(", ", ","))
+
+
+class Assertions:
+    """The assertions of a program."""
+
+    def __init__(self, image: Image) -> None:
+        self.image = image
+
+    @functools.cached_property
+    def failing(self) -> set[int]:
+        """What is called where one fails: the words with the function's address, and the jumps through these."""
+        slots = self.image.slots(FAILING)
+        jumps = (
+            {
+                at
+                for at, word in self.image.find_references(THROUGH)
+                if word in slots and self.image.is_jump(at)
+            }
+            if slots
+            else set[int]()
+        )
+        return slots | {it for at in jumps for it in (at, self.stub(at))}
+
+    def stub(self, jump: int) -> int:
+        before = STUB.search(self.image.bytes(jump - STUB_SIZE, STUB_SIZE))
+        return jump - (STUB_SIZE - before.start()) if before else jump
+
+    @functools.cache
+    def of(self, start: int, end: int) -> list[Assertion]:
+        """The assertions between two addresses."""
+        code = self.image.bytes(start, end - start) if self.failing else b""
+        calls = [
+            at
+            for form in (CALL, THROUGH)
+            for at, to in find_jumps(code, start, form)
+            if to in self.failing
+        ]
+        return [
+            assertion
+            for at in sorted(calls)
+            if (assertion := self.assertion(at, code[max(at - start - LOADED, 0) : at - start]))
+        ]
+
+    def assertion(self, at: int, loads: bytes) -> Assertion | None:
+        """The assertion that is called somewhere, by what is loaded before, or none."""
+        told = LOADS.search(loads)
+        if told is None or not told["line"]:
+            return None
+        texts = tuple(
+            self.loaded_assertion(told, at - len(loads), it) for it in ("function", "file", "text")
+        )
+        name, file = map(self.image.text, texts[:2])
+        line = int.from_bytes(told["line"], "little")
+        if not SOURCE.fullmatch(file) or not 0 < line < 1 << 20:
+            return None
+        function = short_function_name(name.decode("latin-1")) if NAME.fullmatch(name) else ""
+        return Assertion(
+            at - len(loads) + told.start(),
+            at,
+            file.decode("utf-8", "replace"),
+            line,
+            function,
+            texts,
+        )
+
+    def loaded_assertion(self, told: re.Match[bytes], begin: int, what: str) -> int:
+        """The address of a text that is loaded, or 0."""
+        if told[what]:
+            return begin + told.end(what) + int.from_bytes(told[what], "little", signed=True)
+        return int.from_bytes(told[what + "_at"] or b"", "little") if self.image.is_fixed else 0

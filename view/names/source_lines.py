@@ -1,0 +1,126 @@
+"""Where instructions stand in the sources, by llvm-symbolizer."""
+
+import json
+import os
+import shutil
+import subprocess
+from typing import Any, Iterable, NamedTuple, Sequence
+
+from view.faults import Fault
+
+# So many instructions before one without a line are looked at.
+MAX_INSTRUCTIONS_BACK = 16
+PACKAGES = "apt-get install llvm python3-pyelftools python3-jinja2"
+
+
+class SourceLine(NamedTuple):
+    """A line of a source, and its function; the file is empty where nothing is known, the line then 0."""
+
+    function: str
+    file: str
+    line: int
+
+    def short(self) -> str:
+        return f"{os.path.basename(self.file)}:{self.line}" if self.file and self.line else ""
+
+
+def parse_frames(told: dict[str, Any]) -> list[SourceLine]:
+    """The frames of an address as llvm-symbolizer tells them, the innermost first."""
+    frames = [
+        (frame.get("FunctionName", ""), frame.get("FileName", ""), frame.get("Line", 0))
+        for frame in told.get("Symbol", [])
+    ]
+    return [
+        SourceLine(function, file and os.path.normpath(file), line)
+        for function, file, line in frames
+        if function or file
+    ]
+
+
+class Sources:
+    """The lines of a program's addresses, and the texts of its sources as far as they are there."""
+
+    def __init__(
+        self, program: str, folders: Iterable[str] = (), code: Sequence[tuple[int, int]] = ()
+    ) -> None:
+        self.program, self.code = program, code
+        self.places: dict[int, list[SourceLine]] = {}
+        self.texts: dict[str, list[str]] = {}
+        self.folders = [*folders, "", os.path.dirname(os.path.abspath(program))]
+        tool = shutil.which("llvm-symbolizer")
+        if tool is None:
+            raise Fault(f"llvm-symbolizer isn't installed: {PACKAGES}", 127)
+        self.tool = tool
+
+    def find(self, addresses: Iterable[int]) -> None:
+        """Looks some addresses up in one call."""
+        unknown = {it for it in addresses if it not in self.places}
+        # (debug information has functions that were discarded, at address 0)
+        self.places.update({it: [] for it in unknown})
+        wanted = sorted(
+            addr
+            for addr in unknown
+            if not self.code or any(low <= addr < high for low, high in self.code)
+        )
+        if not wanted:
+            return
+        ran = subprocess.run(
+            [self.tool, f"--obj={self.program}", "--output-style=JSON", "--inlines"],
+            input="".join(f"{it:#x}\n" for it in wanted).encode(),
+            stdout=subprocess.PIPE,
+            stderr=subprocess.DEVNULL,
+        )
+        for row in ran.stdout.decode("utf-8", "replace").splitlines():
+            told = json.loads(row)
+            self.places[int(told["Address"], 16)] = parse_frames(told)
+
+    def frames(self, address: int) -> list[SourceLine]:
+        """The functions inlined at an address, the innermost first."""
+        self.find([address])
+        return self.places[address]
+
+    def place(self, address: int) -> SourceLine | None:
+        """The innermost line of an address that is known, or none."""
+        return next((it for it in self.frames(address) if it.file and it.line), None)
+
+    def near(self, address: int) -> SourceLine | None:
+        """Where the compiler has made one instruction of several lines and so told none: the line of the nearest one before it in its
+        function."""
+        function = next((it.function for it in reversed(self.frames(address))), "")
+        before = (
+            range(address - 4, max(address - 4 * MAX_INSTRUCTIONS_BACK, 0) - 1, -4)
+            if function
+            else range(0)
+        )
+        self.find(before)
+        for addr in before:
+            frames = self.frames(addr)
+            if not frames or frames[-1].function != function:
+                return None
+            if self.place(addr):
+                return self.place(addr)
+        return None
+
+    def path(self, file: str) -> str | None:
+        """Where a source is on this machine, or none."""
+        for folder in self.folders:
+            for name in (file, os.path.basename(file)):
+                path = (
+                    os.path.normpath(os.path.join(folder, name))
+                    if folder
+                    else os.path.normpath(name)
+                )
+                if os.path.isfile(path) and (folder or name == file):
+                    return path
+        return None
+
+    def text(self, file: str) -> list[str]:
+        """The lines of a source, none of which are there if it isn't."""
+        if file not in self.texts:
+            path = self.path(file)
+            lines = []
+            if path and os.path.getsize(path) < 1 << 24:
+                with open(path, encoding="utf-8", errors="replace") as source:
+                    lines = source.read().split("\n")
+            self.texts[file] = lines
+        return self.texts[file]

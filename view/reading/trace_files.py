@@ -1,0 +1,158 @@
+"""Who uses which word of a trace while threads run, read from the trace itself. Traces of other versions are converted to version 1 first,
+in which each access has eight bytes."""
+
+import mmap
+import os
+import struct
+import tempfile
+from array import array
+from collections import Counter
+from typing import Iterator, NamedTuple
+
+from view.reading.engine import Predator
+
+HEADER, ACCESS = 20, 8
+# The end of a part of a trace, with how many accesses it has.
+PART_END = struct.Struct("<BBBHIQQ")
+END, OF_PART = 6, 4
+# How much of a long trace is looked at for the best repair, where it has more than so many times that.
+PART, LONG = 1 << 19, 4
+# So many accesses are looked at in one piece: few behind another record, and more as long as none comes.
+FEW, MANY = 64, 1 << 13
+# Of more accesses than so many only every second, third .. piece is counted: who uses what is a guess, by which repairs are chosen.
+ENOUGH = 1 << 21
+# The sizes of records that aren't accesses, by their tags; a symbol has its name behind them.
+SIZES = {3: 25, 4: 5, 5: 12}
+SYMBOL = 5
+# A hart that makes fewer than one in so many of the accesses that another makes to a word, or no more than so many, only looks.
+SELDOM, LOOKS = 20, 2
+# A word of which fewer than one in so many accesses writes is read only.
+STEADY = 100
+READ = 1
+
+
+class HartUse(NamedTuple):
+    """How a hart uses a word: reads, writes, and the bytes of it, as bits."""
+
+    reads: int
+    writes: int
+    bytes: int
+
+    def accesses(self) -> int:
+        return self.reads + self.writes
+
+
+# The use of a word by each hart.
+ByHart = dict[int, HartUse]
+
+
+def access_pieces(data: mmap.mmap) -> Iterator[tuple[int, bytes]]:
+    """The accesses of a trace of version 1, in pieces, in order, each with where it begins."""
+    place, many, end = HEADER, FEW, len(data)
+    while place < end:
+        piece = data[place : place + ACCESS * many]
+        tags = piece[::ACCESS]
+        good = len(tags) - len(tags.lstrip(b"\1\2"))
+        if good:
+            yield place, piece[: ACCESS * good]
+        place += ACCESS * good
+        if good == many:
+            many = min(2 * many, MANY)
+            continue
+        tag = data[place] if place < end else 0
+        if tag not in SIZES:
+            return
+        place += SIZES[tag] + (
+            int.from_bytes(data[place + 10 : place + 12], "little") if tag == SYMBOL else 0
+        )
+        many = FEW
+
+
+class ThreadPhase:
+    """How often each access is made while threads run: from the first access of another hart than the first one on, up to the last such
+    access. `front` is the first part of a long trace, a trace too, or empty."""
+
+    def __init__(self, data: mmap.mmap) -> None:
+        self.counts: "Counter[int]" = Counter()
+        self.front = b""
+        pending: "Counter[int]" = Counter()
+        first, accesses, enough, step = b"", 0, 0, len(data) // (ACCESS * ENOUGH) + 1
+        for at, (place, piece) in enumerate(access_pieces(data)):
+            # (a hart is below 256, and has its number in one byte)
+            harts = piece[1::ACCESS]
+            first = first or harts[:1]
+            low, high = 0, len(harts.rstrip(first))
+            if high and not enough:
+                low = len(harts) - len(harts.lstrip(first))
+                enough = accesses + low + PART
+            accesses += len(harts)
+            if high:
+                self.counts.update(pending)
+                pending.clear()
+            if enough and at % step == 0:
+                self.counts.update(array("Q", piece[ACCESS * low : ACCESS * high]))
+                pending.update(array("Q", piece[ACCESS * high :]))
+            if (
+                enough
+                and not self.front
+                and accesses >= enough
+                and len(data) > place + ACCESS * PART * LONG
+            ):
+                self.front = data[: place + len(piece)] + PART_END.pack(
+                    END, OF_PART, 0, 0, 0, 0, accesses
+                )
+
+
+class WordUses:
+    """Who uses which words of a trace while threads run."""
+
+    def __init__(self, path: str) -> None:
+        with open(path, "rb") as file, mmap.mmap(file.fileno(), 0, access=mmap.ACCESS_READ) as data:
+            running = ThreadPhase(data)
+        self.front = running.front
+        self.words: dict[int, ByHart] = {}
+        self.cached: dict[int, ByHart] = {}
+        for key, much in running.counts.items():
+            addr = key >> 24 & 0xFFFFFFFF
+            self.add(addr & ~3, key, addr & 3, much)
+
+    def add(self, word: int, key: int, at: int, much: int) -> None:
+        hart, is_read, size = key >> 8 & 0xFFFF, key & 0xFF == READ, key >> 56
+        own = self.words.setdefault(word, {})
+        reads, writes, used = own.get(hart, (0, 0, 0))
+        own[hart] = HartUse(
+            reads + much * is_read, writes + much * (not is_read), used | ((1 << size) - 1) << at
+        )
+
+    def users_of(self, word: int) -> ByHart:
+        """The harts that use a word, without those that only look at it."""
+        if word in self.cached or word not in self.words:
+            return self.cached.get(word, {})
+        own = self.words[word]
+        most = max((it.accesses() for it in own.values()), default=0)
+        found = {
+            hart: use
+            for hart, use in own.items()
+            if use.accesses() * SELDOM >= most and (use.accesses() > LOOKS or most <= LOOKS)
+        }
+        self.cached[word] = found
+        return found
+
+    def is_mixed(self, word: int) -> bool:
+        """Whether harts use different bytes of a word, one of them to write."""
+        own = self.users_of(word).values()
+        return len({it.bytes for it in own}) > 1 and any(it.writes for it in own)
+
+
+def read_word_uses(predator: Predator, trace: str) -> WordUses | None:
+    """Who uses the words of a trace, or none where it can't be read so."""
+    with tempfile.TemporaryDirectory(prefix="predator-view-") as folder:
+        for at in range(3):
+            with open(trace, "rb") as file:
+                version = file.read(8)
+            if version == b"PRDTRC01":
+                return WordUses(trace)
+            other = os.path.join(folder, str(at))
+            predator.quiet_output(["convert", "--", trace, other])
+            trace = other
+    return None

@@ -1,0 +1,286 @@
+"""Where the words of an object come to lie once its types are declared otherwise: as a compiler lays them out."""
+
+from typing import Iterable, Iterator, NamedTuple, Sequence
+
+from view.names.fields import (
+    RECORDS,
+    Die,
+    alignment_of,
+    bare_type,
+    element_counts,
+    die_name,
+    member_place,
+    size_of,
+    type_of,
+    attribute_value,
+)
+
+# So many ranges are moved at most.
+MAX_MOVED_RANGES = 100_000
+STRUCTS = ("DW_TAG_structure_type", "DW_TAG_class_type")
+
+
+class Unmovable(Exception):
+    """An object that can't be laid out anew by words."""
+
+
+class Shape(NamedTuple):
+    """A type, or what is left of an array's once its first dimensions are indexed."""
+
+    die: Die
+    skip: int = 0
+
+    def dims(self) -> list[int]:
+        kind = bare_type(self.die)
+        return (
+            [it or 0 for it in element_counts(kind)][self.skip :]
+            if kind is not None and kind.tag == "DW_TAG_array_type"
+            else []
+        )
+
+    def element(self) -> "Shape":
+        return (
+            Shape(self.die, self.skip + 1)
+            if len(self.dims()) > 1
+            else Shape(type_of(bare_type(self.die)))
+        )
+
+    def size(self) -> int:
+        dims = self.dims()
+        if not dims:
+            return size_of(self.die)
+        size = size_of(type_of(bare_type(self.die)))
+        for count in dims:
+            size *= count
+        return size
+
+    def record(self) -> Die:
+        """The record that it is, or none."""
+        kind = bare_type(self.die)
+        return kind if kind is not None and kind.tag in RECORDS else None
+
+
+class Member(NamedTuple):
+    """A field of a record: its place and size in bytes."""
+
+    name: str
+    begin: int
+    size: int
+    shape: Shape
+    die: Die
+
+    def alignment(self) -> int:
+        return max(attribute_value(self.die, "alignment", 1), alignment_of(self.shape.die))
+
+
+def record_members(record: Die) -> list[Member] | None:
+    """The fields of a structure, or none where these can't be put in another order: bit fields, base classes, and a union's."""
+    found: list[Member] = []
+    if record.tag not in STRUCTS:
+        return None
+    for child in record.iter_children():
+        if child.tag == "DW_TAG_inheritance":
+            return None
+        if child.tag == "DW_TAG_member" and "DW_AT_external" not in child.attributes:
+            start, bits = member_place(child)
+            if bits is not None or start % 8 or not die_name(child):
+                return None
+            found.append(
+                Member(
+                    die_name(child),
+                    start // 8,
+                    size_of(type_of(child)),
+                    Shape(type_of(child)),
+                    child,
+                )
+            )
+    return found if all(it.size for it in found) else None
+
+
+class LayoutChange:
+    """What is declared otherwise. A record is named by its place in the debug information, an array by the path to its elements, as
+    `.slots[]`."""
+
+    def __init__(self, line: int) -> None:
+        self.line = line
+        # Records that begin on a line and fill it.
+        self.aligned_records: set[int] = set()
+        # Of records their fields in a new order, each group of which begins on a line.
+        self.grouped_fields: dict[int, list[list[Member]]] = {}
+        # Arrays whose elements have a struct around each.
+        self.wrapped_arrays: set[str] = set()
+
+
+class MovedRange(NamedTuple):
+    """Some bytes of a value, and where they come to lie in it."""
+
+    begin: int
+    size: int
+    to: int
+
+
+class NewLayout(NamedTuple):
+    """A value as it is laid out anew."""
+
+    size: int
+    alignment: int
+    parts: list[MovedRange]
+
+    def is_as_before(self, size: int) -> bool:
+        return self.size == size and all(it.begin == it.to for it in self.parts)
+
+
+def round_up(number: int, by: int) -> int:
+    return -(-number // by) * by
+
+
+def lay_out(shape: Shape, change: LayoutChange, path: str = "") -> NewLayout:
+    """A value of a type as the change lays it out."""
+    if shape.dims():
+        return lay_out_array(shape, change, path)
+    record = shape.record()
+    size, alignment = shape.size(), alignment_of(shape.die)
+    whole = NewLayout(size, alignment, [MovedRange(0, size, 0)])
+    if record is None:
+        return whole
+    members = record_members(record)
+    found = lay_out_record(record, members, change, path) if members else whole
+    if found.is_as_before(size):
+        found = whole
+    if record.offset in change.aligned_records or record.offset in change.grouped_fields:
+        return NewLayout(
+            round_up(found.size, change.line), max(found.alignment, change.line), found.parts
+        )
+    return found
+
+
+def lay_out_record(
+    record: Die, members: Sequence[Member], change: LayoutChange, path: str
+) -> NewLayout:
+    groups = change.grouped_fields.get(record.offset)
+    own = [(it, lay_out(it.shape, change, f"{path}.{it.name}")) for it in members]
+    by_name = {member.name: inner for member, inner in own}
+    at, parts, most = 0, [], attribute_value(record, "alignment", 1)
+    for group in groups or [list(members)]:
+        for first, member in enumerate(group):
+            inner = by_name[member.name]
+            alignment = max(
+                member.alignment(), inner.alignment, change.line if groups and not first else 1
+            )
+            at, most = round_up(at, alignment), max(most, alignment)
+            parts += [
+                MovedRange(member.begin + it.begin, it.size, at + it.to) for it in inner.parts
+            ]
+            at += inner.size
+    return NewLayout(round_up(at, most), most, parts)
+
+
+def lay_out_array(shape: Shape, change: LayoutChange, path: str) -> NewLayout:
+    element, count = shape.element(), shape.dims()[0]
+    wide, inner = element.size(), lay_out(element, change, f"{path}[]")
+    stride, alignment = (
+        round_up(inner.size, inner.alignment) if inner.alignment else inner.size,
+        inner.alignment,
+    )
+    if f"{path}[]" in change.wrapped_arrays:
+        stride, alignment = round_up(stride, change.line), max(alignment, change.line)
+    if stride == wide and inner.is_as_before(wide):
+        return NewLayout(count * wide, alignment, [MovedRange(0, count * wide, 0)])
+    if count * len(inner.parts) > MAX_MOVED_RANGES:
+        raise Unmovable("it has too many elements")
+    parts = [
+        MovedRange(at * wide + part.begin, part.size, at * stride + part.to)
+        for at in range(count)
+        for part in inner.parts
+    ]
+    return NewLayout(count * stride, alignment, parts)
+
+
+def to_whole_words(parts: Iterable[MovedRange]) -> list[MovedRange]:
+    """The same in whole words, neighbours that stay so as one."""
+    found: list[MovedRange] = []
+    for begin, size, to in sorted(parts):
+        if not size:
+            continue
+        low, high, by = begin // 4 * 4, round_up(begin + size, 4), to - begin
+        if by % 4:
+            raise Unmovable("fields would lie at other bytes of a word")
+        last = found[-1] if found else None
+        if last and last.to - last.begin == by and low <= last.begin + last.size:
+            found[-1] = MovedRange(
+                last.begin, max(high, last.begin + last.size) - last.begin, last.to
+            )
+        elif last and low < last.begin + last.size:
+            raise Unmovable("several fields lie in one word")
+        else:
+            found.append(MovedRange(low, high - low, low + by))
+    return found
+
+
+class Array(NamedTuple):
+    """An array in a value: the path to its elements, what these are, and where each begins."""
+
+    path: str
+    shape: Shape
+    begins: list[int]
+
+
+def arrays_in(shape: Shape, begins: list[int], path: str = "", depth: int = 0) -> Iterator[Array]:
+    """The arrays of a value that lies at some places, the outermost first."""
+    dims, record = shape.dims(), shape.record()
+    if depth > 4:
+        return
+    if dims and dims[0] > 1:
+        element = shape.element()
+        wide = element.size()
+        if not wide or len(begins) * dims[0] > MAX_MOVED_RANGES:
+            return
+        own = [it + at * wide for it in begins for at in range(dims[0])]
+        yield Array(f"{path}[]", element, own)
+        yield from arrays_in(element, own, f"{path}[]", depth + 1)
+    elif record is not None:
+        for member in record_members(record) or []:
+            yield from arrays_in(
+                member.shape,
+                [at + member.begin for at in begins],
+                f"{path}.{member.name}",
+                depth + 1,
+            )
+
+
+class Record(NamedTuple):
+    """A structure in a value: the path to it, its type and its fields, and where each of it begins."""
+
+    path: str
+    die: Die
+    shape: Shape
+    members: list[Member]
+    begins: list[int]
+
+
+def records_in(shape: Shape, begins: list[int], path: str = "", depth: int = 0) -> Iterator[Record]:
+    """The structures of a value whose fields can be put in another order, the outermost first."""
+    dims, record = shape.dims(), shape.record()
+    if depth > 4:
+        return
+    if dims:
+        element = shape.element()
+        wide = element.size()
+        if wide and len(begins) * dims[0] <= MAX_MOVED_RANGES:
+            yield from records_in(
+                element,
+                [it + at * wide for it in begins for at in range(dims[0])],
+                f"{path}[]",
+                depth + 1,
+            )
+    elif record is not None:
+        members = record_members(record)
+        if members and len(members) > 1:
+            yield Record(path, record, shape, members, begins)
+        for member in members or []:
+            yield from records_in(
+                member.shape,
+                [at + member.begin for at in begins],
+                f"{path}.{member.name}",
+                depth + 1,
+            )
