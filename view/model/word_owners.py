@@ -11,7 +11,7 @@ from view.model.objects import DataObject, WordUse
 # So many groups of words are named, so many fields of a group, and so many neighbours.
 GROUPS, FIELDS, BESIDE = 3, 3, 3
 ELEMENT = re.compile(r"\[\d+\]")
-MANY = "several threads"
+MANY, ONE = "several threads", "one thread"
 
 
 class Owner(NamedTuple):
@@ -48,7 +48,7 @@ def owner_of(view: View, thing: DataObject, word: WordUse) -> Owner:
         return Owner("own", word.owner)
     if word.writes == 0:
         return Owner("read", "")
-    return Owner("shared", MANY) if advice.is_shared(word) else Owner("shared", "one thread")
+    return Owner("used", MANY if advice.is_shared(word) else ONE)
 
 
 def group_by_owner(
@@ -107,7 +107,10 @@ def group_text(owner: Owner, names: str) -> str:
     """A group of words and its threads."""
     if owner.does == "own":
         return f"{owner.names}: {names}"
-    return f"read-only: {names}" if owner.does == "read" else f"written by {owner.names}: {names}"
+    if owner.does == "read":
+        return f"read-only: {names}"
+    does = "written" if owner.does == "shared" else "used mostly" if owner.names == ONE else "used"
+    return f"{does} by {owner.names}: {names}"
 
 
 def describe_owners(view: View, thing: DataObject) -> str:

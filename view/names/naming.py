@@ -379,7 +379,7 @@ class Naming:
             return self.typed_names(thing, name, offset) or self.part_names(None, name, offset)
         key = self.memory.key(addr)
         below = (
-            f", {self.memory.bytes_below_top(addr)} below its top"
+            f", {self.memory.bytes_below_top(addr):,} bytes below its top"
             if isinstance(key, StackKey)
             else ""
         )

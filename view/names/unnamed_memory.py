@@ -72,7 +72,7 @@ def name_by_users(thing: DataObject, pcs: Sequence[int], naming: Naming) -> None
     elif len(functions) > 1:
         # (the elements of an array are mostly used by one function, and what an arena hands out by several)
         thing.name = thing.name.replace("block made", f"block of {example.size:,} made", 1)
-        thing.note = f" (an arena: the instructions that use it are {users})"
+        thing.note = f" (an arena, used at {users})"
 
 
 def join_same_names(things: Sequence[DataObject]) -> dict[Key, DataObject]:

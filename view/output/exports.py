@@ -3,7 +3,7 @@
 import json
 import os
 import urllib.parse
-from typing import Any
+from typing import TYPE_CHECKING, Any
 
 from view.model.rate_bands import STEP
 from view.reading.calls import TOP
@@ -16,9 +16,12 @@ from view.model.word_owners import describe_owners
 from view.model.predicted_lines import PredictedLine
 from view.reading.reports import Block, Site
 from view.output.screen import counted
-from view.repairs.trial_results import TrialCount
 from view.output.json_versions import downgrade
 from view.model.miss_rates import latency_of
+
+if TYPE_CHECKING:
+    # (which needs pyelftools)
+    from view.repairs.trial_results import TrialCount
 
 # What is written, as `json` has it.
 Record = dict[str, Any]
@@ -138,7 +141,7 @@ def time_of(view: View) -> Record:
     }
 
 
-def numbers_of(counted: TrialCount) -> Record:
+def numbers_of(counted: "TrialCount") -> Record:
     return {
         "false_sharing": counted.total["useless"],
         "true_sharing": counted.total["useful"],

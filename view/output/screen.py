@@ -159,7 +159,7 @@ def next_step(view: View) -> str:
     if sources and is_outside_code(outcome, sources.code):
         return (
             "the program jumped to an address without code, through a bad function pointer or an overwritten return address; "
-            "a stack that is too small does this too (`--set stack=1048576`)"
+            "a larger stack may help (`--set stack=1048576`)"
         )
     advice = {
         "budget": "the run used up its budget of instructions: raise the setting `budget`",
@@ -171,9 +171,10 @@ def next_step(view: View) -> str:
 
 def type_and_place(view: View, thing: DataObject, seen: ObjectDetails) -> str:
     """The type of an object and where it is declared, or how many blocks a call site has; or nothing."""
-    if isinstance(thing.key, BlocksKey):
-        return f" ({len(thing.block_ids):,} blocks)" if len(thing.block_ids) > 1 else ""
     parts = [view.type_of(thing)]
+    if isinstance(thing.key, BlocksKey):
+        many = f" ({len(thing.block_ids):,} blocks)" if len(thing.block_ids) > 1 else ""
+        return (f": {parts[0]}" if parts[0] else "") + many
     if seen.declared:
         parts.append(f"{os.path.basename(seen.declared[0])}:{seen.declared[1]}")
     found = ", ".join(filter(None, parts))
@@ -370,7 +371,7 @@ def order(view: View, rows: Sequence[DataObject]) -> str:
     leading = [numbers_of(view, it)[0] for it in rows]
     if leading == sorted(leading, reverse=True):
         return ""
-    return "sorted by the misses that a fix would save, less where store buffers hide them"
+    return "sorted by the misses that a fix would save (fewer where store buffers hide them)"
 
 
 def minors(view: View, rows: Sequence[DataObject]) -> str:
@@ -381,7 +382,8 @@ def minors(view: View, rows: Sequence[DataObject]) -> str:
     more = len(names) - MOST
     listed = ", ".join(names[:MOST]) + f" and {more} more" if more > 0 else ", ".join(names)
     much = sum(it.useless + it.useful for it in rows)
-    return f"not worth a change: {listed} ({counted(much, 'miss')} together)"
+    together = " together" if len(rows) > 1 else ""
+    return f"not worth a change: {listed} ({counted(much, 'miss')}{together})"
 
 
 def screen(view: View, paint: Paint, width: int = WIDTH) -> Iterator[str]:

@@ -70,14 +70,14 @@ class Sweep:
     def extremes(self) -> str:
         """The totals that aren't the trace's own."""
         if self.least.total == self.own.total:
-            return f", the least; the most are {self.most.total:,} at shift {self.most.shift}"
-        return f"; the least are {self.least.total:,} at shift {self.least.shift}"
+            return f", the fewest; {self.most.total:,} at worst (shift {self.most.shift})"
+        return f", {self.least.total:,} at best (shift {self.least.shift})"
 
     def mark(self, shift: Shift) -> str:
         """What a shift is marked as."""
         marks = ["as placed"] if shift is self.own else []
         marks += ["most"] if shift is self.most and self.most.total > self.least.total else []
-        return ", ".join([*marks, *(["least"] if shift is self.least else [])])
+        return ", ".join([*marks, *(["fewest"] if shift is self.least else [])])
 
     def heading(self, shift: Shift) -> str:
         mark = self.mark(shift)
@@ -133,7 +133,7 @@ def marks(sweep: Sweep) -> list[tuple[str, int, str]]:
             (shape, shift, what)
             for shape, shift, what in (
                 ("triangle", sweep.most, "most"),
-                ("circle", sweep.least, "least"),
+                ("circle", sweep.least, "fewest"),
             )
         ]
     places = {it.shift: at for at, it in enumerate(sweep.shifts)}

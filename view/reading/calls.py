@@ -20,8 +20,8 @@ HELP = (
     USAGE
     + """
 
-Shows the contended objects of a program, a recorded trace or a kept report, with their fields, source lines, threads and fixes. The object
-with the most false-sharing misses comes first. docs/VIEW.md walks through it.
+Shows the contended objects of a program, a recorded trace or a kept report, the worst first, with their fields, source lines, threads and
+fixes. docs/VIEW.md walks through it.
 
 Options:
   --program P        the program of the trace or the report, for the names of fields and source lines

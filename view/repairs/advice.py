@@ -255,7 +255,7 @@ def cost(thing: DataObject, words: Iterable[WordUse]) -> str:
             )
     own = sum(fields.values())
     more = own - thing.useful - thing.useless
-    return f"; its own line for each word would cost {more:,} misses more" if more > 0 else ""
+    return f"; a separate line per word would cost {more:,} more misses" if more > 0 else ""
 
 
 def placing(

@@ -307,10 +307,10 @@ def fields_repair(
         for own in groups
     ]
     firsts = [f"`{own[0].name}`" for own in groups[1:]]
-    after = f"`{attribute(line)}` after {', '.join(firsts[:-1])}{' and ' if len(firsts) > 1 else ''}{firsts[-1]}"
+    after = f"put `{attribute(line)}` after {', '.join(firsts[:-1])}{' and ' if len(firsts) > 1 else ''}{firsts[-1]}"
     what = f"`{keyword} {name}`" if name else f"the {keyword} of {subject.name}{record.path}"
     old, new, whole = record.shape.size(), lay_out(record.shape, change).size, subject.size()
-    said = f"order the fields of {what}{place_text(place)} as {'; '.join(told)}, with {after}{aligned_alloc_text(subject, line)}"
+    said = f"group the fields of {what}{place_text(place)}, each group on its own lines: {'; '.join(told)}; {after}{aligned_alloc_text(subject, line)}"
     edits: list[Edit] | None = (
         [OrderFields(place, name, groups, line)] if place and not subject.is_blocks() else None
     )

@@ -163,7 +163,7 @@ class Trial:
         if is_mixed:
             return ""
         what = (
-            f"{self.tried_repairs} layouts, the best saves"
+            f"{self.tried_repairs} layouts; the best saves"
             if self.tried_repairs > 1
             else "one layout, which saves"
         )

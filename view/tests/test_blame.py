@@ -313,11 +313,11 @@ class OfThisMachine(Compiled):
         )
         self.assertRegex(
             joined(text),
-            r"block of 4,096 made at nameless\.c:[0-9]+ < main \(an arena: the instructions that use it ",
+            r"block of 4,096 made at nameless\.c:[0-9]+ < main \(an arena, used at ",
         )
         self.assertRegex(
             joined(text),
-            r"are nameless\.c:[0-9]+ \((odd|even)\) and nameless\.c:[0-9]+ \((odd|even)\)\)",
+            r"used at nameless\.c:[0-9]+ \((odd|even)\) and nameless\.c:[0-9]+ \((odd|even)\)\)",
         )
 
     def test_by_valgrind(self):

@@ -106,7 +106,7 @@ class CachesOfShapes(unittest.TestCase):
         self.assertIn("<th>2 KiB (64x16x2)</th><th>32 KiB (64x64x8)</th>", text)
         asked = [self.asked(it) for it in ("64x16x2", "64x64x8")]
         (all_lines, *lines) = re.findall(
-            r"<tr><t[hd]>(?:<code>(0x\w+)</code>|all 2 lines)(.*?)</tr>", text, re.DOTALL
+            r"<tr><t[hd]>(?:<code>(0x\w+)</code>|all lines \(2\))(.*?)</tr>", text, re.DOTALL
         )
         self.assertEqual([int(it[0], 16) for it in lines], list(asked[0].lines))
         for base, row in lines:

@@ -80,6 +80,58 @@ class Files(unittest.TestCase):
         with self.assertRaises(jsonschema.ValidationError):
             jsonschema.validate(found, schema(), cls=jsonschema.Draft202012Validator)
 
+    def test_the_former_version_of_json(self):
+        former = schema("..", "output", "schema-1.json")
+        jsonschema.Draft202012Validator.check_schema(former)
+        with tempfile.TemporaryDirectory() as folder:
+            path = os.path.join(folder, "json")
+            # (with what is null in the first record: explained lines, repairs, predicted lines, the run at quantum 1)
+            for name, more in (("odd", {}), ("apart", {}), ("ring", {"STAND_IN_HAS": "move"})):
+                words = ("--set", "quantum=3", "--latency", "140", "--predicted", "--json", path)
+                found = []
+                for version in ("1", "2"):
+                    view("run", built(f"{name}.elf"), *words, "--json-version", version, **more)
+                    with open(path, encoding="utf-8") as file:
+                        found.append(json.load(file))
+                one, two = found
+                jsonschema.validate(one, former, cls=jsonschema.Draft202012Validator)
+                jsonschema.validate(two, schema(), cls=jsonschema.Draft202012Validator)
+                self.assertEqual(list(one), former["required"])
+                for it in one["objects"]:
+                    self.assertEqual(
+                        sorted(it), sorted([*former["$defs"]["object"]["required"], "repaired"])
+                    )
+                numbers = [
+                    (it["useless"], it["useful"], it["count"], it["beside"], len(it["fights"]))
+                    for it in one["objects"]
+                ]
+                wanted = [
+                    (
+                        it["false_sharing"],
+                        it["true_sharing"],
+                        it["reported_invalidations"],
+                        it["neighbours"],
+                        len(it["conflicts"]),
+                    )
+                    for it in two["objects"]
+                ]
+                self.assertEqual(numbers, wanted)
+            self.assertEqual(
+                one["objects"][0]["repaired"], {"useless": 44, "useful": 314, "count": 359}
+            )
+            self.assertEqual(
+                two["objects"][0]["tried"],
+                {
+                    "before": {"false_sharing": 342, "true_sharing": 314, "invalidations": 658},
+                    "after": {"false_sharing": 44, "true_sharing": 314, "invalidations": 359},
+                    "accesses": 2108,
+                },
+            )
+            self.assertEqual(one["time"]["by"], "steps")
+            self.assertEqual(
+                one["time"]["alternating"]["useless"], two["time"]["quantum_1"]["false_sharing"]
+            )
+
     def test_sarif(self):
         jsonschema.Draft202012Validator.check_schema(schema("sarif.json"))
         run = sarif(self.paths["sarif"])
@@ -98,7 +150,7 @@ class Files(unittest.TestCase):
         self.assertNotRegex(text, r"""(src|href)=(?!["']#)""")
         self.assertNotIn("http:", text)
         self.assertIn("parts&lt;script&gt;alert(1)&lt;/script&gt;", text)
-        self.assertIn("The run didn't end by exit 0: trap", text)
+        self.assertIn("The run did not end with exit 0: trap", text)
         self.assertIn("parts.high++;", text)
 
     def test_names_that_are_no_text(self):
@@ -137,7 +189,7 @@ class Files(unittest.TestCase):
         tree = subprocess.run(
             [*browser, "--dump-dom", page], capture_output=True, encoding="utf-8", timeout=50
         ).stdout
-        cells = re.findall(r'<div class="who"[^>]*>(.)</div>', tree)
+        cells = re.findall(r'<div class="who"[^>]*>(.)(?:<small>\w+</small>)?</div>', tree)
         self.assertEqual("".join(cells), "ABBBAABAB")
         self.assertIn('<div class="field">.low, .middle, .high</div>', tree)
         subprocess.run(

@@ -227,9 +227,9 @@ class Advised(unittest.TestCase):
             "lock.sum: true sharing (300 of 300 misses): write less", self.todo(*words[:2])
         )
         # (each load brings both of its words)
-        self.assertNotIn("misses more", self.todo(*words[:2], useful=90))
+        self.assertNotIn("more misses", self.todo(*words[:2], useful=90))
         self.assertIn(
-            "its own line for each word would cost 90 misses more",
+            "a separate line per word would cost 90 more misses",
             self.todo(words[0], used("lock.other", 8, 90), useful=90),
         )
 
@@ -272,7 +272,8 @@ class Advised(unittest.TestCase):
             view = view_of(rows, memory=Memory((0xF90000, 0x1010000), 8), program=program)
             (told,) = view.details(view.objects[0]).words
             self.assertEqual(
-                (told.name, told.kind), ("0x0100ffc0, 64 below its top", WordKind(False, False))
+                (told.name, told.kind),
+                ("0x0100ffc0, 64 bytes below its top", WordKind(False, False)),
             )
             self.assertNotIn("several fields", view.details(view.objects[0]).fix)
 

@@ -162,7 +162,9 @@ class Known(Following):
         )
 
     def test_a_deque_of_work(self):
-        self.patched("deque", "order the fields of `struct deque` (deque.c:9) as ")
+        self.patched(
+            "deque", "group the fields of `struct deque` (deque.c:9), each group on its own lines: "
+        )
 
     def test_a_ring_with_cached_indices(self):
         self.patched(
@@ -257,7 +259,11 @@ class OfThisMachine(Following):
         for name in ("cached", "setting", "stop"):
             self.patched(name)
         # (in longer turns thieves find the deque empty, and harts only hand it to each other)
-        self.patched("deque", "order the fields of `struct deque` (deque.c:9) as ", turns=1)
+        self.patched(
+            "deque",
+            "group the fields of `struct deque` (deque.c:9), each group on its own lines: ",
+            turns=1,
+        )
 
     def test_sentences(self):
         self.told(

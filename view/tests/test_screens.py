@@ -37,12 +37,12 @@ class Screens(Shown):
         )
         self.shows(
             text,
-            "who each thread writes its own words: hart 1: [1].seen[0].high and [1].seen[1].high; hart 2: ",
+            "who each thread writes its own element: hart 1: [1]; hart 2: [2] (72 writes) fix",
         )
         self.shows(
             text,
             "2 44 314 359 2 ring: struct ring, ring.c:28",
-            "write ring.tail, ring.head and ring.slots[..] less often (314 of 358 misses are true sharing)",
+            "write ring.head, ring.tail and ring.slots[..] less often (314 of 358 misses are true sharing)",
         )
 
     def test_the_first_lines(self):
@@ -76,7 +76,7 @@ class Screens(Shown):
         _, text, _ = view("run", built("arena.elf"), *TURNS, "--type", "arena.c:17=node", "--words")
         self.shows(
             text,
-            "1 1,187 1 797 1 block made at arena.c:17 < main: struct node (4 blocks)",
+            "1 1,187 1 797 1 block made at arena.c:17 < main: struct node (4 blocks) where",
             "fix allocate each of these blocks on its own lines: aligned_alloc(64, ..) with sizes rounded up to multiples of 64",
         )
         self.shows(
@@ -104,13 +104,13 @@ class Screens(Shown):
             self.shows(
                 text,
                 f"fix {OF_STACK}; saves up to 77 of 77 misses address ",
-                "60 61 0 threads 0x0100fff8, 8 below its top",
+                "60 61 0 threads 0x0100fff8, 8 bytes below its top",
             )
             for it in (
                 "several fields",
                 "separate these",
                 "padding",
-                "order the fields",
+                "group the fields",
                 "memory at",
             ):
                 self.assertNotIn(it, joined(text), program)
@@ -224,10 +224,11 @@ class Screens(Shown):
             _, text, said = view("replay", trace, "--program", built("odd.elf"))
             self.shows(
                 said,
-                "odd.elf isn't the program of this report and isn't used: it has no symbol stats of 64 bytes at ",
+                "odd.elf isn't the program of this report and isn't used: it has no symbol ring of 72 bytes at ",
             )
             self.shows(
-                text, "1 298 0 299 1 stats who each thread writes its own words: hart 1: +24"
+                text,
+                "1 298 0 299 1 stats who each thread writes its own words: hart 1: +20 and +28; hart 2: +36",
             )
             with open(report, "wb") as file:
                 file.write(
@@ -264,11 +265,11 @@ class Screens(Shown):
             _, text, _ = view("replay", trace)
             self.shows(
                 text,
-                "not worth a change: memory at 0x00012000 (1 miss together)",
+                "not worth a change: memory at 0x00012000 (1 miss)",
             )
             self.assertNotIn("2 1 0", joined(text))
             _, text, _ = view("replay", trace, "--object", "memory at 0x00012000")
-            self.shows(text, "1 1 0 1 1 memory at 0x00012000")
+            self.shows(text, "1 1 0 2 1 memory at 0x00012000")
             self.assertNotIn("not worth a change", text)
 
     def test_a_report_with_its_lines_behind_it(self):
@@ -455,8 +456,9 @@ class Pipes(Shown):
                 stdout=subprocess.DEVNULL,
             )
             os.mkfifo(fifo)
+            # (but for the name of what is read)
             texts = {
-                self.call(it, trace)
+                self.call(it, trace).partition(": ")[2]
                 for it in (
                     'cat "$1" | $view replay -',
                     '$view replay - <"$1"',
@@ -542,7 +544,7 @@ class Repairs(Shown):
         # (a line that the report doesn't list)
         self.shows(
             text,
-            "2 0 97 99 1 guarded: uint32_t, anderson.c:21 who written by several threads: +0 (100 writes, 100 reads)",
+            "2 0 97 99 1 guarded: uint32_t, anderson.c:21 who used by several threads: +0 (100 writes, 100 reads)",
         )
 
     def test_a_byte_for_each_slot(self):
@@ -550,7 +552,7 @@ class Repairs(Shown):
         self.shows(
             text,
             "1 408 458 297 1 lock: struct, flags.c:21",
-            "written by several threads: .slots[4..7].is_free (97 writes, 648 reads)",
+            "used by several threads: .slots[4..7].is_free (97 writes, 648 reads)",
             "each element of lock.slots (several threads; struct __attribute__((aligned(64))) slot (flags.c:14))",
         )
         self.shows(

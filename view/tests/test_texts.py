@@ -337,7 +337,7 @@ class Words(unittest.TestCase):
         self.assertEqual([visible(it) for it in (None, 3, ["\x00"])], [None, 3, ["\x00"]])
         # (a cell says where a word of a stack is without its address)
         for name, told in (
-            ("0x006479c8, 1592 below its top", "1592 below its top"),
+            ("0x006479c8, 1,592 bytes below its top", "1,592 bytes below its top"),
             ("0x00001000", "0x00001000"),
             ("a, b", "a, b"),
         ):

@@ -498,7 +498,7 @@ class Sentences(unittest.TestCase):
             self.tried(0, 900, 9000, (0, 990), 4),
             (
                 f"{none} on this trace; write shared data less often",
-                "4 layouts, the best saves 0 of 900 misses",
+                "4 layouts; the best saves 0 of 900 misses",
             ),
         )
         self.assertIsNone(self.tried(900, 0, 9000))
