@@ -12,15 +12,24 @@ sys.path.insert(0, os.path.dirname(os.path.dirname(os.path.abspath(__file__))))
 
 from view.model import comparison  # noqa: E402
 from view.model import miss_rates  # noqa: E402
-from view.reading.calls import ALONE, BY, HELP, MISSES, OUTPUTS, TOP, Call, nearest  # noqa: E402
+from view.reading.calls import (  # noqa: E402
+    ALONE,
+    BY,
+    HELP,
+    MISSES,
+    OUTPUTS,
+    TOP,
+    Call,
+    suggest_nearest,
+)
 from view.faults import Fault, plain  # noqa: E402
-from view.model.view import View, memory_of  # noqa: E402
+from view.model.view import View, stack_memory  # noqa: E402
 from view.names.naming import Naming  # noqa: E402
-from view.model.objects import Thing  # noqa: E402
-from view.reading.passes import Passes, begun  # noqa: E402
-from view.reading.pipes import fed, kept  # noqa: E402
+from view.model.objects import DataObject  # noqa: E402
+from view.reading.passes import Passes, start_passes  # noqa: E402
+from view.reading.pipes import open_as_pipe, copy_pipes  # noqa: E402
 from view.reading.engine import Predator  # noqa: E402
-from view.reading.recording import recorded, traced  # noqa: E402
+from view.reading.recording import record_program, keep_run_trace  # noqa: E402
 from view.reading.reports import Report, Symbol  # noqa: E402
 from view.output.screen import Paint, counted, screen, width_of_screen  # noqa: E402
 from view.names.source_lines import Sources  # noqa: E402
@@ -54,9 +63,9 @@ def program_of(call: Call) -> "tuple[Program | NativeProgram | None, Sources | N
     program: "Program | NativeProgram"
     sources: Sources
     if table:
-        from view.names.native import Back, NativeProgram, NativeSources
+        from view.names.native import AddressMap, NativeProgram, NativeSources
 
-        program = native = NativeProgram(Back(table))
+        program = native = NativeProgram(AddressMap(table))
         sources = NativeSources(native, folders)
     elif call.program:
         from view.names.fields import Program
@@ -97,11 +106,11 @@ def native_of(program: "Program | NativeProgram | None") -> "NativeProgram | Non
 
 def table_of(call: Call) -> str | None:
     """The address map of a native program: the one that is named, or that beside the trace."""
-    if "map" in call.options or call.program or call.how != "replay":
+    if "map" in call.options or call.program or call.action != "replay":
         return call.options.get("map")
-    from view.names.native import beside
+    from view.names.native import find_address_map
 
-    return beside(call.subject)
+    return find_address_map(call.subject)
 
 
 def stranger(program: "Program | NativeProgram", report: Report) -> str | None:
@@ -109,7 +118,7 @@ def stranger(program: "Program | NativeProgram", report: Report) -> str | None:
     from view.names.fields import Program
 
     if not isinstance(program, Program):
-        return program.stranger(report)
+        return program.mismatch(report)
     known = program.symbols()
     for line in report.lines[:1000]:
         for obj in line.objects():
@@ -121,10 +130,10 @@ def stranger(program: "Program | NativeProgram", report: Report) -> str | None:
 def report_of(call: Call, predator: Predator | None) -> Report:
     if predator is None:
         return Report(read(call.subject), call.subject)
-    if not call.reads_once():
-        return predator.report([call.how, *call.words, *call.own])
-    with fed(call.subject) as trace:
-        return predator.report([call.how, *call.words_of_pipe()], stdin=trace)
+    if not call.reads_trace_once():
+        return predator.read_report([call.action, *call.words, *call.guest_words])
+    with open_as_pipe(call.subject) as trace:
+        return predator.read_report([call.action, *call.words_of_pipe()], stdin=trace)
 
 
 def check_name(name: str | None, naming: Naming) -> None:
@@ -132,16 +141,16 @@ def check_name(name: str | None, naming: Naming) -> None:
     program = naming.program
     if name is None or program is None or ":" in name or " " in name:
         return
-    known = {naming.readable(it) for it in program.symbols().values()}
+    known = {naming.readable_name(it) for it in program.symbols().values()}
     if name not in known:
-        near = nearest(name, known).strip()
+        near = suggest_nearest(name, known).strip()
         raise Fault(f"{program.path} has no variable '{name}'{near and '; '}{near}")
 
 
 def check_seen(view: View) -> None:
     """Refuses a test of an object that isn't in the report, where the program may have none of that name."""
     name = view.call.options.get("object")
-    if name is not None and not view.chosen():
+    if name is not None and not view.chosen_objects():
         if view.naming.program is None and "fail-above" in view.call.options:
             raise Fault(
                 f"'{name}' isn't in the report: add '--program' to check that there is such a variable"
@@ -149,14 +158,14 @@ def check_seen(view: View) -> None:
         check_name(name, view.naming)
 
 
-def trial_of(view: View, predator: Predator | None) -> Callable[[list[Thing]], None] | None:
+def trial_of(view: View, predator: Predator | None) -> Callable[[list[DataObject]], None] | None:
     """What tries the repairs of some objects once their misses are counted, or none where no type is known."""
     program = view.naming.program
     if program is None or program.dwarf is None:
         return None
-    from view.repairs.trials import begin, try_all
+    from view.repairs.trials import begin_reading, try_objects
 
-    return functools.partial(try_all, view, predator, reading=begin(view, predator))
+    return functools.partial(try_objects, view, predator, reading=begin_reading(view, predator))
 
 
 def look(call: Call) -> View:
@@ -165,17 +174,17 @@ def look(call: Call) -> View:
         from view.output.drawings import templates
 
         templates()
-    predator = Predator() if call.how != "file" else None
-    with begun(call, predator) as passes:
+    predator = Predator() if call.action != "file" else None
+    with start_passes(call, predator) as passes:
         return found(call, predator, passes)
 
 
 def found(call: Call, predator: Predator | None, passes: Passes | None) -> View:
     program, sources = program_of(call)
-    if call.how == "run":
+    if call.action == "run":
         check_name(call.options.get("object"), Naming(None, program))
     report = report_of(call, predator)
-    strange = stranger(program, report) if program and call.how != "run" else None
+    strange = stranger(program, report) if program and call.action != "run" else None
     if strange:
         named = (
             f"{call.program} isn't the program"
@@ -184,39 +193,39 @@ def found(call: Call, predator: Predator | None, passes: Passes | None) -> View:
         )
         say(f"{named} of this report and isn't used: it has {strange}")
         call.program = program = sources = None
-    memory = memory_of(call, predator, native_of(program))
+    memory = stack_memory(call, predator, native_of(program))
     view = View(call, report, Naming(report, program, sources, call.options["type"], memory))
-    view.worth = Worth(view, miss_rates.begin(call, predator, (report.size, report.offset)))
+    view.worth = Worth(view, miss_rates.begin_count(call, predator, (report.size, report.offset)))
     trial = trial_of(view, predator)
-    view.count(predator, passes)
+    view.count_misses(predator, passes)
     view.look_for_overflow(predator)
     if report.outcome in ("deadlock", "budget"):
         from view.model.waiting_harts import note_waiting
 
         note_waiting(view, predator)
-    view.arrange()
+    view.group_by_objects()
     check_seen(view)
-    first = view.listed()[: call.number("top", TOP)]
+    first = view.listed_objects()[: call.number_option("top", TOP)]
     view.explain(predator, first)
-    first = view.listed()[: call.number("top", TOP)]
+    first = view.listed_objects()[: call.number_option("top", TOP)]
     if trial:
         trial(first)
-        view.rank_tried(first)
-        first = view.listed()[: len(first)]
-    view.place(predator, first)
-    view.note_idle()
+        view.rank_by_trials(first)
+        first = view.listed_objects()[: len(first)]
+    view.place_objects(predator, first)
+    view.note_unmatched_options()
     return view
 
 
 def is_above(view: View) -> bool:
     """Whether an object has more than the call allows, with a message for each."""
-    most, by = view.call.number("fail-above", 0), view.call.options.get("by", BY[0])
+    most, by = view.call.number_option("fail-above", 0), view.call.options.get("by", BY[0])
     if by in MISSES and view.misses is None:
         raise Fault(
             "false-sharing misses are unknown here: use '--fail-above' with '--by invalidations'"
         )
     found = False
-    for obj in view.chosen():
+    for obj in view.chosen_objects():
         # (`count` is the former name, of what the report lists)
         much = (
             obj.useless if by in MISSES else obj.count if by == "count" else view.invalidations(obj)
@@ -233,8 +242,8 @@ def status_of(view: View) -> int:
         return 0
     if not view.report.ended_well():
         return ENDED
-    if view.lacked:
-        say(view.lacked)
+    if view.missing_harts:
+        say(view.missing_harts)
         return ENDED
     return ABOVE if is_above(view) else 0
 
@@ -309,11 +318,11 @@ def outputs(view: View) -> None:
 def show(call: Call) -> int:
     """Runs a call, and returns its status."""
     keep_inputs(call)
-    if call.how in ALONE:
+    if call.action in ALONE:
         return show_alone(call)
     # (before --json writes to the same file)
-    old = comparison.loaded(call.options["against"], call) if "against" in call.options else None
-    with kept(call), recorded(call), traced(call):
+    old = comparison.load_view(call.options["against"], call) if "against" in call.options else None
+    with copy_pipes(call), record_program(call), keep_run_trace(call):
         view = look(call)
         outputs(view)
         if all(call.options.get(it) != "-" for it in OUTPUTS):
@@ -326,7 +335,7 @@ def show_alone(call: Call) -> int:
     from view.output.caches import show as caches
     from view.output.sweep import show as sweep
 
-    rows, page = (sweep if call.how == "sweep" else caches)(call)
+    rows, page = (sweep if call.action == "sweep" else caches)(call)
     if page is not None:
         write(call.options["html"], page)
     if call.options.get("html") != "-":
@@ -340,7 +349,7 @@ def tell(view: View, old: comparison.Before | None) -> None:
     for row in screen(view, Paint(), width_of_screen()):
         print(row)
     if old is not None:
-        for row in comparison.compared(view, old, view.call.options["against"]):
+        for row in comparison.compare_views(view, old, view.call.options["against"]):
             print(row)
 
 

@@ -32,7 +32,7 @@ class Before(NamedTuple):
     total: Record | None
 
 
-def loaded(path: str, call: Call) -> Before:
+def load_view(path: str, call: Call) -> Before:
     """An older record: what `--json` wrote, or a report that was kept."""
     try:
         with open(path, "rb") as file:
@@ -40,7 +40,7 @@ def loaded(path: str, call: Call) -> Before:
     except OSError as error:
         raise Fault(f"{path}: {error.strerror}") from error
     if not text.lstrip().startswith("{"):
-        return of_report(text, path, call)
+        return view_of_report(text, path, call)
     try:
         found = json.loads(text)
         if found["format"] not in (FORMAT, FORMER):
@@ -90,10 +90,10 @@ def is_thing(record: Any) -> bool:
     )
 
 
-def of_report(text: str, path: str, call: Call) -> Before:
+def view_of_report(text: str, path: str, call: Call) -> Before:
     report = Report(text, path)
     view = View(call, report, Naming(report))
-    view.arrange()
+    view.group_by_objects()
     return Before(record(view)["objects"], report.outcome, None)
 
 
@@ -114,20 +114,20 @@ def places(thing: Record) -> Places:
     return tuple((os.path.basename(it["file"]), it["line"]) for it in found if it["line"])
 
 
-def shift(old: Sequence[Places], new: Sequence[Places]) -> int:
+def line_shift(old: Sequence[Places], new: Sequence[Places]) -> int:
     """By how many lines most places have moved; of several numbers the least."""
     moves = [b[0][1] - a[0][1] for a in old for b in new if a and b and a[0][0] == b[0][0]]
     much = Counter(moves)
     return min(much, key=lambda offset: (-much[offset], abs(offset), offset), default=0)
 
 
-def matched(old: Sequence[Record], new: Sequence[Record]) -> Iterator[Pair]:
+def match_same(old: Sequence[Record], new: Sequence[Record]) -> Iterator[Pair]:
     """Objects of one name or of the same functions, each with at most one: first those whose lines have moved alike, and then, if as many
     are left of both, in the order of their lines."""
     olds, news = (
         sorted(own, key=lambda record: (places(record), record["key"])) for own in (old, new)
     )
-    by = shift([places(it) for it in olds], [places(it) for it in news])
+    by = line_shift([places(it) for it in olds], [places(it) for it in news])
     # (all callers alike, and then the line alone)
     for most in (None, 1):
         for before in list(olds):
@@ -144,14 +144,14 @@ def matched(old: Sequence[Record], new: Sequence[Record]) -> Iterator[Pair]:
         yield from ((None, it) for it in news)
 
 
-def pairs(old: Sequence[Record], new: Sequence[Record]) -> Iterator[Pair]:
+def pair_objects(old: Sequence[Record], new: Sequence[Record]) -> Iterator[Pair]:
     """Each object of two records, with what it is in the other one."""
     groups: dict[str, tuple[list[Record], list[Record]]] = {}
     for at, own in enumerate((old, new)):
         for obj in own:
             groups.setdefault(re.sub(r" #\d+$", "", obj["key"]), ([], []))[at].append(obj)
     for before, after in groups.values():
-        yield from matched(before, after)
+        yield from match_same(before, after)
 
 
 def column(number: int | None) -> str:
@@ -178,7 +178,7 @@ def row(before: Record | None, after: Record | None, names: Sequence[str]) -> Ro
     name = (after or before or {})["name"]
     if before is None or after is None:
         return Row(numbers, f"{name} ({'gone' if before else 'new'})")
-    return Row(numbers, name + moved(before, after))
+    return Row(numbers, name + describe_move(before, after))
 
 
 def sums(view: View, old: Before, new: Record, names: Sequence[str]) -> Row:
@@ -211,7 +211,7 @@ def table(names: Sequence[str], rows: Sequence[Row]) -> Iterator[str]:
         yield "".join(f"{one:>{width}}" for one, width in zip(own, wide)) + "  " + plain(row.text)
 
 
-def compared(view: View, old: Before, path: str) -> Iterator[str]:
+def compare_views(view: View, old: Before, path: str) -> Iterator[str]:
     """The table of what became of the whole, and of each object; `old` is what was loaded of the path."""
     new, name = record(view), view.call.options.get("object")
     olds = [it for it in old.objects if is_named(it, name)]
@@ -223,14 +223,14 @@ def compared(view: View, old: Before, path: str) -> Iterator[str]:
     yield plain(f"against {path}:")
     if old.outcome != view.report.outcome:
         yield plain(f"the outcome was {old.outcome} and is {view.report.outcome}")
-    rows = [row(before, after, names) for before, after in pairs(olds, new["objects"])]
+    rows = [row(before, after, names) for before, after in pair_objects(olds, new["objects"])]
     rows = sorted(
         (it for it in rows if not it.is_empty()), key=lambda row: (-row.weight(), row.text)
     )
     yield from table(names, [sums(view, old, new, names), *rows])
 
 
-def moved(before: Record, after: Record) -> str:
+def describe_move(before: Record, after: Record) -> str:
     """Which fields are contended that weren't before, and which no more."""
     old, new = fields(before), fields(after)
     came, went = [it for it in new if it not in old], [it for it in old if it not in new]

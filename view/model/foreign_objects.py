@@ -3,9 +3,9 @@
 import re
 from typing import Sequence
 
-from view.model.object_keys import OfFile
-from view.names.naming import BEGINNINGS, OWN, Naming
-from view.model.objects import Thing
+from view.model.object_keys import FileKey
+from view.names.naming import BEGINNINGS, THREAD_LOCALS, Naming
+from view.model.objects import DataObject
 from view.reading.reports import Block, Site, Symbol
 
 # Files of a program of this machine, and what the kernel and valgrind put beside them.
@@ -17,24 +17,24 @@ KIT = re.compile(r"(?:^|/)guest/(?:(?:calls|library|pthread)\.c|start\.S|clib/[^
 RESERVED = re.compile(r"__|_[A-Z]")
 
 
-def is_foreign(thing: Thing, naming: Naming) -> bool:
+def is_foreign(thing: DataObject, naming: Naming) -> bool:
     """Whether an object isn't the program's own, as far as its file and its debug information tell."""
-    if naming.program is None or naming.program.dwarf is None and path_of(0, naming) is None:
+    if naming.program is None or naming.program.dwarf is None and file_path(0, naming) is None:
         return False
-    if isinstance(thing.key, OfFile):
+    if isinstance(thing.key, FileKey):
         return bool(LIBRARIES.search(thing.key.path))
     if isinstance(thing.example, Symbol):
         return is_foreign_symbol(thing.example, naming)
     if (
         isinstance(thing.example, Block)
         and thing.example.sites
-        and thing.example.sites[0].name != OWN
+        and thing.example.sites[0].name != THREAD_LOCALS
     ):
         return all(is_foreign_site(it, naming) for it in thing.example.sites)
     return False
 
 
-def path_of(addr: int, naming: Naming) -> str | None:
+def file_path(addr: int, naming: Naming) -> str | None:
     """The file of this machine that has an address, or none for a guest."""
     from view.names.native import NativeProgram
 
@@ -45,9 +45,9 @@ def path_of(addr: int, naming: Naming) -> str | None:
 
 
 def is_foreign_symbol(symbol: Symbol, naming: Naming) -> bool:
-    from view.names.fields import name_of, sound
+    from view.names.fields import die_name, value_or_default
 
-    path = path_of(symbol.addr, naming)
+    path = file_path(symbol.addr, naming)
     if path is not None:
         return bool(LIBRARIES.search(path))
     variable = naming.program.variable(symbol.addr) if naming.program else None
@@ -55,11 +55,11 @@ def is_foreign_symbol(symbol: Symbol, naming: Naming) -> bool:
         # (the C library of guests has no debug information)
         return bool(RESERVED.match(symbol.name))
     unit = variable.dies[0].cu
-    return bool(KIT.search(sound(lambda: name_of(unit.get_top_DIE()), "")))
+    return bool(KIT.search(value_or_default(lambda: die_name(unit.get_top_DIE()), "")))
 
 
 def is_foreign_site(site: Site, naming: Naming) -> bool:
-    path = path_of(site.addr, naming)
+    path = file_path(site.addr, naming)
     if path is not None:
         return not path or bool(LIBRARIES.search(path))
     files = (
@@ -68,7 +68,7 @@ def is_foreign_site(site: Site, naming: Naming) -> bool:
     return site.name in BEGINNINGS or all(KIT.search(it) for it in files)
 
 
-def row_of(folded: Sequence[Thing], has_runtime: bool = False) -> str:
+def row_of(folded: Sequence[DataObject], has_runtime: bool = False) -> str:
     """The name of the row that some objects share; `has_runtime` is whether some are of Go's runtime."""
     what = "1 object" if len(folded) == 1 else f"{len(folded):,} objects"
     whose = "the C library or Go's runtime" if has_runtime else "the C library"

@@ -9,7 +9,7 @@ import struct
 import subprocess
 from typing import TYPE_CHECKING, Iterable, Mapping, NamedTuple, Sequence
 
-from view.reading.reports import Pair, Word
+from view.reading.reports import InstructionPair, Word
 
 if TYPE_CHECKING:
     from view.names.fields import Program
@@ -20,14 +20,12 @@ if TYPE_CHECKING:
 ATOMIC, LOAD, STORE, UNKNOWN = KINDS = ("atomic", "load", "store", "unknown")
 # An invalidation for which no instruction waits counts as one part in so many of another; with fewer reads than one for so many writes a
 # line is hardly read.
-CHEAP = 10
+HIDDEN_COST_DIVISOR = 10
 # A function is looked through from its start up to an instruction that lies so far in it; functions so near to each other in one call.
 FAR, NEAR = 1 << 16, 1 << 12
-# No instruction has more bytes. (Of one with a prefix llvm-objdump shows the prefix alone where it is to stop behind that.)
-LONGEST = 16
-ROW = re.compile(r"^ *([0-9a-f]+):\s+([a-z][a-z0-9._]*)\s*(.*)$")
+DISASSEMBLY_ROW = re.compile(r"^ *([0-9a-f]+):\s+([a-z][a-z0-9._]*)\s*(.*)$")
 FORMAT = re.compile(r"file format (\S+)")
-RISCV = 243
+RISCV_MACHINE = 243
 # Those of x86-64: prefixes that llvm-objdump prints as rows, what writes its last operand and doesn't read it, and what only reads it.
 PREFIXES = (
     "lock",
@@ -49,7 +47,7 @@ READS = re.compile(
 )
 
 
-class Does(NamedTuple):
+class MemoryEffect(NamedTuple):
     """What an instruction does to memory: whether it is atomic, whether it reads the place that it writes, and whether it reads."""
 
     is_atomic: bool
@@ -57,15 +55,15 @@ class Does(NamedTuple):
     reads: bool
 
 
-ATOMICALLY = Does(True, True, True)
-UPDATES, READS_ONLY, WRITES_ONLY = (
-    Does(False, True, True),
-    Does(False, False, True),
-    Does(False, False, False),
+ATOMIC_UPDATE = MemoryEffect(True, True, True)
+PLAIN_UPDATE, READS_ONLY, WRITES_ONLY = (
+    MemoryEffect(False, True, True),
+    MemoryEffect(False, False, True),
+    MemoryEffect(False, False, False),
 )
 
 
-class Row(NamedTuple):
+class DisassemblyRow(NamedTuple):
     """An instruction as it is printed."""
 
     addr: int
@@ -73,16 +71,16 @@ class Row(NamedTuple):
     operands: str
 
 
-def of_riscv(row: Row) -> Does | None:
+def riscv_effect(row: DisassemblyRow) -> MemoryEffect | None:
     """What an instruction of RV32 does."""
     if row.name.startswith(("amo", "sc.")):
-        return ATOMICALLY
+        return ATOMIC_UPDATE
     if re.fullmatch(r"(c\.)?f?l[bhwdq]u?(sp)?|lr\..*", row.name):
         return READS_ONLY
     return WRITES_ONLY if re.fullmatch(r"(c\.)?f?s[bhwdq](sp)?", row.name) else None
 
 
-def of_runtime(name: str) -> Does | None:
+def runtime_effect(name: str) -> MemoryEffect | None:
     """What a call of the runtime says that the program does there, by the function's name."""
     if "atomic" in name:
         return (
@@ -90,10 +88,10 @@ def of_runtime(name: str) -> Does | None:
             if name.endswith("_load")
             else WRITES_ONLY
             if name.endswith("_store")
-            else ATOMICALLY
+            else ATOMIC_UPDATE
         )
     if "read_write" in name:
-        return UPDATES
+        return PLAIN_UPDATE
     return (
         READS_ONLY if "read" in name else WRITES_ONLY if "write" in name or "vptr" in name else None
     )
@@ -103,21 +101,21 @@ def is_memory(operand: str) -> bool:
     return bool(operand) and (operand[0] not in "$%*" or "(" in operand or ":" in operand)
 
 
-def of_x86(row: Row) -> Does | None:
+def x86_effect(row: DisassemblyRow) -> MemoryEffect | None:
     """What an instruction of x86-64 does, by its name and which of its operands are in memory."""
     runtime = re.search(r"<(__tsan_\w+)", row.operands)
     if row.name.startswith("call"):
-        return of_runtime(runtime[1]) if runtime else WRITES_ONLY
+        return runtime_effect(runtime[1]) if runtime else WRITES_ONLY
     if row.name.startswith("j") or row.name.startswith("lea"):
         return None
     operands = re.split(r",\s*(?![^(]*\))", re.sub(r"\s*[#<].*", "", row.operands).strip())
     *first, last = [is_memory(it) for it in operands]
     if row.name.startswith("xchg") and any((*first, last)):
-        return ATOMICALLY
+        return ATOMIC_UPDATE
     if last and WRITES.match(row.name):
         return READS_ONLY._replace(reads=any(first))
     if last and not READS.match(row.name):
-        return UPDATES
+        return PLAIN_UPDATE
     if row.name.startswith("push"):
         return READS_ONLY._replace(reads=last)
     return (
@@ -125,12 +123,12 @@ def of_x86(row: Row) -> Does | None:
     )
 
 
-def all_that_do(text: str, addresses: Iterable[int]) -> dict[int, Does]:
+def parse_effects(text: str, addresses: Iterable[int]) -> dict[int, MemoryEffect]:
     """What the instructions at some addresses do, as far as a text of llvm-objdump tells it. An address may be the last byte of a call."""
     rows, found = [
-        Row(int(match[1], 16), match[2], match[3])
+        DisassemblyRow(int(match[1], 16), match[2], match[3])
         for line in text.split("\n")
-        if (match := ROW.match(line))
+        if (match := DISASSEMBLY_ROW.match(line))
     ], FORMAT.search(text)
     begins, made = [it.addr for it in rows], {}
     for addr in addresses if found else ():
@@ -142,18 +140,18 @@ def all_that_do(text: str, addresses: Iterable[int]) -> dict[int, Does]:
             prefixes.append(rows[at].name)
             at += 1
         told = (
-            of_riscv(rows[at])
+            riscv_effect(rows[at])
             if found and "riscv" in found[1]
-            else of_x86(rows[at])
+            else x86_effect(rows[at])
             if found and "x86-64" in found[1]
             else None
         )
         if told:
-            made[addr] = ATOMICALLY if "lock" in prefixes else told
+            made[addr] = ATOMIC_UPDATE if "lock" in prefixes else told
     return made
 
 
-def starts(file: str, addresses: Sequence[int]) -> dict[int, int]:
+def function_starts(file: str, addresses: Sequence[int]) -> dict[int, int]:
     """Where the function of each address begins, by llvm-symbolizer, and else the address itself."""
     asked = "".join(f'"{file}" {it:#x}\n' for it in addresses)
     words = ["llvm-symbolizer", "--output-style=JSON", "--inlines"]
@@ -172,21 +170,21 @@ def starts(file: str, addresses: Sequence[int]) -> dict[int, int]:
 def is_riscv(file: str) -> bool:
     with open(file, "rb") as text:
         head = text.read(20)
-    return len(head) == 20 and bool(struct.unpack_from("<H", head, 18)[0] == RISCV)
+    return len(head) == 20 and bool(struct.unpack_from("<H", head, 18)[0] == RISCV_MACHINE)
 
 
-def of_file(file: str, names: str, addresses: Iterable[int]) -> dict[int, Does]:
+def file_effects(file: str, names: str, addresses: Iterable[int]) -> dict[int, MemoryEffect]:
     """What the instructions of a file do at some addresses; `names` is the file that has its debug information."""
     wanted = sorted(set(addresses))
     if not wanted or not shutil.which("llvm-objdump") or not os.path.isfile(file):
         return {}
     parts: list[tuple[int, int]] = []
-    for addr, start in sorted(starts(names, wanted).items(), key=lambda item: item[1]):
+    for addr, start in sorted(function_starts(names, wanted).items(), key=lambda item: item[1]):
         if parts and start <= parts[-1][1] + NEAR:
             parts[-1] = parts[-1][0], max(parts[-1][1], addr + 1)
         else:
             parts.append((start, addr + 1))
-    made: dict[int, Does] = {}
+    made: dict[int, MemoryEffect] = {}
     # (what an older compiler or a small linker writes says nothing of its extensions)
     more = ["--mattr=+m,+a,+f,+d,+c"] if is_riscv(file) else []
     for begin, end in parts:
@@ -196,33 +194,37 @@ def of_file(file: str, names: str, addresses: Iterable[int]) -> dict[int, Does]:
             "--no-show-raw-insn",
             *more,
             f"--start-address={begin:#x}",
-            f"--stop-address={end + LONGEST:#x}",
+            f"--stop-address={end:#x}",
             file,
         ]
         text = subprocess.run(
             words, stdout=subprocess.PIPE, stderr=subprocess.DEVNULL
         ).stdout.decode("utf-8", "replace")
-        made.update(all_that_do(text, [it for it in wanted if begin <= it < end]))
+        made.update(parse_effects(text, [it for it in wanted if begin <= it < end]))
     return made
 
 
-def of_program(program: "Program | NativeProgram", addresses: Iterable[int]) -> dict[int, Does]:
+def program_effects(
+    program: "Program | NativeProgram", addresses: Iterable[int]
+) -> dict[int, MemoryEffect]:
     """What the instructions of a program do at some addresses of its trace."""
     from view.names.fields import Program
 
     if isinstance(program, Program):
-        return of_file(program.path, program.path, addresses)
-    made: dict[int, Does] = {}
+        return file_effects(program.path, program.path, addresses)
+    made: dict[int, MemoryEffect] = {}
     places = {it: found for it in addresses if (found := program.file(it))}
     for file in {id(own): own for own, _ in places.values()}.values():
         own = {at: it for it, (of, at) in places.items() if of is file}
-        made.update({own[at]: told for at, told in of_file(file.path, file.debug, own).items()})
+        made.update(
+            {own[at]: told for at, told in file_effects(file.path, file.debug, own).items()}
+        )
     return made
 
 
-def kind_of(pair: Pair, known: Mapping[int, Does]) -> str:
+def pair_kind(pair: InstructionPair, known: Mapping[int, MemoryEffect]) -> str:
     """Which kind of invalidations a pair makes."""
-    victim, taker = known.get(pair.victim), known.get(pair.taker)
+    victim, taker = known.get(pair.victim), known.get(pair.invalidator)
     if taker is None:
         return UNKNOWN
     if taker.is_atomic or taker.is_update:
@@ -232,15 +234,17 @@ def kind_of(pair: Pair, known: Mapping[int, Does]) -> str:
     return LOAD if victim.reads and not victim.is_atomic else STORE
 
 
-def kinds_of(pairs: Iterable[Pair], known: Mapping[int, Does]) -> dict[str, int]:
+def count_kinds(
+    pairs: Iterable[InstructionPair], known: Mapping[int, MemoryEffect]
+) -> dict[str, int]:
     """How many invalidations of each kind some pairs make."""
     found = {it: 0 for it in KINDS}
     for pair in pairs:
-        found[kind_of(pair, known)] += pair.taken
+        found[pair_kind(pair, known)] += pair.times
     return found
 
 
-def told(kinds: Mapping[str, int], is_read: bool = True) -> str:
+def describe_kinds(kinds: Mapping[str, int], is_read: bool = True) -> str:
     """The same in words, or nothing where no instruction is known; `is_read` says whether threads read the line."""
     if sum(kinds.values()) == kinds.get(UNKNOWN, 0):
         return ""
@@ -258,13 +262,17 @@ def told(kinds: Mapping[str, int], is_read: bool = True) -> str:
     return ", ".join(f"{count:,} {what}" for count, what in own if count) + hidden
 
 
-def weight(kinds: Mapping[str, int], is_read: bool) -> float:
+def cost_weight(kinds: Mapping[str, int], is_read: bool) -> float:
     """How much invalidations cost, as a part of as many for which an instruction waits: on a line that is read a later load waits."""
     total = sum(kinds.values())
-    return (total - kinds[STORE] + kinds[STORE] / CHEAP) / total if total and not is_read else 1.0
+    return (
+        (total - kinds[STORE] + kinds[STORE] / HIDDEN_COST_DIVISOR) / total
+        if total and not is_read
+        else 1.0
+    )
 
 
 def is_read(words: Iterable[Word]) -> bool:
     """Whether a line is loaded from more than seldom, by its words."""
     reads, writes = (sum(it) for it in zip((0, 0), *((it.reads, it.writes) for it in words)))
-    return reads * CHEAP > writes
+    return reads * HIDDEN_COST_DIVISOR > writes

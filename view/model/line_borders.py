@@ -5,17 +5,17 @@ from collections import Counter
 from typing import NamedTuple, Sequence
 
 from view.faults import Fault
-from view.model.object_keys import Key, OfSymbol
-from view.names.naming import Naming, shown
-from view.model.objects import Thing, things_of
-from view.reading.engine import REPORTED, Predator, each_line
+from view.model.object_keys import Key, SymbolKey
+from view.names.naming import Naming, address_text
+from view.model.objects import DataObject, group_lines
+from view.reading.engine import REPORT_STATUSES, Predator, every_line_reader
 from view.reading.reports import Block, Line, Report, Symbol
 
 # So many objects on a line are told of.
-HELD = 3
+MAX_HELD_OBJECTS = 3
 
 
-class Crossed(NamedTuple):
+class BorderCrossing(NamedTuple):
     """An object on contended lines: its invalidations under each of the shifts, and what its worst line holds at the peak."""
 
     name: str
@@ -27,28 +27,28 @@ class Crossed(NamedTuple):
         return self.counts[most] - self.counts[least]
 
 
-def held(line: Line, naming: Naming) -> str:
+def bytes_on_line(line: Line, naming: Naming) -> str:
     """Which bytes of which objects a line holds."""
     told = []
-    for obj in line.objects()[:HELD]:
+    for obj in line.objects()[:MAX_HELD_OBJECTS]:
         first, last = (
             max(line.base - obj.addr, 0),
             min(line.base + line.size - obj.addr, obj.size) - 1,
         )
-        told.append(f"bytes {first} to {last} of {called(obj, naming)}")
+        told.append(f"bytes {first} to {last} of {object_name(obj, naming)}")
     more = len(line.objects()) - len(told)
     told += [f"{more} more"] if more else []
-    return f"{shown(line.base)}: {', '.join(told)}" if told else shown(line.base)
+    return f"{address_text(line.base)}: {', '.join(told)}" if told else address_text(line.base)
 
 
-def called(obj: Symbol | Block, naming: Naming) -> str:
+def object_name(obj: Symbol | Block, naming: Naming) -> str:
     """An object on a line, in few words."""
     if isinstance(obj, Symbol):
-        return naming.names.shortened(naming.readable(obj.name))
-    return f"the block of {obj.size} at {shown(obj.addr)}"
+        return naming.names.shorten(naming.readable_name(obj.name))
+    return f"the block of {obj.size} at {address_text(obj.addr)}"
 
 
-class Under(NamedTuple):
+class ShiftedLines(NamedTuple):
     """What is kept of a report: the count of each object, with what it is called, and the worst of its lines."""
 
     counts: dict[Key, int]
@@ -56,58 +56,66 @@ class Under(NamedTuple):
     borders: dict[Key, str]
 
 
-def under(report: Report, naming: Naming) -> Under:
-    naming.learn(report.text)
-    things = things_of(report, None, naming)[0]
-    names = {it.key: naming.names.shortened(naming.key_name(it.key, it.example)) for it in things}
+def lines_under_shift(report: Report, naming: Naming) -> ShiftedLines:
+    naming.learn_symbols(report.text)
+    things = group_lines(report, None, naming)[0]
+    names = {it.key: naming.names.shorten(naming.object_name(it.key, it.example)) for it in things}
     # (of things that have one name, each with its place)
     twice = Counter(names.values())
     names = {
-        obj.key: names[obj.key] + (place(obj) if twice[names[obj.key]] > 1 else "")
+        obj.key: names[obj.key] + (object_place(obj) if twice[names[obj.key]] > 1 else "")
         for obj in things
     }
-    borders = {it.key: held(line, naming) for it in things if (line := it.worst().line)}
-    return Under({it.key: it.count for it in things}, names, borders)
+    borders = {
+        it.key: bytes_on_line(line, naming) for it in things if (line := it.worst_line().line)
+    }
+    return ShiftedLines({it.key: it.count for it in things}, names, borders)
 
 
-def place(thing: Thing) -> str:
+def object_place(thing: DataObject) -> str:
     key = thing.key
     addr = (
         key.addr
-        if isinstance(key, OfSymbol)
+        if isinstance(key, SymbolKey)
         else thing.example.addr
         if thing.example
-        else thing.spots[0].base
+        else thing.lines[0].base
     )
-    return f" at {shown(addr)}"
+    return f" at {address_text(addr)}"
 
 
-def crossed(trace: str, size: int, totals: dict[int, int], peak: int, least: int) -> list[Crossed]:
+def find_crossings(
+    trace: str, size: int, totals: dict[int, int], peak: int, least: int
+) -> list[BorderCrossing]:
     """The objects that are taken under some shifts, whose totals the sweep told, those first whose counts differ most between two of the
     shifts: that of the peak and that of the least total."""
     predator = Predator()
     with concurrent.futures.ThreadPoolExecutor(max_workers=2) as pool:
-        words = [[*each_line((size, shift)).words, "--", trace] for shift in totals]
-        texts = list(pool.map(lambda call_words: predator.text(call_words, REPORTED), words))
-    found: list[Under] = []
+        words = [[*every_line_reader((size, shift)).words, "--", trace] for shift in totals]
+        texts = list(
+            pool.map(lambda call_words: predator.output(call_words, REPORT_STATUSES), words)
+        )
+    found: list[ShiftedLines] = []
     naming = Naming(None)
     for shift, total in totals.items():
         # (a text may be long, and is let go before the next one is read)
-        own = under(Report(texts.pop(0)), naming)
+        own = lines_under_shift(Report(texts.pop(0)), naming)
         if sum(own.counts.values()) != total:
             raise Fault(
                 f"`sweep` and `replay` differ at shift {shift}: the trace changed while it was read"
             )
         found.append(own)
-    return ordered(found, list(totals).index(peak), list(totals).index(least))
+    return order_crossings(found, list(totals).index(peak), list(totals).index(least))
 
 
-def ordered(found: Sequence[Under], peak: int, least: int) -> list[Crossed]:
-    objects: list[Crossed] = []
+def order_crossings(found: Sequence[ShiftedLines], peak: int, least: int) -> list[BorderCrossing]:
+    objects: list[BorderCrossing] = []
     for key in dict.fromkeys(key for it in (found[peak], *found) for key in it.counts):
         name = next(it.names[key] for it in (found[peak], *found) if key in it.names)
         objects.append(
-            Crossed(name, [it.counts.get(key, 0) for it in found], found[peak].borders.get(key, ""))
+            BorderCrossing(
+                name, [it.counts.get(key, 0) for it in found], found[peak].borders.get(key, "")
+            )
         )
     return sorted(
         objects,

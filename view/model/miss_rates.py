@@ -5,13 +5,13 @@ import concurrent.futures
 from typing import TYPE_CHECKING, NamedTuple, Optional, Sequence, cast
 
 from view.model.rate_bands import BANDS, LATENCY, STEP, Band, at_most, band_of
-from view.reading.calls import Call, width_of
+from view.reading.calls import Call, option_width
 from view.model.object_keys import Key
 from view.names.naming import Naming
-from view.model.objects import Thing, Told, key_of
+from view.model.objects import DataObject, WordUse, object_key
 from view.reading.passes import Layout
-from view.reading.engine import Predator, Refused, misses_under, setting
-from view.reading.reports import Misses, Report, objects_of
+from view.reading.engine import Predator, Refused, misses_reader, setting_value
+from view.reading.reports import Misses, Report, parse_objects
 
 if TYPE_CHECKING:
     from view.model.view import View
@@ -29,10 +29,10 @@ class Alternating(NamedTuple):
     def useless_of(self, naming: Naming) -> dict[Key, int]:
         """The false-sharing misses of each object: of a line with several, each has all."""
         found: dict[Key, int] = {}
-        naming.prepare(self.misses.sites())
+        naming.find_lines(self.misses.sites())
         for line in self.misses.lines.values():
-            things = objects_of(line.stands)
-            for key in {key_of(one, naming, 0) for one in things} or {
+            things = parse_objects(line.object_rows)
+            for key in {object_key(one, naming, 0) for one in things} or {
                 naming.memory.key(max(line.base, 0))
             }:
                 found[key] = found.get(key, 0) + line.useless
@@ -48,11 +48,13 @@ Counting = Optional["concurrent.futures.Future[Alternating | None]"]
 def settings_of(call: Call) -> tuple[str, int, bool]:
     """The words of a call's `--set`, its quantum, and whether its turns are of that length and in the harts' order."""
     words = call.settings_words()
-    is_plain = not any(it.startswith("--schedule") for it in words) and setting(words, "seed") == 0
-    return call.value_of("--set") or "", setting(words, "quantum"), is_plain
+    is_plain = (
+        not any(it.startswith("--schedule") for it in words) and setting_value(words, "seed") == 0
+    )
+    return call.option_value("--set") or "", setting_value(words, "quantum"), is_plain
 
 
-def in_turns_of_one(call: Call) -> list[str]:
+def count_at_quantum_one(call: Call) -> list[str]:
     """The words of the same run at quantum 1."""
     given, _, _ = settings_of(call)
     kept = [
@@ -61,11 +63,11 @@ def in_turns_of_one(call: Call) -> list[str]:
         if assignment and assignment.partition("=")[0].strip() not in ("quantum", "seed")
     ]
     words, at = ["run", "--set", ",".join([*kept, "quantum=1", "seed=0"])], 1
-    before = call.words_to_run()
+    before = call.rerun_words()
     while at < len(before):
         if before[at] == "--":
             return words + before[at:]
-        width = width_of(before[at])
+        width = option_width(before[at])
         if before[at].partition("=")[0] not in ("--set", "--schedule"):
             words += before[at : at + width]
         at += width
@@ -73,26 +75,33 @@ def in_turns_of_one(call: Call) -> list[str]:
 
 
 def latency_of(call: Call) -> int:
-    return call.number("latency", LATENCY)
+    return call.number_option("latency", LATENCY)
 
 
-def begin(call: Call, predator: Predator | None, layout: Layout) -> Counting:
+def begin_count(call: Call, predator: Predator | None, layout: Layout) -> Counting:
     """Begins to count a run at quantum 1, beside what else is counted; none where no program is run, or nothing shows the bound, which
     `--json` alone does."""
     is_shown = "json" in call.options and latency_of(call)
-    if predator is None or call.how != "run" or not is_shown or not predator.has("misses"):
+    if (
+        predator is None
+        or call.action != "run"
+        or not is_shown
+        or not predator.has_command("misses")
+    ):
         return None
     pool = concurrent.futures.ThreadPoolExecutor(max_workers=1)
     try:
-        return pool.submit(counted, predator, [*in_turns_of_one(call), *call.own], layout)
+        return pool.submit(
+            read_count, predator, [*count_at_quantum_one(call), *call.guest_words], layout
+        )
     finally:
         pool.shutdown(wait=False)
 
 
-def counted(predator: Predator, words: list[str], layout: Layout) -> Alternating | None:
+def read_count(predator: Predator, words: list[str], layout: Layout) -> Alternating | None:
     """A run whose misses are counted, or none where it doesn't end by exit 0, as where it takes all steps of its budget."""
     try:
-        text, found = predator.run_by_pipes(words, [misses_under(layout)], is_told=False)
+        text, found = predator.run_and_read_by_pipes(words, [misses_reader(layout)], is_told=False)
         report = Report(text)
     except (Refused, BrokenPipeError):
         return None
@@ -131,13 +140,13 @@ class Worth:
         if (
             rate is None
             or self.unit() != "instructions"
-            or self.view.call.how == "run"
+            or self.view.call.action == "run"
             and not (is_plain and quantum == USUAL)
         ):
             return None
         return BANDS[band_of(rate)]
 
-    def at_most(self, thing: Thing | None = None) -> float | None:
+    def at_most(self, thing: DataObject | None = None) -> float | None:
         """An upper bound on the part of the time that an object takes, or all do: by the run at quantum 1, or by this run where that has
         more; none where that isn't known."""
         found = self.find()
@@ -159,12 +168,12 @@ class Worth:
         if band is None:
             return text
         # (a trace doesn't say at what quantum it was recorded)
-        when = "" if self.view.call.how == "run" else f" if recorded at quantum {USUAL}"
+        when = "" if self.view.call.action == "run" else f" if recorded at quantum {USUAL}"
         return f"{text} ({band.severity}{when}: {band.told})"
 
-    def warning(self, thing: Thing, words: Sequence[Told]) -> str:
+    def warning(self, thing: DataObject, words: Sequence[WordUse]) -> str:
         """That padding may not pay, where a fix is named and most misses of the object's worst line are true sharing; or nothing."""
-        missed, tried = thing.worst().missed, self.view.known(thing)
+        missed, tried = thing.worst_line().missed, self.view.decisive_trial(thing)
         if (
             missed is None
             or not thing.useless
@@ -175,15 +184,15 @@ class Worth:
             return ""
         return f"; may not pay: most misses on its worst line are true sharing{self.after(thing, words)}"
 
-    def after(self, thing: Thing, words: Sequence[Told]) -> str:
+    def after(self, thing: DataObject, words: Sequence[WordUse]) -> str:
         """The true-sharing misses with each word on a line of its own, where no repair was counted that says more; or nothing."""
-        tried = self.view.known(thing)
-        if tried and tried.after or self.view.by_word is None:
+        tried = self.view.decisive_trial(thing)
+        if tried and tried.after or self.view.word_misses is None:
             return ""
         fields: dict[tuple[int, str], int] = {}
         for word in words:
             if word.key == thing.key:
-                fields[word.base, word.whole()] = max(
-                    fields.get((word.base, word.whole()), 0), word.useful or 0
+                fields[word.base, word.field_name()] = max(
+                    fields.get((word.base, word.field_name()), 0), word.useful or 0
                 )
         return f" ({thing.useful:,} now, {sum(fields.values()):,} with each word on its own line)"

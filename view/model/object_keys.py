@@ -4,7 +4,7 @@ equal."""
 from typing import Literal, NamedTuple, Union
 
 
-class OfSymbol(NamedTuple):
+class SymbolKey(NamedTuple):
     """A variable."""
 
     kind: Literal["symbol"]
@@ -12,28 +12,28 @@ class OfSymbol(NamedTuple):
     addr: int
 
 
-class OfBlocks(NamedTuple):
+class BlocksKey(NamedTuple):
     """The blocks of some call sites, as `Naming.sites_key` spells these."""
 
     kind: Literal["block"]
     sites: tuple[str, ...]
 
 
-class OfStack(NamedTuple):
+class StackKey(NamedTuple):
     """A hart's stack."""
 
     kind: Literal["stack"]
     hart: int
 
 
-class OfFile(NamedTuple):
+class FileKey(NamedTuple):
     """Memory without an object where a file is mapped, by the file's path."""
 
     kind: Literal["file"]
     path: str
 
 
-class OfMemory(NamedTuple):
+class MemoryKey(NamedTuple):
     """Other memory without an object, by the page that it is in."""
 
     kind: Literal["memory"]
@@ -41,10 +41,10 @@ class OfMemory(NamedTuple):
 
 
 # What lies where no object is.
-OfPlace = Union[OfStack, OfFile, OfMemory]
-Key = Union[OfSymbol, OfBlocks, OfPlace]
+PlaceKey = Union[StackKey, FileKey, MemoryKey]
+Key = Union[SymbolKey, BlocksKey, PlaceKey]
 
 
-def order_of(key: Key) -> tuple[str | int, ...]:
+def key_order(key: Key) -> tuple[str | int, ...]:
     """What keys stand in order by: their kinds, and then what each is of."""
-    return (key.kind, *key.sites) if isinstance(key, OfBlocks) else (*key,)
+    return (key.kind, *key.sites) if isinstance(key, BlocksKey) else (*key,)

@@ -7,39 +7,48 @@ import re
 from collections import Counter
 from typing import Iterable, Iterator, NamedTuple, Sequence
 
-from view.model.object_keys import Key, OfBlocks, OfSymbol
-from view.names.naming import Found, Naming, WordKind
-from view.reading.reports import Block, Line, Misses, Missed, Report, Symbol, bytes_of, objects_of
+from view.model.object_keys import Key, BlocksKey, SymbolKey
+from view.names.naming import Holder, Naming, WordKind
+from view.reading.reports import (
+    Block,
+    Line,
+    Misses,
+    MissLine,
+    Report,
+    Symbol,
+    name_bytes,
+    parse_objects,
+)
 
 # So many lines of an object are looked at word by word: its first ones.
-LINES = 64
+MAX_WORST_LINES = 64
 
 
-class Spot(NamedTuple):
+class ObjectLine(NamedTuple):
     """A line of an object: as the report lists it, or none, and as its misses were counted, or none; its words, if not the report's, are
     those of `each`, a report with no thresholds."""
 
     base: int
     line: Line | None
-    missed: Missed | None
+    missed: MissLine | None
     each: Line | None = None
 
-    def told(self) -> Line | None:
+    def line_with_words(self) -> Line | None:
         """The line with its words, or none where they aren't known."""
         return self.line or self.each
 
-    def stands(self) -> str:
+    def object_rows(self) -> str:
         """The rows of what stands on the line: since its start where the report lists it."""
-        return (self.line.stands if self.line else "") or (
-            self.missed.stands if self.missed else ""
+        return (self.line.object_rows if self.line else "") or (
+            self.missed.object_rows if self.missed else ""
         )
 
-    def rows(self) -> list[Symbol | Block]:
+    def objects(self) -> list[Symbol | Block]:
         """The objects on the line."""
-        return objects_of(self.stands())
+        return parse_objects(self.object_rows())
 
 
-def rank_of(spot: Spot) -> tuple[int, int, int]:
+def line_rank(spot: ObjectLine) -> tuple[int, int, int]:
     return (
         -spot.missed.useless if spot.missed else 0,
         -spot.line.count if spot.line else 0,
@@ -48,25 +57,25 @@ def rank_of(spot: Spot) -> tuple[int, int, int]:
 
 
 # Objects of a line by their keys, each with one of them, and with its share of the accesses.
-Shares = dict[Key, tuple[Found, float]]
+Shares = dict[Key, tuple[Holder, float]]
 
 
-class Thing:
+class DataObject:
     """An object that is fought over: a variable, the blocks of a call site, or memory without an object."""
 
-    def __init__(self, key: Key, example: Found) -> None:
+    def __init__(self, key: Key, example: Holder) -> None:
         # (the note is shown behind the name, where an object has a row of its own)
         self.key, self.example, self.name, self.note = key, example, "", ""
-        self.spots: list[Spot] = []
-        self.lives: set[int] = set()
-        self.beside: Counter[Key] = Counter()
+        self.lines: list[ObjectLine] = []
+        self.block_ids: set[int] = set()
+        self.neighbours: Counter[Key] = Counter()
         self.useless = self.useful = self.cold = self.count = 0
         # (how many misses its words would save, each on a line of its own)
-        self.saves = 0
-        self.first: list[Spot] = []
+        self.savable_misses = 0
+        self.cached_worst_lines: list[ObjectLine] = []
 
-    def add(self, spot: Spot) -> None:
-        self.spots.append(spot)
+    def add(self, spot: ObjectLine) -> None:
+        self.lines.append(spot)
         if spot.line:
             self.count += spot.line.count
         if spot.missed:
@@ -75,59 +84,56 @@ class Thing:
             self.cold += spot.missed.cold
 
     def rank(self) -> tuple[int, int, int, int, int]:
-        return -self.saves, -self.useless, -self.useful, -self.count, self.spots[0].base
+        return -self.savable_misses, -self.useless, -self.useful, -self.count, self.lines[0].base
 
-    def worst_first(self) -> list[Spot]:
+    def worst_lines(self) -> list[ObjectLine]:
         """Its first lines, at most so many as are looked at, the worst first."""
-        if not self.first:
-            self.first = heapq.nsmallest(LINES, self.spots, rank_of)
-        return self.first
+        if not self.cached_worst_lines:
+            self.cached_worst_lines = heapq.nsmallest(MAX_WORST_LINES, self.lines, line_rank)
+        return self.cached_worst_lines
 
-    def worst(self) -> Spot:
-        return self.worst_first()[0]
+    def worst_line(self) -> ObjectLine:
+        return self.worst_lines()[0]
 
     def name_to_place(self) -> bytes | str | None:
         """What `place` may know the object by, or none: a variable by its name, and the only block of a call site by its address."""
-        if isinstance(self.key, OfSymbol):
-            return bytes_of(self.key.name)
+        if isinstance(self.key, SymbolKey):
+            return name_bytes(self.key.name)
         return (
             f"{self.example.addr:#010x}"
-            if isinstance(self.example, Block) and len(self.lives) == 1
+            if isinstance(self.example, Block) and len(self.block_ids) == 1
             else None
         )
 
 
-def key_of(thing: Found, naming: Naming, addr: int) -> Key:
+def object_key(thing: Holder, naming: Naming, addr: int) -> Key:
     """What an object is put together by: blocks by their call sites, as far as these have lines of a source by those."""
     if isinstance(thing, Symbol):
-        return OfSymbol("symbol", thing.name, thing.addr)
+        return SymbolKey("symbol", thing.name, thing.addr)
     if isinstance(thing, Block):
-        return OfBlocks("block", naming.sites_key(thing.sites))
+        return BlocksKey("block", naming.lasting_sites(thing.sites))
     return naming.memory.key(addr)
 
 
-def holders(
-    things: Sequence[Symbol | Block], addr: int, accesses: int = 0
-) -> list[tuple[Symbol | Block, float]]:
-    """The objects that a word lies in, each with its share of it: blocks before symbols, short and long-lived ones first. A trace has so
-    many accesses, up to whose end a block lives on."""
+def word_holders(things: Sequence[Symbol | Block], addr: int) -> list[tuple[Symbol | Block, float]]:
+    """The objects that a word lies in, each with its share of it: blocks before symbols, short and long-lived ones first."""
     found = [it for it in things if it.addr < addr + 4 and addr < it.addr + it.size]
     blocks = [it for it in found if isinstance(it, Block)]
     if not blocks:
         return [(it, 1 / len(found)) for it in found]
     # (one that lives on does so beyond all that is told of the others)
-    end = max(accesses, *(max(it.born, it.died or 0) + 1 for it in blocks))
+    end = max(max(it.born, it.died or 0) for it in blocks) + 1
     shares = [max((end if it.died is None else it.died) - it.born, 1) / it.size for it in blocks]
     return [(it, share / sum(shares)) for it, share in zip(blocks, shares)]
 
 
-def holder(things: Sequence[Symbol | Block], addr: int, accesses: int = 0) -> Found:
+def word_holder(things: Sequence[Symbol | Block], addr: int) -> Holder:
     """The object that a word is told under, or none."""
-    found = holders(things, addr, accesses) if things else []
+    found = word_holders(things, addr) if things else []
     return max(found, key=lambda share: share[1])[0] if found else None
 
 
-def shares_of(
+def access_shares(
     words: Iterable[tuple[int, int]],
     things: Sequence[Symbol | Block],
     keys: Sequence[Key],
@@ -138,7 +144,7 @@ def shares_of(
     found: Shares = {}
     ranges = [(at, it.addr, it.addr + it.size) for at, it in enumerate(things)]
     for addr, accesses in words:
-        own: list[tuple[Key, Found, float]] | None = None
+        own: list[tuple[Key, Holder, float]] | None = None
         met = [at for at, begin, end in ranges if begin < addr + 4 and addr < end]
         if len(met) > 1:
             # (of one block and symbols that it lies in, the block; of several blocks each by its life)
@@ -146,7 +152,7 @@ def shares_of(
             if len(blocks) != 1:
                 own = [
                     (keys[things.index(thing)], thing, share)
-                    for thing, share in holders(things, addr, naming.accesses)
+                    for thing, share in word_holders(things, addr)
                 ]
             met = blocks
         if own is None:
@@ -158,20 +164,23 @@ def shares_of(
     return found
 
 
-def parties(
-    spot: Spot, things: Sequence[Symbol | Block], naming: Naming, keys: Sequence[Key] | None = None
+def contending_objects(
+    spot: ObjectLine,
+    things: Sequence[Symbol | Block],
+    naming: Naming,
+    keys: Sequence[Key] | None = None,
 ) -> Shares:
     """The keys of the objects that are fought over on a line, each with an object of it and its share of the accesses. Where the keys of
     the things are given, and are one, its share isn't looked for."""
     is_one = keys is not None and len({*keys}) < 2
-    keys = [key_of(it, naming, 0) for it in things] if keys is None else keys
-    told = spot.told()
-    if is_one and things and told and not is_touched(told, things):
-        return shares_of(told.accesses(), (), (), naming)
+    keys = [object_key(it, naming, 0) for it in things] if keys is None else keys
+    told = spot.line_with_words()
+    if is_one and things and told and not has_accesses(told, things):
+        return access_shares(told.accesses(), (), (), naming)
     found: Shares = (
         {}
         if is_one or len(things) < 2 or told is None
-        else shares_of(told.accesses(), things, keys, naming)
+        else access_shares(told.accesses(), things, keys, naming)
     )
     # The first object, as long as it isn't told how the words were accessed.
     for at, key in enumerate(() if found else keys):
@@ -179,7 +188,7 @@ def parties(
     return found or {naming.memory.key(max(spot.base, 0)): (None, 0)}
 
 
-def is_touched(line: Line, things: Sequence[Symbol | Block]) -> bool:
+def has_accesses(line: Line, things: Sequence[Symbol | Block]) -> bool:
     """Whether an access of a line was of one of some objects on it, as far as its words are told."""
     base, end = line.base, line.base + line.size
     for obj in things:
@@ -191,77 +200,79 @@ def is_touched(line: Line, things: Sequence[Symbol | Block]) -> bool:
     )
 
 
-def spots(report: Report, misses: Misses | None, each: Report | None = None) -> Iterator[Spot]:
+def object_lines(
+    report: Report, misses: Misses | None, each: Report | None = None
+) -> Iterator[ObjectLine]:
     """The lines that the report lists, in its order, and those beside them that have misses."""
     missed = misses.lines if misses else {}
     for line in report.lines:
         if line.kind == "observed":
             base = line.base
-            yield Spot(base, line, missed.get(base))
+            yield ObjectLine(base, line, missed.get(base))
     if missed:
-        seen, words = {it.base for it in report.observed()}, each.at() if each else {}
+        seen, words = {it.base for it in report.observed()}, each.observed_by_base() if each else {}
         for base, missed_line in missed.items():
             if base not in seen:
-                yield Spot(base, None, missed_line, words.get(base))
+                yield ObjectLine(base, None, missed_line, words.get(base))
 
 
 # No object.
 NONE = None, None
 
 
-class Folding:
+class ObjectGrouping:
     """Lines as they are put under their objects."""
 
     def __init__(self, naming: Naming) -> None:
         self.naming = naming
-        self.found: dict[Key, Thing] = {}
-        self.known: dict[str, tuple[Thing, Symbol] | tuple[None, None]] = {}
+        self.objects: dict[Key, DataObject] = {}
+        self.single_objects: dict[str, tuple[DataObject, Symbol] | tuple[None, None]] = {}
 
-    def add(self, spot: Spot) -> None:
-        rows = spot.stands()
-        known, symbol = self.known.get(rows, NONE)
+    def add(self, spot: ObjectLine) -> None:
+        rows = spot.object_rows()
+        known, symbol = self.single_objects.get(rows, NONE)
         if known and symbol:
             # (the same one object as on a line before)
-            told = spot.told()
-            if told is None or is_touched(told, (symbol,)):
+            told = spot.line_with_words()
+            if told is None or has_accesses(told, (symbol,)):
                 known.add(spot)
                 return
-        things = objects_of(rows)
-        keys = [key_of(it, self.naming, 0) for it in things]
-        shares = parties(spot, things, self.naming, keys)
+        things = parse_objects(rows)
+        keys = [object_key(it, self.naming, 0) for it in things]
+        shares = contending_objects(spot, things, self.naming, keys)
         for key, (example, _) in shares.items():
-            if key not in self.found:
-                self.found[key] = Thing(key, example)
+            if key not in self.objects:
+                self.objects[key] = DataObject(key, example)
         key = (
             max(shares, key=lambda candidate: shares[candidate][1])
             if len(shares) > 1
             else next(iter(shares))
         )
-        own = self.found[key]
+        own = self.objects[key]
         own.add(spot)
         if len(shares) > 1:
             for other in shares:
                 if other != key:
-                    own.beside[other] += 1
-        elif len(things) == 1 and isinstance(key, OfSymbol) and isinstance(things[0], Symbol):
-            self.known[rows] = own, things[0]
+                    own.neighbours[other] += 1
+        elif len(things) == 1 and isinstance(key, SymbolKey) and isinstance(things[0], Symbol):
+            self.single_objects[rows] = own, things[0]
         for obj, its in zip(things, keys):
-            if isinstance(obj, Block) and its in self.found:
-                self.found[its].lives.add(obj.addr << 44 | obj.born)
+            if isinstance(obj, Block) and its in self.objects:
+                self.objects[its].block_ids.add(obj.addr << 44 | obj.born)
 
 
-def things_of(
+def group_lines(
     report: Report, misses: Misses | None, naming: Naming, each: Report | None = None
-) -> tuple[list[Thing], dict[Key, Thing]]:
+) -> tuple[list[DataObject], dict[Key, DataObject]]:
     """The objects that have lines, the worst first, and all by their keys, those beside them too."""
-    folding = Folding(naming)
-    for spot in spots(report, misses, each):
+    folding = ObjectGrouping(naming)
+    for spot in object_lines(report, misses, each):
         folding.add(spot)
-    found = folding.found
-    return sorted((it for it in found.values() if it.spots), key=Thing.rank), found
+    found = folding.objects
+    return sorted((it for it in found.values() if it.lines), key=DataObject.rank), found
 
 
-class Told(NamedTuple):
+class WordUse(NamedTuple):
     """A word on an object's lines: its line, its names, the object and where that begins, and how it was accessed; `useful` are its misses
     on a line of its own, `kind` is what is known of its type, and `owner` the thread that alone accesses it, by its name.
     """
@@ -280,53 +291,53 @@ class Told(NamedTuple):
     kind: WordKind = WordKind(False, False)
     owner: str = "several threads"
 
-    def whole(self) -> str:
+    def field_name(self) -> str:
         """The name of the field that the word is of."""
-        return whole(self.name, self.kind)
+        return whole_field_name(self.name, self.kind)
 
 
-def whole(name: str, kind: WordKind) -> str:
+def whole_field_name(name: str, kind: WordKind) -> str:
     """The name of a field, by that of a word of it: one of eight bytes has two words."""
     return re.sub(r"\+\d+$", "", name) if kind.is_typed else name
 
 
-def field_at(addr: int, thing: Found, naming: Naming) -> str:
+def field_name_at(addr: int, thing: Holder, naming: Naming) -> str:
     """The name of the field of an object that a word is of."""
-    return whole(naming.word(addr, thing)[0], naming.kind(addr, thing))
+    return whole_field_name(naming.word_names(addr, thing)[0], naming.word_kind(addr, thing))
 
 
-def words_of(spot: Spot, naming: Naming, by_word: Misses | None = None) -> list[Told]:
+def word_uses(spot: ObjectLine, naming: Naming, by_word: Misses | None = None) -> list[WordUse]:
     """The words of a line where they are told; `by_word` is the count of misses in lines of a word each."""
-    told = spot.told()
+    told = spot.line_with_words()
     if told is None:
         return []
-    things = spot.rows()
-    found: list[Told] = []
+    things = spot.objects()
+    found: list[WordUse] = []
     for word in told.words():
-        thing = holder(things, word.addr, naming.accesses)
-        name, element, field = naming.word(word.addr, thing)
+        thing = word_holder(things, word.addr)
+        name, element, field = naming.word_names(word.addr, thing)
         useful = None
         if by_word is not None:
             useful = by_word.lines[word.addr].useful if word.addr in by_word.lines else 0
         begin = thing.addr if thing else 0
         found.append(
-            Told(
+            WordUse(
                 *(
                     word.addr,
                     spot.base,
                     name,
                     element,
                     field,
-                    key_of(thing, naming, word.addr),
+                    object_key(thing, naming, word.addr),
                     begin,
                 ),
-                *(word.reads, word.writes, word.hart, useful, naming.kind(word.addr, thing)),
+                *(word.reads, word.writes, word.hart, useful, naming.word_kind(word.addr, thing)),
                 *(() if word.hart == "many" else (naming.memory.owner(int(word.hart)),)),
             )
         )
     return found
 
 
-def worst_word(words: list[Told]) -> Told | None:
+def worst_word(words: list[WordUse]) -> WordUse | None:
     """The word that is written most, or else read most."""
     return max(words, key=lambda word: (word.writes, word.reads, -word.addr)) if words else None

@@ -4,31 +4,31 @@ from typing import Iterable, NamedTuple, Protocol
 
 from view.model.object_keys import Key
 from view.names.naming import Naming
-from view.model.objects import key_of
+from view.model.objects import object_key
 from view.reading.passes import Layout
 from view.reading.reports import Block, Line, Misses, Report, Symbol
 
 # Of so many layouts the misses are counted for a first screen; each takes a pass over the trace.
-LAYOUTS = 4
+MAX_COUNTED_LAYOUTS = 4
 UNCOUNTED, UNALIGNED = "its misses weren't counted", "the data's alignment rules it out"
 
 # How the kit's allocator aligns blocks.
-OF_BLOCKS = 16
+BLOCK_ALIGNMENT_BYTES = 16
 
 
-class Foretold(NamedTuple):
+class PredictedLine(NamedTuple):
     """A predicted line, its objects by their keys, its useless misses, those of the observed lines that it meets, and whether it is
     shown."""
 
     line: Line
     keys: dict[Key, Symbol | Block]
     useless: int | None
-    inside: int | None
+    observed_useless: int | None
     is_shown: bool
-    why: str
+    reason: str
 
 
-class Range(Protocol):
+class LineRange(Protocol):
     """What has a line's base and size."""
 
     @property
@@ -40,50 +40,54 @@ class Range(Protocol):
         ...
 
 
-def layout_of(line: Range) -> Layout:
+def line_layout(line: LineRange) -> Layout:
     return line.size, line.base % line.size
 
 
-def layouts(report: Report) -> list[Layout]:
-    return sorted({layout_of(it) for it in report.predicted()})
+def predicted_layouts(report: Report) -> list[Layout]:
+    return sorted({line_layout(it) for it in report.predicted()})
 
 
-def worth_counting(report: Report, naming: Naming, is_all: bool) -> list[Layout]:
+def choose_layouts(report: Report, naming: Naming, is_all: bool) -> list[Layout]:
     """The layouts of predicted lines whose misses are to be counted: all, or those of the lines that are taken most and can come to be."""
     if is_all:
-        return layouts(report)
+        return predicted_layouts(report)
     found: list[Layout] = []
     for line in sorted(
         report.predicted(), key=lambda candidate: (-candidate.count, candidate.base)
     ):
-        if len(found) == LAYOUTS:
+        if len(found) == MAX_COUNTED_LAYOUTS:
             break
-        if layout_of(line) not in found and can_lie(line, naming):
-            found.append(layout_of(line))
+        if line_layout(line) not in found and can_begin_there(line, naming):
+            found.append(line_layout(line))
     return found
 
 
-def alignment(thing: Symbol | Block, naming: Naming) -> int:
+def object_alignment(thing: Symbol | Block, naming: Naming) -> int:
     """How an object's declaration or its allocator aligns it, as far as that is known."""
     if isinstance(thing, Symbol):
         variable = naming.program.variable(thing.addr) if naming.program else None
         return variable.alignment() if variable else 1
     # What the allocator gives is not known beyond what its blocks show.
-    return min(OF_BLOCKS, thing.addr & -thing.addr) if thing.addr else OF_BLOCKS
+    return (
+        min(BLOCK_ALIGNMENT_BYTES, thing.addr & -thing.addr)
+        if thing.addr
+        else BLOCK_ALIGNMENT_BYTES
+    )
 
 
-def can_lie(line: Line, naming: Naming) -> bool:
+def can_begin_there(line: Line, naming: Naming) -> bool:
     """Whether data aligned as they are could lie so that a line begins where this one does."""
     if line.kind == "doubled":
         return True
     return all(
-        (obj.addr - line.base) % min(alignment(obj, naming), line.size) == 0
+        (obj.addr - line.base) % min(object_alignment(obj, naming), line.size) == 0
         for obj in line.objects()
         if isinstance(obj, (Symbol, Block))
     )
 
 
-def inside(lines: Iterable[Range], misses: Misses) -> int:
+def observed_false_sharing(lines: Iterable[LineRange], misses: Misses) -> int:
     """The useless misses of the observed lines that some predicted ones meet, each once."""
     met: set[int] = set()
     for line in lines:
@@ -92,50 +96,55 @@ def inside(lines: Iterable[Range], misses: Misses) -> int:
     return sum(misses.lines[it].useless for it in met if it in misses.lines)
 
 
-def judged(
+def judge_predicted_lines(
     report: Report, misses: Misses | None, by_layout: dict[Layout, Misses], naming: Naming
-) -> list[Foretold]:
+) -> list[PredictedLine]:
     """Each predicted line of a report, those that are shown first, the worst of them first."""
     found = []
     for line in report.predicted():
-        keys = {key_of(it, naming, line.base): it for it in line.objects()}
-        counted = by_layout.get(layout_of(line))
+        keys = {object_key(it, naming, line.base): it for it in line.objects()}
+        counted = by_layout.get(line_layout(line))
         if misses is None or counted is None:
             found.append(
-                Foretold(
+                PredictedLine(
                     line,
                     keys,
                     None,
                     None,
                     False,
-                    UNCOUNTED if misses is None or can_lie(line, naming) else UNALIGNED,
+                    UNCOUNTED if misses is None or can_begin_there(line, naming) else UNALIGNED,
                 )
             )
             continue
         own = counted.lines[line.base].useless if line.base in counted.lines else 0
-        seen = inside([line], misses)
+        seen = observed_false_sharing([line], misses)
         if own <= seen:
             why = "it adds no false sharing to that of the observed lines"
         else:
-            why = "" if can_lie(line, naming) else UNALIGNED
-        found.append(Foretold(line, keys, own, seen, not why, why))
+            why = "" if can_begin_there(line, naming) else UNALIGNED
+        found.append(PredictedLine(line, keys, own, seen, not why, why))
     return sorted(
         found,
         key=lambda predicted: (
             not predicted.is_shown,
-            (predicted.inside or 0) - (predicted.useless or 0),
+            (predicted.observed_useless or 0) - (predicted.useless or 0),
             -predicted.line.count,
             predicted.line.base,
         ),
     )
 
 
-def together(found: Iterable[Foretold]) -> list[list[Foretold]]:
+def group_predicted_lines(found: Iterable[PredictedLine]) -> list[list[PredictedLine]]:
     """The predicted lines of one kind, layout and reason that have the same objects, in the order of their firsts."""
-    groups: dict[tuple[object, ...], list[Foretold]] = {}
+    groups: dict[tuple[object, ...], list[PredictedLine]] = {}
     for predicted in found:
         groups.setdefault(
-            (tuple(predicted.keys), predicted.line.kind, layout_of(predicted.line), predicted.why),
+            (
+                tuple(predicted.keys),
+                predicted.line.kind,
+                line_layout(predicted.line),
+                predicted.reason,
+            ),
             [],
         ).append(predicted)
     return list(groups.values())

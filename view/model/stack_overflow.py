@@ -7,14 +7,14 @@ import threading
 from typing import Iterator, NamedTuple, Sequence
 
 from view.names.naming import Memory
-from view.reading.engine import REPORTED, Predator, with_trace
+from view.reading.engine import REPORT_STATUSES, Predator, add_trace_option
 
 # So many bytes of a trace are kept, its end has so many, and an access.
-KEPT, END, ACCESS = 1 << 24, 25, 8
+KEPT_BYTES, END_BYTES, ACCESS_BYTES = 1 << 24, 25, 8
 # A frame is smaller than this, and who wrote so many bytes below its stack ran out of it.
-FRAME, LEAST = 4096, 1024
+MAX_FRAME_BYTES, MIN_OVERFLOW_BYTES = 4096, 1024
 # The greatest stack that the settings allow.
-GREATEST = 1 << 20
+MAX_STACK_BYTES = 1 << 20
 # Tags of an access that writes and one that reads, of a block that is made and one that is freed, with their lengths.
 WRITES, READS, OTHERS = 2, 1, ((3, 25), (4, 5))
 
@@ -26,15 +26,15 @@ class Overflow(NamedTuple):
     size: int
     depth: int
 
-    def told(self) -> str:
+    def sentence(self) -> str:
         told = f"hart {self.hart} overflowed its stack of {self.size:,} bytes: it wrote {self.depth:,} bytes below the top"
         enough = 1 << (self.depth - 1).bit_length()
-        if enough > GREATEST:
-            return f"{told}; it recurses without end, or its local variables exceed the largest stack, {GREATEST:,} bytes"
+        if enough > MAX_STACK_BYTES:
+            return f"{told}; it recurses without end, or its local variables exceed the largest stack, {MAX_STACK_BYTES:,} bytes"
         return f"{told}; use `--set stack={enough}`, unless it recurses without end"
 
 
-def last_of_run(predator: Predator, words: list[str]) -> bytes:
+def last_bytes_of_run(predator: Predator, words: list[str]) -> bytes:
     """The last bytes of a run's trace."""
     take, give = os.pipe()
     kept: list[bytes] = []
@@ -43,38 +43,38 @@ def last_of_run(predator: Predator, words: list[str]) -> bytes:
         with open(take, "rb", 0) as source:
             while piece := source.read(1 << 20):
                 kept.append(piece)
-                if len(kept) > 2 * KEPT >> 16:
-                    kept[:] = [b"".join(kept)[-KEPT:]]
+                if len(kept) > 2 * KEPT_BYTES >> 16:
+                    kept[:] = [b"".join(kept)[-KEPT_BYTES:]]
 
     keeping = threading.Thread(target=keep)
     keeping.start()
     try:
-        predator.text(
-            with_trace(words, f"/dev/fd/{give}"),
-            REPORTED,
+        predator.output(
+            add_trace_option(words, f"/dev/fd/{give}"),
+            REPORT_STATUSES,
             pass_fds=(give,),
             stderr=subprocess.DEVNULL,
         )
     finally:
         os.close(give)
         keeping.join()
-    return b"".join(kept)[-KEPT:]
+    return b"".join(kept)[-KEPT_BYTES:]
 
 
-def last_of_file(path: str) -> bytes:
+def last_bytes_of_file(path: str) -> bytes:
     with open(path, "rb") as file:
-        file.seek(max(os.path.getsize(path) - KEPT, 0))
+        file.seek(max(os.path.getsize(path) - KEPT_BYTES, 0))
         return file.read()
 
 
-def writes(trace: bytes) -> Iterator[tuple[int, int]]:
+def last_writes(trace: bytes) -> Iterator[tuple[int, int]]:
     """The hart and the address of each write at the end of a trace of version 1, the last one first, as far as its records can be told."""
-    at = len(trace) - END
+    at = len(trace) - END_BYTES
     if at < 0 or trace[at] != 6:
         return
-    while at >= ACCESS:
+    while at >= ACCESS_BYTES:
         if trace[at - 8] in (READS, WRITES) and trace[at - 6] == 0 and trace[at - 1] in (1, 2, 4):
-            at -= ACCESS
+            at -= ACCESS_BYTES
             if trace[at] == WRITES:
                 yield trace[at + 1], int.from_bytes(trace[at + 3 : at + 7], "little")
             continue
@@ -84,30 +84,32 @@ def writes(trace: bytes) -> Iterator[tuple[int, int]]:
         at -= size
 
 
-def overflow(trace: bytes, memory: Memory) -> Overflow | None:
+def find_overflow(trace: bytes, memory: Memory) -> Overflow | None:
     """The hart that wrote farthest below its stack, from there on without a gap, or none."""
     below: dict[int, set[int]] = {}
-    for hart, addr in writes(trace):
-        if memory.each and addr < memory.top(hart + 1):
+    for hart, addr in last_writes(trace):
+        if memory.stack_bytes and addr < memory.top(hart + 1):
             below.setdefault(hart, set()).add(addr)
     found = [
-        Overflow(hart, memory.each, memory.top(hart) - edge(own, memory.top(hart + 1)))
+        Overflow(
+            hart, memory.stack_bytes, memory.top(hart) - lowest_address(own, memory.top(hart + 1))
+        )
         for hart, own in below.items()
     ]
-    deep = [it for it in found if it.depth >= it.size + LEAST]
+    deep = [it for it in found if it.depth >= it.size + MIN_OVERFLOW_BYTES]
     return max(deep, key=lambda candidate: candidate.depth) if deep else None
 
 
-def edge(addresses: set[int], low: int) -> int:
+def lowest_address(addresses: set[int], low: int) -> int:
     """How far down addresses go from a stack's lower end, without a gap."""
     for addr in sorted(addresses, reverse=True):
-        if low - addr > FRAME:
+        if low - addr > MAX_FRAME_BYTES:
             break
         low = addr
     return low
 
 
-def is_strange(outcome: str, code: Sequence[tuple[int, int]]) -> bool:
+def is_outside_code(outcome: str, code: Sequence[tuple[int, int]]) -> bool:
     """Whether a trap's pc is where no code is."""
     pc = int(outcome.split(" ")[4], 16) if outcome.startswith("trap") else None
     return pc is not None and bool(code) and not any(low <= pc < high for low, high in code)

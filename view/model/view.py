@@ -10,50 +10,64 @@ from typing import TYPE_CHECKING, Iterable, Sequence, cast
 
 from view.repairs import advice
 from view.reading.calls import EXPLAIN, Call
-from view.model.object_keys import Key, OfBlocks, OfMemory, OfSymbol, order_of
-from view.model.instruction_pairs import Does, is_read, kinds_of, of_program, weight
+from view.model.object_keys import Key, BlocksKey, MemoryKey, SymbolKey, key_order
+from view.model.instruction_pairs import (
+    MemoryEffect,
+    is_read,
+    count_kinds,
+    program_effects,
+    cost_weight,
+)
 from view.reading.file_kinds import has_pcs
 from view.model.foreign_objects import is_foreign
-from view.names.demangling import short
-from view.names.naming import Memory, Naming, shown
-from view.model.objects import Spot, Thing, Told, field_at, things_of, words_of, worst_word
-from view.model.stack_overflow import Overflow, last_of_file, last_of_run, overflow
-from view.reading.passes import Layout, Passes, first_readers, is_blamed, is_brief
-from view.model.predicted_lines import Foretold, judged, worth_counting
-from view.reading.engine import Predator, Refused, misses_under, setting, stacks
+from view.names.demangling import short_name
+from view.names.naming import Memory, Naming, address_text
+from view.model.objects import (
+    ObjectLine,
+    DataObject,
+    WordUse,
+    field_name_at,
+    group_lines,
+    word_uses,
+    worst_word,
+)
+from view.model.stack_overflow import Overflow, last_bytes_of_file, last_bytes_of_run, find_overflow
+from view.reading.passes import Layout, Passes, first_readers, can_blame, is_brief
+from view.model.predicted_lines import PredictedLine, judge_predicted_lines, choose_layouts
+from view.reading.engine import Predator, Refused, misses_reader, setting_value, stack_range
 from view.reading.reports import (
     Blame,
     Block,
-    Explained,
+    Explanation,
     Line,
     Misses,
-    Pair,
-    Placed,
+    InstructionPair,
+    Placement,
     Report,
     Symbol,
-    Takings,
+    LineInvalidations,
 )
-from view.names.unnamed_memory import HEAP, name_by_instructions, of_runtime, together
+from view.names.unnamed_memory import HEAP, name_by_instructions, go_runtime_keys, join_same_names
 from view.model.miss_rates import Worth
 
 if TYPE_CHECKING:
     from view.names.native import NativeProgram
-    from view.repairs.trial_results import Tried
+    from view.repairs.trial_results import Trial
 
 # A miss takes about a hundred times as long as an access: those of one in so many take a hundredth of the time.
-RARE = 10_000
+RARE_MISS_DIVISOR = 10_000
 # The file and the line where something is declared or made.
 Declared = tuple[str, int]
 
 
-class Seen:
+class ObjectDetails:
     """One object as it is shown: its words, its explained line, the fix, and what trying that came to."""
 
     def __init__(
         self,
-        thing: Thing,
-        words: list[Told],
-        explained: Takings | None,
+        thing: DataObject,
+        words: list[WordUse],
+        explained: LineInvalidations | None,
         fix: str,
         tried: str,
         declared: Declared | None,
@@ -67,74 +81,74 @@ class Seen:
             declared,
         )
 
-    def worst(self) -> Told | None:
+    def worst(self) -> WordUse | None:
         return worst_word([it for it in self.words if it.key == self.thing.key])
 
-    def fights(self) -> list[Pair]:
+    def conflicts(self) -> list[InstructionPair]:
         """The pairs of instructions that conflict on the object's worst line, the most frequent false sharing first."""
         pairs = self.explained.pairs if self.explained else []
-        return sorted(pairs, key=lambda pair: (pair.same - pair.taken, -pair.taken))
+        return sorted(pairs, key=lambda pair: (pair.same_word_times - pair.times, -pair.times))
 
-    def fight(self) -> Pair | None:
+    def worst_conflict(self) -> InstructionPair | None:
         """The pair whose false sharing of the object's worst line is most frequent, or none."""
-        return next(iter(self.fights()), None)
+        return next(iter(self.conflicts()), None)
 
 
 class View:
-    things: list[Thing]
-    all: dict[Key, Thing]
-    keys: dict[Key, str]
-    predicted: list[Foretold]
+    objects: list[DataObject]
+    objects_by_key: dict[Key, DataObject]
+    lasting_keys: dict[Key, str]
+    predicted: list[PredictedLine]
 
     def __init__(self, call: Call, report: Report, naming: Naming) -> None:
         self.call, self.report, self.naming = call, report, naming
         self.misses: Misses | None = None
-        self.by_word: Misses | None = None
-        self.each: Report | None = None
-        self.by_layout: dict[Layout, Misses] = {}
+        self.word_misses: Misses | None = None
+        self.every_line: Report | None = None
+        self.misses_by_layout: dict[Layout, Misses] = {}
         self.notes: list[str] = []
         self.blame: Blame | None = None
-        self.explained: dict[int, Takings] = {}
-        self.placed: dict[Key, Placed] = {}
+        self.invalidations_by_line: dict[int, LineInvalidations] = {}
+        self.placements: dict[Key, Placement] = {}
         # (none where no repair can be tried)
-        self.tried: dict[Key, Tried] | None = None
-        self.cached: dict[Key, Seen] = {}
+        self.trials: dict[Key, Trial] | None = None
+        self.details_by_key: dict[Key, ObjectDetails] = {}
         # Objects of the C library, and of Go's runtime.
-        self.foreign: set[Key] = set()
-        self.runtime: set[Key] = set()
-        self.lacked = ""
+        self.foreign_keys: set[Key] = set()
+        self.runtime_keys: set[Key] = set()
+        self.missing_harts = ""
         self.label_counts: Counter[str] | None = None
         self.overflow: Overflow | None = None
         # (what it may be worth in time, once that is looked for)
         self.worth = Worth(self, None)
-        self.does: dict[int, Does] = {}
+        self.effects: dict[int, MemoryEffect] = {}
 
-    def count(self, predator: Predator | None, passes: Passes | None) -> None:
+    def count_misses(self, predator: Predator | None, passes: Passes | None) -> None:
         """Counts the misses, under the report's layout, for each word, and under the layouts of predicted lines."""
         if predator is None:
             self.notes.append(
                 "a report has no misses: use `predator view run` or `predator view replay` to count them"
             )
             return
-        if not predator.has("misses"):
+        if not predator.has_command("misses"):
             self.notes.append("this predator has no command `misses`, so misses are unknown")
             return
-        if self.call.reads_once():
+        if self.call.reads_trace_once():
             self.notes.append(
                 "a pipe can be read only once, so misses and fixes are unknown: write the trace to a file"
             )
             return
-        brief, foreseen = is_brief(self.call), self.foreseen_layouts()
+        brief, foreseen = is_brief(self.call), self.predicted_layouts()
         asked = first_readers(
-            (self.report.size, self.report.offset), is_blamed(self.call, predator), brief
+            (self.report.size, self.report.offset), can_blame(self.call, predator), brief
         )
-        readers = [*asked.values(), *map(misses_under, foreseen)]
+        readers = [*asked.values(), *map(misses_reader, foreseen)]
         try:
-            if passes is not None and self.call.trace():
-                counted = passes.told(readers)
+            if passes is not None and self.call.trace_file():
+                counted = passes.results(readers)
             else:
-                counted = predator.counted_of_run(
-                    [*self.call.words_to_run(), *self.call.own], readers, self.call.spare
+                counted = predator.read_trace_of_run(
+                    [*self.call.rerun_words(), *self.call.guest_words], readers, self.call.run_trace
                 )
         except Refused as refused:
             self.notes.append(f"misses are unknown: {refused}")
@@ -144,185 +158,200 @@ class View:
                 "the trace is only a part of what the report counts, so misses are unknown"
             )
             return
-        self.note_lacked(predator)
+        self.note_missing_harts(predator)
         told = dict(zip(asked, counted))
-        self.by_word, self.misses = cast("Misses | None", told.get("words")), cast(
+        self.word_misses, self.misses = cast("Misses | None", told.get("words")), cast(
             Misses, told["lines"]
         )
-        self.each, self.blame = cast("Report | None", told.get("each")), cast(
+        self.every_line, self.blame = cast("Report | None", told.get("each")), cast(
             "Blame | None", told.get("blame")
         )
-        self.by_layout = dict(zip(foreseen, cast(list[Misses], counted[len(asked) :])))
+        self.misses_by_layout = dict(zip(foreseen, cast(list[Misses], counted[len(asked) :])))
         if brief:
             self.notes.append(
                 "the trace is long: fixes were tried on its first part, predicted lines weren't counted; --words does both in full"
             )
 
-    def foreseen_layouts(self) -> list[Layout]:
+    def predicted_layouts(self) -> list[Layout]:
         """The layouts of the predicted lines whose misses are counted."""
         options = self.call.options
         return (
             []
             if "no-predicted" in options or is_brief(self.call)
-            else worth_counting(self.report, self.naming, "predicted" in options)
+            else choose_layouts(self.report, self.naming, "predicted" in options)
         )
 
-    def note_lacked(self, predator: Predator) -> None:
+    def note_missing_harts(self, predator: Predator) -> None:
         """Notes that a thread never ran since all harts were in use."""
         found = re.search(
             "^predator: (?:no hart was free for |the last .*could not start)",
-            predator.said,
+            predator.stderr_text,
             re.MULTILINE,
         )
-        if found and self.call.how == "run":
-            harts = setting(self.call.settings_words(), "harts")
-            self.lacked = f"the last thread never ran, because all {harts} harts were in use: use `--set harts={min(2 * harts, 256)}`"
-            self.notes.append(self.lacked)
+        if found and self.call.action == "run":
+            harts = setting_value(self.call.settings_words(), "harts")
+            self.missing_harts = f"the last thread never ran, because all {harts} harts were in use: use `--set harts={min(2 * harts, 256)}`"
+            self.notes.append(self.missing_harts)
 
     def look_for_overflow(self, predator: Predator | None) -> None:
         """Looks, where the run didn't end well, whether a hart ran out of its stack."""
         if (
             predator is None
             or self.report.ended_well()
-            or not self.naming.memory.each
-            or self.call.reads_once()
+            or not self.naming.memory.stack_bytes
+            or self.call.reads_trace_once()
         ):
             return
-        trace = self.call.trace()
+        trace = self.call.trace_file()
         with contextlib.suppress(Refused, OSError):
             last = (
-                last_of_file(trace)
+                last_bytes_of_file(trace)
                 if trace
-                else last_of_run(predator, [*self.call.words_to_run(), *self.call.own])
+                else last_bytes_of_run(predator, [*self.call.rerun_words(), *self.call.guest_words])
             )
-            self.overflow = overflow(last, self.naming.memory)
+            self.overflow = find_overflow(last, self.naming.memory)
 
-    def place(self, predator: Predator | None, things: Sequence[Thing]) -> None:
+    def place_objects(self, predator: Predator | None, things: Sequence[DataObject]) -> None:
         """Has a placement of the first objects counted, where the trace is a file that can be read again and again."""
-        trace, most = self.call.trace(), self.call.number("explain", EXPLAIN)
-        if predator is None or trace is None or not predator.has("place") or is_brief(self.call):
+        trace, most = self.call.trace_file(), self.call.number_option("explain", EXPLAIN)
+        if (
+            predator is None
+            or trace is None
+            or not predator.has_command("place")
+            or is_brief(self.call)
+        ):
             return
         # (what repairs were counted for, or what is to be left as it is, has no use of it)
-        worth = [it for it in things[:most] if not self.known(it) and not self.is_little(it)]
+        worth = [
+            it for it in things[:most] if not self.decisive_trial(it) and not self.is_little(it)
+        ]
         named = [(it, name) for it in worth if (name := it.name_to_place()) is not None]
-        placed_at = functools.partial(predator.placed, trace, size=self.report.size)
+        placed_at = functools.partial(predator.find_placement, trace, size=self.report.size)
         with concurrent.futures.ThreadPoolExecutor(max_workers=min(4, os.cpu_count() or 1)) as pool:
             for (obj, _), placed in zip(named, pool.map(placed_at, [name for _, name in named])):
                 # (of several variables of one name it takes the first)
                 if placed and obj.example and placed.addr == obj.example.addr:
-                    self.placed[obj.key] = placed
+                    self.placements[obj.key] = placed
 
-    def arrange(self) -> None:
+    def group_by_objects(self) -> None:
         """Puts the lines together by objects."""
         told = [one for one in (self.report, self.misses) if one]
-        self.naming.learn("\n".join(one.text for one in told))
-        self.naming.prepare({it for one in told for it in one.sites()})
-        self.things, self.all = things_of(self.report, self.misses, self.naming, self.each)
-        for obj in self.all.values():
-            obj.name = self.naming.key_name(obj.key, obj.example)
-        self.rank()
+        self.naming.learn_symbols("\n".join(one.text for one in told))
+        self.naming.find_lines({it for one in told for it in one.sites()})
+        self.objects, self.objects_by_key = group_lines(
+            self.report, self.misses, self.naming, self.every_line
+        )
+        for obj in self.objects_by_key.values():
+            obj.name = self.naming.object_name(obj.key, obj.example)
+        self.rank_objects()
         if self.blame:
-            name_by_instructions(self.things, self.blame, self.naming)
-            self.runtime = of_runtime(self.things, self.blame, self.naming)
-            self.all.update(together(self.things))
-            self.things = sorted(
-                dict.fromkeys(self.all[it.key] for it in self.things), key=Thing.rank
+            name_by_instructions(self.objects, self.blame, self.naming)
+            self.runtime_keys = go_runtime_keys(self.objects, self.blame, self.naming)
+            self.objects_by_key.update(join_same_names(self.objects))
+            self.objects = sorted(
+                dict.fromkeys(self.objects_by_key[it.key] for it in self.objects),
+                key=DataObject.rank,
             )
-        self.keys = keys_over_builds(dict.fromkeys(self.all.values()), self.naming)
+        self.lasting_keys = make_lasting_keys(
+            dict.fromkeys(self.objects_by_key.values()), self.naming
+        )
         self.predicted = (
             []
             if "no-predicted" in self.call.options
-            else judged(self.report, self.misses, self.by_layout, self.naming)
+            else judge_predicted_lines(self.report, self.misses, self.misses_by_layout, self.naming)
         )
         for line in self.predicted:
             for key, example in line.keys.items():
-                if key not in self.all:
-                    self.all[key] = Thing(key, example)
-                    self.all[key].name = self.naming.key_name(key, example)
+                if key not in self.objects_by_key:
+                    self.objects_by_key[key] = DataObject(key, example)
+                    self.objects_by_key[key].name = self.naming.object_name(key, example)
 
-    def rank(self) -> None:
+    def rank_objects(self) -> None:
         """Puts the objects in order by the misses that lines of their own could save their words at most."""
         needed: Counter[int] = Counter()
         size, offset = self.report.size, self.report.offset
-        words = self.by_word.lines if self.by_word else {}
+        words = self.word_misses.lines if self.word_misses else {}
         for addr, word in words.items():
             # (two words that are missed as often are of one field, or brought by one load)
             if addr % 8 != 4 or addr - 4 not in words or words[addr - 4].useful != word.useful:
                 needed[(addr - offset) // size * size + offset] += word.useful
-        for obj in self.things if self.by_word or self.blame else ():
+        for obj in self.objects if self.word_misses or self.blame else ():
             missed = [
                 (spot.missed.useless, spot.missed.useful, spot.base)
-                for spot in obj.spots
+                for spot in obj.lines
                 if spot.missed
             ]
-            if self.by_word:
-                obj.saves = sum(
+            if self.word_misses:
+                obj.savable_misses = sum(
                     max(0, min(useless, useless + useful - needed[base]))
                     for useless, useful, base in missed
                 )
             else:
-                obj.saves = sum(
-                    min(useless, self.taken_for_nothing(base))
+                obj.savable_misses = sum(
+                    min(useless, self.false_sharing_invalidations(base))
                     for useless, _, base in missed
                     if useless
                 )
-        self.things.sort(key=Thing.rank)
-        self.foreign = {it.key for it in self.things if is_foreign(it, self.naming)}
+        self.objects.sort(key=DataObject.rank)
+        self.foreign_keys = {it.key for it in self.objects if is_foreign(it, self.naming)}
 
-    def taken_for_nothing(self, base: int) -> int:
+    def false_sharing_invalidations(self, base: int) -> int:
         """How often a line is taken for another word than the one for which it was there."""
-        found = self.blame.takings(base) if self.blame else None
-        return sum(it.taken - it.same for it in found.pairs) if found else 0
+        found = self.blame.invalidations(base) if self.blame else None
+        return sum(it.times - it.same_word_times for it in found.pairs) if found else 0
 
-    def rank_tried(self, first: Sequence[Thing]) -> None:
+    def rank_by_trials(self, first: Sequence[DataObject]) -> None:
         """Puts the first objects in order by the misses that their fixes saved on the trace."""
-        if self.tried is None:
+        if self.trials is None:
             return
         places = {
-            it.key: at for at, it in enumerate(sorted(first, key=lambda obj: -self.saved(obj)))
+            it.key: at
+            for at, it in enumerate(sorted(first, key=lambda obj: -self.saved_misses(obj)))
         }
-        self.things.sort(key=lambda obj: places.get(obj.key, len(places)))
+        self.objects.sort(key=lambda obj: places.get(obj.key, len(places)))
 
-    def saved(self, thing: Thing) -> int:
+    def saved_misses(self, thing: DataObject) -> int:
         """How many misses the best repair of an object saves, as far as that was counted and whole words decide it."""
-        found = (self.tried or {}).get(thing.key)
+        found = (self.trials or {}).get(thing.key)
         return (
-            found.saved()
-            if found is not None and found.after is not None and not found.mixed()
-            else thing.saves
+            found.saved_misses()
+            if found is not None and found.after is not None and not found.mixed_words()
+            else thing.savable_misses
         )
 
-    def chosen(self) -> list[Thing]:
+    def chosen_objects(self) -> list[DataObject]:
         """The objects that the call wants to see."""
-        return [it for it in self.things if self.is_named(it)]
+        return [it for it in self.objects if self.is_named(it)]
 
-    def listed(self) -> list[Thing]:
+    def listed_objects(self) -> list[DataObject]:
         """Those of them that have a row each."""
-        folded = {it.key for it in self.folded()}
-        return [it for it in self.chosen() if it.key not in folded]
+        folded = {it.key for it in self.folded_objects()}
+        return [it for it in self.chosen_objects() if it.key not in folded]
 
-    def folded(self) -> list[Thing]:
+    def folded_objects(self) -> list[DataObject]:
         """The objects of the C library and of Go's runtime, which have one row, unless the call asks for them."""
         is_asked = "library" in self.call.options or "object" in self.call.options
-        folded = self.foreign | self.runtime
-        return [] if is_asked else [it for it in self.things if it.key in folded]
+        folded = self.foreign_keys | self.runtime_keys
+        return [] if is_asked else [it for it in self.objects if it.key in folded]
 
-    def foretold(self) -> list[Foretold]:
+    def chosen_predictions(self) -> list[PredictedLine]:
         """The predicted lines of the objects that the call wants to see."""
         name = self.call.options.get("object")
         return [
             line
             for line in self.predicted
-            if name is None or name in {self.all[key].name for key in line.keys if key in self.all}
+            if name is None
+            or name
+            in {self.objects_by_key[key].name for key in line.keys if key in self.objects_by_key}
         ]
 
-    def label(self, thing: Thing) -> str:
+    def label(self, thing: DataObject) -> str:
         """An object's name, and what tells it from others of the same one: the line that an inlined function was called from, or an
         address."""
         if self.label_counts is None:
             self.label_counts = Counter(
                 name
-                for obj in dict.fromkeys(self.all.values())
+                for obj in dict.fromkeys(self.objects_by_key.values())
                 for name in {obj.name, obj.name + self.caller(obj)}
             )
         if self.label_counts[thing.name] < 2:
@@ -332,28 +361,30 @@ class View:
             return (
                 own
                 if self.label_counts[own] == 1
-                else f"{thing.name}, by {self.told_apart(thing, thing.example)}"
+                else f"{thing.name}, by {self.distinguishing_site(thing, thing.example)}"
             )
-        if isinstance(thing.key, (OfSymbol, OfMemory)):
-            return f"{thing.name}, at {shown(thing.key.addr if isinstance(thing.key, OfSymbol) else thing.key.page)}"
+        if isinstance(thing.key, (SymbolKey, MemoryKey)):
+            return f"{thing.name}, at {address_text(thing.key.addr if isinstance(thing.key, SymbolKey) else thing.key.page)}"
         return thing.name
 
-    def told_apart(self, thing: Thing, block: Block) -> str:
+    def distinguishing_site(self, thing: DataObject, block: Block) -> str:
         """The first line among a block's callers that no other object of its name has there, or else an address."""
-        chain = self.naming.chain(block.sites)
+        chain = self.naming.own_sites(block.sites)
         same = [
             other.example
-            for other in dict.fromkeys(self.all.values())
+            for other in dict.fromkeys(self.objects_by_key.values())
             if other.name == thing.name and other is not thing
         ]
-        others = [self.naming.chain(it.sites) for it in same if isinstance(it, Block) and it.sites]
+        others = [
+            self.naming.own_sites(it.sites) for it in same if isinstance(it, Block) and it.sites
+        ]
         for at, site in enumerate(chain):
-            line = self.naming.site(site)
-            if line and all(line != self.naming.site(it[at]) for it in others if at < len(it)):
+            line = self.naming.site_line(site)
+            if line and all(line != self.naming.site_line(it[at]) for it in others if at < len(it)):
                 return line
-        return shown(chain[0].addr)
+        return address_text(chain[0].addr)
 
-    def caller(self, thing: Thing) -> str:
+    def caller(self, thing: DataObject) -> str:
         """Of blocks that an inlined function makes the line that it was called from, as a part of their label."""
         if (
             not isinstance(thing.example, Block)
@@ -363,42 +394,46 @@ class View:
             return ""
         lines = [
             frame.short()
-            for frame in self.naming.sources.frames(self.naming.chain(thing.example.sites)[0].addr)
+            for frame in self.naming.sources.frames(
+                self.naming.own_sites(thing.example.sites)[0].addr
+            )
             if frame.short()
         ]
         return f", from {lines[-1]}" if len(lines) > 1 else ""
 
-    def is_named(self, thing: Thing) -> bool:
+    def is_named(self, thing: DataObject) -> bool:
         name = self.call.options.get("object")
         return name is None or name in self.names_of(thing)
 
     def name_of(self, key: Key) -> str:
-        return self.all[key].name
+        return self.objects_by_key[key].name
 
-    def names_of(self, thing: Thing) -> set[str]:
+    def names_of(self, thing: DataObject) -> set[str]:
         """What a call may name an object by: its own name, and those beside it."""
-        parts = [thing, *(self.all[key] for key in thing.beside)]
-        own = {it.name for it in parts} | {self.naming.key_name(it.key, it.example) for it in parts}
+        parts = [thing, *(self.objects_by_key[key] for key in thing.neighbours)]
+        own = {it.name for it in parts} | {
+            self.naming.object_name(it.key, it.example) for it in parts
+        }
         return (
             own
-            | {self.naming.names.shortened(it) for it in own}
+            | {self.naming.names.shorten(it) for it in own}
             | {it.partition(" made at ")[2].partition(" ")[0] for it in own}
         )
 
-    def explain(self, predator: Predator | None, things: Sequence[Thing]) -> None:
+    def explain(self, predator: Predator | None, things: Sequence[DataObject]) -> None:
         """Explains the invalidations of the first objects' worst lines: by the trace, or by as many runs side by side."""
-        most = self.call.number("explain", EXPLAIN)
-        program, trace = self.call.program, self.call.trace()
+        most = self.call.number_option("explain", EXPLAIN)
+        program, trace = self.call.program, self.call.trace_file()
         if self.blame is not None:
-            found = (self.blame.takings(it.worst().base) for it in things)
-            self.explained = {it.base: it for it in found if it}
+            found = (self.blame.invalidations(it.worst_line().base) for it in things)
+            self.invalidations_by_line = {it.base: it for it in found if it}
         elif (
             predator is not None
             and most
             and program is None
             and trace
             and has_pcs(trace)
-            and not predator.has("blame")
+            and not predator.has_command("blame")
         ):
             self.notes.append(
                 "this predator has no command `blame`, so the conflicting instructions are unknown"
@@ -410,48 +445,64 @@ class View:
         elif program is not None and predator is not None and most:
             self.explain_by_runs(predator, program, things[:most])
         shown = None if "words" in self.call.options else 8
-        self.naming.prepare(
-            {at for it in self.explained.values() for pair in it.pairs[:shown] for at in pair[:2]}
+        self.naming.find_lines(
+            {
+                at
+                for it in self.invalidations_by_line.values()
+                for pair in it.pairs[:shown]
+                for at in pair[:2]
+            }
         )
         if self.naming.program is not None:
-            self.does = of_program(
+            self.effects = program_effects(
                 self.naming.program,
-                {at for it in self.explained.values() for pair in it.pairs for at in pair[:2]},
+                {
+                    at
+                    for it in self.invalidations_by_line.values()
+                    for pair in it.pairs
+                    for at in pair[:2]
+                },
             )
-            self.put_dear_first()
+            self.rank_by_cost()
 
-    def put_dear_first(self) -> None:
+    def rank_by_cost(self) -> None:
         """Puts the objects whose worst lines are explained in the order of what they save, where an invalidation for which no instruction
         waits counts less."""
-        own = [at for at, it in enumerate(self.things) if it.worst().base in self.explained]
+        own = [
+            at
+            for at, it in enumerate(self.objects)
+            if it.worst_line().base in self.invalidations_by_line
+        ]
         ranked = sorted(
-            (self.things[at] for at in own),
-            key=lambda obj: (-obj.saves * self.weight(obj), obj.rank()),
+            (self.objects[at] for at in own),
+            key=lambda obj: (-obj.savable_misses * self.cost_weight(obj), obj.rank()),
         )
         for at, obj in zip(own, ranked):
-            self.things[at] = obj
+            self.objects[at] = obj
 
-    def weight(self, thing: Thing) -> float:
-        return weight(self.takings(thing) or {}, self.is_read(thing))
+    def cost_weight(self, thing: DataObject) -> float:
+        return cost_weight(self.invalidation_kinds(thing) or {}, self.is_read(thing))
 
-    def is_read(self, thing: Thing) -> bool:
+    def is_read(self, thing: DataObject) -> bool:
         """Whether threads read an object's worst line, as far as its words are known."""
-        line = thing.worst().told()
+        line = thing.worst_line().line_with_words()
         return line is None or is_read(line.words())
 
-    def takings(self, thing: Thing) -> dict[str, int] | None:
+    def invalidation_kinds(self, thing: DataObject) -> dict[str, int] | None:
         """How many invalidations of each kind an object's worst line has, or none where it isn't explained."""
-        found = self.explained.get(thing.worst().base)
-        return kinds_of(found.pairs, self.does) if found else None
+        found = self.invalidations_by_line.get(thing.worst_line().base)
+        return count_kinds(found.pairs, self.effects) if found else None
 
-    def explain_by_runs(self, predator: Predator, program: str, things: Sequence[Thing]) -> None:
-        spots = [spot for spot in (it.worst() for it in things) if spot.base >= 0]
-        if spots and not predator.has("explain"):
+    def explain_by_runs(
+        self, predator: Predator, program: str, things: Sequence[DataObject]
+    ) -> None:
+        spots = [spot for spot in (it.worst_line() for it in things) if spot.base >= 0]
+        if spots and not predator.has_command("explain"):
             self.notes.append(
                 "this predator has no command `explain`, so the conflicting instructions are unknown"
             )
             return
-        asked = functools.partial(self.asked, predator, program)
+        asked = functools.partial(self.explain_line, predator, program)
         with concurrent.futures.ThreadPoolExecutor(max_workers=min(4, os.cpu_count() or 1)) as pool:
             for spot, explained in zip(spots, pool.map(asked, spots)):
                 if isinstance(explained, Refused):
@@ -461,23 +512,28 @@ class View:
                 elif explained.accesses == self.report.accesses and (
                     spot.line is None or explained.count == spot.line.count
                 ):
-                    self.explained[spot.base] = explained.takings
+                    self.invalidations_by_line[spot.base] = explained.invalidations
                 else:
                     self.notes.append(
                         f"the program with these settings makes another trace, so line {spot.base:#010x} isn't explained"
                     )
 
-    def note_idle(self) -> None:
+    def note_unmatched_options(self) -> None:
         """Notes options that matched nothing: a type for blocks that aren't contended, and a folder without a source of the program."""
         blocks = [
             obj.example
-            for obj in self.all.values()
+            for obj in self.objects_by_key.values()
             if isinstance(obj.example, Block) and obj.example.sites
         ]
         sites = [self.naming.names_of_site(it) for it in blocks]
         for site in (site for site, _ in self.naming.types if not any(site in it for it in sites)):
-            first = [self.naming.chain(it.sites)[0] for it in blocks]
-            made = sorted({self.naming.site(it) or short(self.naming.called(it)) for it in first})
+            first = [self.naming.own_sites(it.sites)[0] for it in blocks]
+            made = sorted(
+                {
+                    self.naming.site_line(it) or short_name(self.naming.function_name(it))
+                    for it in first
+                }
+            )
             there = (
                 f"contended blocks are made at {advice.listing(made)}"
                 if made
@@ -499,53 +555,62 @@ class View:
                 f"`--sources {folder}` has none of the program's sources ({advice.listing(map(os.path.basename, files))})"
             )
 
-    def asked(self, predator: Predator, program: str, spot: Spot) -> Explained | Refused:
+    def explain_line(
+        self, predator: Predator, program: str, spot: ObjectLine
+    ) -> Explanation | Refused:
         """The text of `explain` for a line, or its refusal."""
         start, words = spot.line.start if spot.line else 0, self.call.settings_words()
         try:
-            return predator.explained(
+            return predator.explain_line(
                 [
                     program,
                     f"{spot.base:#010x}",
                     str(self.report.size),
                     str(start),
                     *words,
-                    *self.call.own,
+                    *self.call.guest_words,
                 ]
             )
         except Refused as refused:
             return refused
 
-    def seen(self, thing: Thing) -> Seen:
+    def details(self, thing: DataObject) -> ObjectDetails:
         """What is shown of an object."""
-        if thing.key not in self.cached:
+        if thing.key not in self.details_by_key:
             words = [
                 word
-                for spot in thing.worst_first()
-                for word in words_of(spot, self.naming, self.by_word)
+                for spot in thing.worst_lines()
+                for word in word_uses(spot, self.naming, self.word_misses)
             ]
-            fix, tried = self.advised(thing, words), self.trial(thing)
-            explained = self.explained.get(thing.worst().base)
-            self.cached[thing.key] = Seen(thing, words, explained, fix, tried, self.declared(thing))
-        return self.cached[thing.key]
+            fix, tried = self.choose_fix(thing, words), self.trial_numbers(thing)
+            explained = self.invalidations_by_line.get(thing.worst_line().base)
+            self.details_by_key[thing.key] = ObjectDetails(
+                thing, words, explained, fix, tried, self.declaration(thing)
+            )
+        return self.details_by_key[thing.key]
 
-    def type_of(self, thing: Thing) -> str:
+    def type_of(self, thing: DataObject) -> str:
         """The name of an object's type, or nothing where that isn't known."""
         program, example = self.naming.program, thing.example
         if program is None or example is None:
             return ""
-        from view.names.fields import sound, type_name
+        from view.names.fields import value_or_default, type_name
 
         if isinstance(example, Symbol):
             variable = program.variable(example.addr)
             of = variable.type if variable else None
         else:
-            of = sound(lambda: self.naming.type_of_block(example), None)
-        return sound(lambda: type_name(of), "").replace(" (unnamed)", "") if of is not None else ""
+            block = example
+            of = value_or_default(lambda: self.naming.type_of_block(block), None)
+        return (
+            value_or_default(lambda: type_name(of), "").replace(" (unnamed)", "")
+            if of is not None
+            else ""
+        )
 
-    def invalidations_of(self, spot: Spot) -> int | None:
+    def invalidations_of(self, spot: ObjectLine) -> int | None:
         """The invalidations of a line: since its first write where that was counted, and else as the report lists it."""
-        if self.each is None:
+        if self.every_line is None:
             return spot.line.count if spot.line else None
         line = self.each_lines.get(spot.base)
         return line.count if line else 0
@@ -553,15 +618,15 @@ class View:
     @functools.cached_property
     def each_lines(self) -> dict[int, Line]:
         """Each line that was ever invalidated, by its base."""
-        return self.each.at() if self.each else {}
+        return self.every_line.observed_by_base() if self.every_line else {}
 
-    def invalidations(self, thing: Thing) -> int:
+    def invalidations(self, thing: DataObject) -> int:
         """The invalidations of all of an object's lines."""
-        return sum(self.invalidations_of(it) or 0 for it in thing.spots)
+        return sum(self.invalidations_of(it) or 0 for it in thing.lines)
 
-    def is_minor(self, thing: Thing) -> bool:
+    def is_minor(self, thing: DataObject) -> bool:
         """Whether an object behind the first one has hardly any misses, so that it has no row."""
-        if "object" in self.call.options or self.is_clean() or self.things[0] is thing:
+        if "object" in self.call.options or self.is_clean() or self.objects[0] is thing:
             return False
         return (thing.useless + thing.useful) * advice.LITTLE < self.total()
 
@@ -571,79 +636,79 @@ class View:
 
     def is_clean(self) -> bool:
         """Whether so few accesses of a trace miss that no change is worth it. (Of a run the severity says that.)"""
-        return not self.report.steps and 0 < self.total() * RARE < self.report.accesses
+        return not self.report.steps and 0 < self.total() * RARE_MISS_DIVISOR < self.report.accesses
 
-    def is_little(self, thing: Thing) -> bool:
+    def is_little(self, thing: DataObject) -> bool:
         """Whether an object has so few of the misses that it isn't worth a change."""
         if self.is_clean() and "object" not in self.call.options:
             return True
-        is_first = self.things[0] is thing or "object" in self.call.options
+        is_first = self.objects[0] is thing or "object" in self.call.options
         return not is_first and 0 < (thing.useless + thing.useful) * advice.LITTLE < self.total()
 
-    def known(self, thing: Thing) -> "Tried | None":
+    def decisive_trial(self, thing: DataObject) -> "Trial | None":
         """The trial of an object's repairs, where that decides the fix."""
-        found = (self.tried or {}).get(thing.key)
-        return found if found is not None and found.knows() else None
+        found = (self.trials or {}).get(thing.key)
+        return found if found is not None and found.is_decisive() else None
 
-    def advised(self, thing: Thing, words: list[Told]) -> str:
+    def choose_fix(self, thing: DataObject, words: list[WordUse]) -> str:
         """The fix for an object."""
-        tried = self.known(thing)
+        tried = self.decisive_trial(thing)
         if tried:
-            mixed = [field_at(it, thing.example, self.naming) for it in tried.mixed()]
-            fix = tried.fix(list(dict.fromkeys(mixed)), self.turns())
+            mixed = [field_name_at(it, thing.example, self.naming) for it in tried.mixed_words()]
+            fix = tried.fix(list(dict.fromkeys(mixed)), self.quantum())
             return fix + self.worth.warning(thing, words)
         if self.is_little(thing):
             return advice.little(thing, self.total())
         if thing.name == HEAP:
             return advice.of_allocator()
-        names = {key: self.label(self.all[key]) for key in thing.beside}
+        names = {key: self.label(self.objects_by_key[key]) for key in thing.neighbours}
         todo = advice.sentence(
             thing,
             words,
             names,
-            self.align_to(thing),
+            self.needed_alignment(thing),
             self.misses is not None,
-            self.element(thing),
-            self.turns(),
+            self.element_fix(thing),
+            self.quantum(),
         )
         placed = advice.placing(
-            self.placed.get(thing.key),
-            lambda addr: field_at(addr, thing.example, self.naming),
+            self.placements.get(thing.key),
+            lambda addr: field_name_at(addr, thing.example, self.naming),
             self.naming.memory.owner,
         )
         return todo + placed + self.worth.warning(thing, words)
 
-    def trial(self, thing: Thing) -> str:
+    def trial_numbers(self, thing: DataObject) -> str:
         """The numbers of the trial of an object's repairs, or nothing."""
-        tried = self.known(thing)
-        return tried.outcome(bool(tried.mixed())) if tried else ""
+        tried = self.decisive_trial(thing)
+        return tried.outcome(bool(tried.mixed_words())) if tried else ""
 
-    def turns(self) -> int:
+    def quantum(self) -> int:
         """The quantum of the run, or 0 where that isn't known."""
         words = self.call.settings_words()
-        if self.call.how != "run" or any(it.startswith("--schedule") for it in words):
+        if self.call.action != "run" or any(it.startswith("--schedule") for it in words):
             return 0
-        return setting(words, "quantum")
+        return setting_value(words, "quantum")
 
-    def align_to(self, thing: Thing) -> int:
+    def needed_alignment(self, thing: DataObject) -> int:
         """The alignment that keeps apart what is seen, and what is predicted of lines twice as long."""
         sizes = [it.line.size for it in self.predicted if it.is_shown and thing.key in it.keys]
         return max([self.report.size, *sizes])
 
-    def element(self, thing: Thing) -> advice.Element:
+    def element_fix(self, thing: DataObject) -> advice.Element:
         """A function that gives the code by which each element of an array in an object gets its own line, or nothing."""
 
         def told(array: str) -> str:
             if self.naming.program is None:
                 return ""
-            from view.names.fields import sound
+            from view.names.fields import value_or_default
 
-            return sound(lambda: of_array(array), "")
+            return value_or_default(lambda: of_array(array), "")
 
         def of_array(array: str) -> str:
-            from view.names.fields import at_path, element_of
+            from view.names.fields import type_at_path, element_of
             from view.repairs.layouts import Shape
-            from view.repairs.candidates import own_lines
+            from view.repairs.candidates import own_lines_code
 
             program, is_block = self.naming.program, isinstance(thing.example, Block)
             variable = (
@@ -658,41 +723,45 @@ class View:
                 if isinstance(thing.example, Block)
                 else None
             )
-            of = at_path(whole, array.removeprefix(thing.name)) if whole is not None else None
+            of = type_at_path(whole, array.removeprefix(thing.name)) if whole is not None else None
             of = element_of(of) if element_of(of) is not None else (of if is_block else None)
-            return own_lines(Shape(of), self.align_to(thing)) if of is not None else ""
+            return own_lines_code(Shape(of), self.needed_alignment(thing)) if of is not None else ""
 
         return told
 
-    def declared(self, thing: Thing) -> Declared | None:
+    def declaration(self, thing: DataObject) -> Declared | None:
         """The file and line where an object is declared or made, or none."""
         program = self.naming.program
         if isinstance(thing.example, Symbol) and program:
-            from view.names.fields import sound
+            from view.names.fields import value_or_default
 
             variable = program.variable(thing.example.addr)
-            return sound(functools.partial(program.declared, variable), None) if variable else None
+            return (
+                value_or_default(functools.partial(program.declaration, variable), None)
+                if variable
+                else None
+            )
         if isinstance(thing.example, Block) and thing.example.sites and self.naming.sources:
-            place = self.naming.sources.place(self.naming.chain(thing.example.sites)[0].addr)
+            place = self.naming.sources.place(self.naming.own_sites(thing.example.sites)[0].addr)
             return (place.file, place.line) if place else None
         return None
 
 
-def keys_over_builds(things: Iterable[Thing], naming: Naming) -> dict[Key, str]:
+def make_lasting_keys(things: Iterable[DataObject], naming: Naming) -> dict[Key, str]:
     """For each object a text that another build of the program has too: no address, and no line of a source."""
     found: dict[Key, str] = {}
-    groups: dict[str, list[Thing]] = {}
-    for obj in sorted(things, key=lambda obj: order_of(obj.key)):
-        if isinstance(obj.key, OfSymbol):
-            text = f"symbol {naming.names.lasting(obj.key.name)}"
-        elif isinstance(obj.key, OfBlocks):
+    groups: dict[str, list[DataObject]] = {}
+    for obj in sorted(things, key=lambda obj: key_order(obj.key)):
+        if isinstance(obj.key, SymbolKey):
+            text = f"symbol {naming.names.lasting_name(obj.key.name)}"
+        elif isinstance(obj.key, BlocksKey):
             text = "block " + (
-                " < ".join(naming.functions(obj.example.sites))
+                " < ".join(naming.site_functions(obj.example.sites))
                 if isinstance(obj.example, Block) and obj.example.sites
                 else "-"
             )
         else:
-            text = "memory" if isinstance(obj.key, OfMemory) else f"{obj.key.kind} {obj.key[1]}"
+            text = "memory" if isinstance(obj.key, MemoryKey) else f"{obj.key.kind} {obj.key[1]}"
         groups.setdefault(text, []).append(obj)
     for text, own in groups.items():
         for at, obj in enumerate(own):
@@ -700,7 +769,7 @@ def keys_over_builds(things: Iterable[Thing], naming: Naming) -> dict[Key, str]:
     return found
 
 
-def memory_of(
+def stack_memory(
     call: Call, predator: Predator | None, native: "NativeProgram | None" = None
 ) -> Memory:
     """Where the stacks of a program lie: of one of this machine by its table back, and of a guest under the settings of the call."""
@@ -716,4 +785,4 @@ def memory_of(
         for at, word in enumerate(words)
         if not (word.startswith("--schedule") or at and words[at - 1] == "--schedule")
     ]
-    return Memory(stacks(predator, call.program, own), setting(own, "harts"))
+    return Memory(stack_range(predator, call.program, own), setting_value(own, "harts"))

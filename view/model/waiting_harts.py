@@ -7,22 +7,22 @@ import tempfile
 from collections import deque
 from typing import Iterable, Iterator
 
-from view.reading.file_kinds import front, has_pcs
+from view.reading.file_kinds import first_bytes, has_pcs
 from view.model.foreign_objects import KIT
 from view.model.view import View
 from view.names.naming import Naming
-from view.reading.engine import REPORTED, Predator, Refused, with_trace
-from view.reading.trace_files import END, HEADER, SIZES, SYMBOL, pieces
+from view.reading.engine import REPORT_STATUSES, Predator, Refused, add_trace_option
+from view.reading.trace_files import END, HEADER, SIZES, SYMBOL, access_pieces
 
 # So many accesses at the end of a trace are looked at, and so many of a hart behind its last one.
-LOOK, BACK = 20_000, 200
+LAST_ACCESSES, LAST_ACCESSES_OF_HART = 20_000, 200
 # So many harts are looked for that made none of these. Each takes a pass over the trace, and so many accesses up to its last one are read.
-ASIDE, BEFORE = 4, 2000
+MAX_MISSING_HARTS, ACCESSES_BEFORE_LAST = 4, 2000
 # Functions of the kit that a thread ends in.
-ENDS = ("pthread_exit", "predator_exit")
+END_FUNCTIONS = ("pthread_exit", "predator_exit")
 
 
-def number(data: bytes, place: int) -> tuple[int, int]:
+def decode_number(data: bytes, place: int) -> tuple[int, int]:
     """The difference that is spelled at a place of a trace, and the place behind it."""
     found = shift = 0
     while True:
@@ -33,7 +33,7 @@ def number(data: bytes, place: int) -> tuple[int, int]:
             return (-(found >> 1) - 1 if found & 1 else found >> 1), place
 
 
-def instructions(data: bytes) -> Iterator[tuple[int, int]]:
+def decode_instructions(data: bytes) -> Iterator[tuple[int, int]]:
     """The hart and the pc of each access of a trace of version 3, as far as it goes."""
     place, pcs = HEADER, dict[int, int]()
     while place < len(data) and data[place] != END:
@@ -44,69 +44,69 @@ def instructions(data: bytes) -> Iterator[tuple[int, int]]:
             )
             continue
         hart = data[place + 1]
-        _, place = number(data, place + 2)
-        by, place = number(data, place)
+        _, place = decode_number(data, place + 2)
+        by, place = decode_number(data, place)
         pcs[hart] = (pcs.get(hart, 0) + by) % 2**32
         yield hart, pcs[hart]
 
 
-def last_ones(trace: str) -> dict[int, int]:
+def last_positions(trace: str) -> dict[int, int]:
     """The position of each hart's last access in a trace of version 1."""
     found: dict[int, int] = {}
     with open(trace, "rb") as file, mmap.mmap(file.fileno(), 0, access=mmap.ACCESS_READ) as data:
         at = 0
-        for _, piece in pieces(data):
+        for _, piece in access_pieces(data):
             harts = piece[1::8]
             found.update((hart, at + harts.rfind(hart)) for hart in set(harts))
             at += len(harts)
     return found
 
 
-class Ends:
+class LastInstructions:
     """The pcs of each hart's last accesses in a trace that has them, the newest first."""
 
     def __init__(self, predator: Predator, trace: str, accesses: int, folder: str) -> None:
         self.predator, self.trace, self.folder = predator, trace, folder
-        self.found: dict[int, list[int]] = {}
-        for hart, pcs in self.behind(max(accesses - LOOK, 0), accesses).items():
-            self.found[hart] = pcs
+        self.pcs_by_hart: dict[int, list[int]] = {}
+        for hart, pcs in self.read_after(max(accesses - LAST_ACCESSES, 0), accesses).items():
+            self.pcs_by_hart[hart] = pcs
 
-    def behind(self, at: int, most: int) -> dict[int, list[int]]:
+    def read_after(self, at: int, most: int) -> dict[int, list[int]]:
         """The same of the accesses from a position on, at most so many."""
         parts = [os.path.join(self.folder, it) for it in ("before", "behind")]
-        self.predator.told(["split", "--", self.trace, str(at), *parts])
+        self.predator.quiet_output(["split", "--", self.trace, str(at), *parts])
         os.unlink(parts[0])
         with open(parts[1], "rb") as file:
-            data = file.read(64 * (most + 4096)) if most < LOOK else file.read()
+            data = file.read(64 * (most + 4096)) if most < LAST_ACCESSES else file.read()
         os.unlink(parts[1])
         kept: dict[int, deque[int]] = {}
-        for count, (hart, pc) in enumerate(instructions(data)):
+        for count, (hart, pc) in enumerate(decode_instructions(data)):
             if count == most:
                 break
-            kept.setdefault(hart, deque(maxlen=BACK)).appendleft(pc)
+            kept.setdefault(hart, deque(maxlen=LAST_ACCESSES_OF_HART)).appendleft(pc)
         return {hart: list(own) for hart, own in kept.items()}
 
-    def look_for(self, places: dict[int, int]) -> None:
+    def find_missing(self, places: dict[int, int]) -> None:
         """Looks for harts whose last accesses are farther back, at their places."""
         missing = sorted(
-            (it for it in places if it not in self.found), key=lambda place: -places[place]
+            (it for it in places if it not in self.pcs_by_hart), key=lambda place: -places[place]
         )
-        for hart in missing[:ASIDE]:
-            first = max(places[hart] - BEFORE, 0)
-            self.found[hart] = self.behind(first, places[hart] - first + 1)[hart]
+        for hart in missing[:MAX_MISSING_HARTS]:
+            first = max(places[hart] - ACCESSES_BEFORE_LAST, 0)
+            self.pcs_by_hart[hart] = self.read_after(first, places[hart] - first + 1)[hart]
 
 
-def traced(view: View, predator: Predator, folder: str) -> str | None:
+def trace_with_pcs(view: View, predator: Predator, folder: str) -> str | None:
     """A trace of the run that has the instructions, or none."""
-    trace = view.call.trace()
+    trace = view.call.trace_file()
     if trace and has_pcs(trace):
         return trace
-    if view.call.how != "run":
+    if view.call.action != "run":
         return None
     out = os.path.join(folder, "trace")
-    words = [*view.call.words_to_run(), *view.call.own]
-    words = with_trace([words[0], "--pcs", "--output", os.devnull, *words[1:]], out)
-    predator.text(words, REPORTED, stderr=subprocess.DEVNULL)
+    words = [*view.call.rerun_words(), *view.call.guest_words]
+    words = add_trace_option([words[0], "--pcs", "--output", os.devnull, *words[1:]], out)
+    predator.output(words, REPORT_STATUSES, stderr=subprocess.DEVNULL)
     return out
 
 
@@ -116,58 +116,58 @@ def note_waiting(view: View, predator: Predator | None) -> None:
     if (
         predator is None
         or not naming.sources
-        or view.call.reads_once()
-        or not predator.has("blame")
+        or view.call.reads_trace_once()
+        or not predator.has_command("blame")
     ):
         return
     try:
         with tempfile.TemporaryDirectory(prefix="predator-view-") as folder:
-            trace = traced(view, predator, folder)
+            trace = trace_with_pcs(view, predator, folder)
             if trace is None:
                 return
-            ends = Ends(predator, trace, view.report.accesses, folder)
-            whole = view.call.trace()
-            if whole and front(whole)[:8] == b"PRDTRC01":
-                ends.look_for(last_ones(whole))
+            ends = LastInstructions(predator, trace, view.report.accesses, folder)
+            whole = view.call.trace_file()
+            if whole and first_bytes(whole)[:8] == b"PRDTRC01":
+                ends.find_missing(last_positions(whole))
     except (Refused, OSError, ValueError, KeyError, IndexError):
         return
-    naming.prepare({pc for own in ends.found.values() for pc in own})
-    rows = list(told(ends.found, naming))
+    naming.find_lines({pc for own in ends.pcs_by_hart.values() for pc in own})
+    rows = list(describe_harts(ends.pcs_by_hart, naming))
     if rows:
         view.notes.append(
             f"{'waiting' if view.report.outcome == 'deadlock' else 'running'} at the end: {'; '.join(rows)}"
         )
 
 
-def told(found: dict[int, list[int]], naming: Naming) -> Iterator[str]:
+def describe_harts(found: dict[int, list[int]], naming: Naming) -> Iterator[str]:
     """Where harts were, those that were at one place together."""
     places: dict[str, list[int]] = {}
     for hart, pcs in sorted(found.items()):
-        place = place_of(pcs, naming)
+        place = hart_place(pcs, naming)
         if place:
             places.setdefault(place, []).append(hart)
     for place, harts in places.items():
-        yield f"{named(harts)} at {place}"
+        yield f"{name_harts(harts)} at {place}"
 
 
-def named(harts: Iterable[int]) -> str:
+def name_harts(harts: Iterable[int]) -> str:
     names = [str(it) for it in harts]
     return (
         f"hart {names[0]}" if len(names) == 1 else f"harts {', '.join(names[:-1])} and {names[-1]}"
     )
 
 
-def place_of(pcs: list[int], naming: Naming) -> str:
+def hart_place(pcs: list[int], naming: Naming) -> str:
     """Where a hart was: at its last access, and where that is in the kit at the last one of the program's own before it. Of one that has
     ended, nothing."""
     if not pcs or naming.sources is None:
         return ""
     frames = naming.sources.frames(pcs[0])
-    if any(it.function in ENDS for it in frames):
+    if any(it.function in END_FUNCTIONS for it in frames):
         return ""
     own = next((it for it in pcs if is_own(it, naming)), None)
-    here = naming.instruction(pcs[0])
-    return here if own is None or own == pcs[0] else f"{here}, after {naming.instruction(own)}"
+    here = naming.instruction_name(pcs[0])
+    return here if own is None or own == pcs[0] else f"{here}, after {naming.instruction_name(own)}"
 
 
 def is_own(pc: int, naming: Naming) -> bool:

@@ -6,7 +6,7 @@ from typing import Iterable, NamedTuple, Sequence
 
 from view.repairs import advice
 from view.model.view import View
-from view.model.objects import Thing, Told
+from view.model.objects import DataObject, WordUse
 
 # So many groups of words are named, so many fields of a group, and so many neighbours.
 GROUPS, FIELDS, BESIDE = 3, 3, 3
@@ -21,7 +21,7 @@ class Owner(NamedTuple):
     names: str
 
 
-def joined(names: Sequence[str]) -> str:
+def join_names(names: Sequence[str]) -> str:
     """The names of threads as one: `harts 1 and 2`."""
     parts = [it.partition(" ")[::2] for it in names]
     kinds = {kind for kind, _ in parts}
@@ -30,18 +30,18 @@ def joined(names: Sequence[str]) -> str:
     return f"{kinds.pop()}s {advice.all_of([number for _, number in parts])}"
 
 
-def owner_of(view: View, thing: Thing, word: Told) -> Owner:
+def owner_of(view: View, thing: DataObject, word: WordUse) -> Owner:
     """The threads that use a word: while threads run where the trace was read, and else in the whole run."""
-    tried = (view.tried or {}).get(thing.key)
+    tried = (view.trials or {}).get(thing.key)
     if tried is not None and tried.uses is not None and word.key == thing.key:
-        from view.repairs.subjects import whose
+        from view.repairs.subjects import sharing_of
 
-        found = whose(tried.uses, word.addr, 4)
+        found = sharing_of(tried.uses, word.addr, 4)
         names = [view.naming.memory.owner(it) for it in sorted(found.harts)]
         if found.kind == "own":
             return Owner("own", names[0])
         if found.kind == "shared":
-            return Owner("shared", joined(names) if len(names) <= BESIDE else MANY)
+            return Owner("shared", join_names(names) if len(names) <= BESIDE else MANY)
         if found.kind == "read":
             return Owner("read", "")
     if word.hart != "many":
@@ -51,22 +51,24 @@ def owner_of(view: View, thing: Thing, word: Told) -> Owner:
     return Owner("used", MANY if advice.is_shared(word) else ONE)
 
 
-def grouped(view: View, thing: Thing, words: Iterable[Told]) -> dict[Owner, list[Told]]:
+def group_by_owner(
+    view: View, thing: DataObject, words: Iterable[WordUse]
+) -> dict[Owner, list[WordUse]]:
     """Words by their threads, in the order of their addresses."""
-    found: dict[Owner, list[Told]] = {}
+    found: dict[Owner, list[WordUse]] = {}
     for word in sorted(words, key=lambda word: word.addr):
         found.setdefault(owner_of(view, thing, word), []).append(word)
     return found
 
 
-def field_in(thing: Thing, word: Told) -> str:
+def field_in(thing: DataObject, word: WordUse) -> str:
     """A word's field without the object's name, which the row has: `+4`, `[2].high`."""
-    name = word.whole()
+    name = word.field_name()
     rest = name.removeprefix(thing.name)
     return (rest if rest != name else name) or "+0"
 
 
-def accesses(word: Told) -> str:
+def accesses(word: WordUse) -> str:
     """How often a word is written and read."""
     parts = [
         f"{count:,} {what}{'' if count == 1 else 's'}"
@@ -76,7 +78,7 @@ def accesses(word: Told) -> str:
     return f" ({', '.join(parts)})" if parts else ""
 
 
-def own_elements(thing: Thing, groups: Iterable[Sequence[Told]]) -> list[str]:
+def own_elements(thing: DataObject, groups: Iterable[Sequence[WordUse]]) -> list[str]:
     """For each group the element of an array that all its words lie in, where no word of another group does; else nothing."""
     found = []
     for own in groups:
@@ -86,7 +88,7 @@ def own_elements(thing: Thing, groups: Iterable[Sequence[Told]]) -> list[str]:
     return [next(iter(own)) if len(own) == 1 and times[min(own)] == 1 else "" for own in found]
 
 
-def names_of(thing: Thing, words: Sequence[Told], element: str, worst: Told) -> str:
+def names_of(thing: DataObject, words: Sequence[WordUse], element: str, worst: WordUse) -> str:
     """The fields of a group, the most written word with its numbers."""
     numbers = accesses(worst) if any(it is worst for it in words) else ""
     if element:
@@ -111,19 +113,19 @@ def group_text(owner: Owner, names: str) -> str:
     return f"{does} by {owner.names}: {names}"
 
 
-def who(view: View, thing: Thing) -> str:
+def describe_owners(view: View, thing: DataObject) -> str:
     """Which threads use which words of an object's worst line, and its neighbours there; or nothing."""
-    seen = view.seen(thing)
-    base = thing.worst().base
+    seen = view.details(thing)
+    base = thing.worst_line().base
     own = [it for it in seen.words if it.key == thing.key and it.base == base]
     return "; ".join(filter(None, (own_words(view, thing, own), neighbours(view, thing))))
 
 
-def own_words(view: View, thing: Thing, own: Sequence[Told]) -> str:
+def own_words(view: View, thing: DataObject, own: Sequence[WordUse]) -> str:
     """The threads of an object's own words on a line."""
     if not own:
         return ""
-    groups, worst = grouped(view, thing, own), max(own, key=lambda word: word.writes)
+    groups, worst = group_by_owner(view, thing, own), max(own, key=lambda word: word.writes)
     elements = dict(zip(groups, own_elements(thing, groups.values())))
     # (the group of the most written word is always named)
     first = sorted(groups, key=lambda owner: not any(one is worst for one in groups[owner]))
@@ -138,11 +140,11 @@ def own_words(view: View, thing: Thing, own: Sequence[Told]) -> str:
     return f"each thread {does} its own {what}: {text}"
 
 
-def neighbours(view: View, thing: Thing) -> str:
+def neighbours(view: View, thing: DataObject) -> str:
     """The objects that share a line with another one, or nothing."""
-    names = [view.label(view.all[it]) for it in thing.beside]
+    names = [view.label(view.objects_by_key[it]) for it in thing.neighbours]
     if not names:
         return ""
     more = len(names) - BESIDE
     listed = advice.all_of(names) if more < 1 else f"{', '.join(names[:BESIDE])} and {more} more"
-    return f"on the same line{'' if len(thing.spots) == 1 else 's'}: {listed}"
+    return f"on the same line{'' if len(thing.lines) == 1 else 's'}: {listed}"

@@ -10,7 +10,7 @@ from typing import Iterable, Iterator, NamedTuple, Sequence
 from view.names import cpp_classes
 from view.names.cpp_assertions import Assertion, Assertions
 from view.names.function_ranges import Functions, Range
-from view.names.x86_image import LEA, Image, conditional, jumped, numbers
+from view.names.x86_image import LEA, Image, conditional_jumps, find_jumps, find_numbers
 
 # The strength of what a function refers to, the strongest first. An assertion of many functions, or of a header in several, is inlined.
 ASSERTION, CLASS, TEXT, COMMON, MANY = 0, 1, 2, 3, 8
@@ -37,23 +37,23 @@ class Landmark(NamedTuple):
     is_library: bool = False
 
 
-class Marks(NamedTuple):
+class Landmarks(NamedTuple):
     """What is told of an instruction: by its own function, or by those that called this, of which there may be more."""
 
-    found: tuple[Landmark, ...]
+    landmarks: tuple[Landmark, ...]
     is_called: bool = False
     more: int = 0
 
     def names_source(self) -> bool:
         """Whether it tells something of the program, and not of a library."""
-        return any(not it.is_library for it in self.found)
+        return any(not it.is_library for it in self.landmarks)
 
-    def told(self) -> str:
+    def text(self) -> str:
         more = f" and {self.more} more" if self.more else ""
-        return f"{'called ' if self.is_called else ''}{' and '.join(it.text for it in self.found)}{more}"
+        return f"{'called ' if self.is_called else ''}{' and '.join(it.text for it in self.landmarks)}{more}"
 
 
-def text_shown(text: str) -> str:
+def shorten_text(text: str) -> str:
     """A literal's first line that has letters, cut, or an empty text where it names nothing."""
     lines = (re.sub(r"^[\s:;,.\-]+|\s+$", "", it) for it in re.split(r"[\n\r\t]+", text))
     line = next(
@@ -64,11 +64,11 @@ def text_shown(text: str) -> str:
     return line if len(line) <= SHOWN else line[:SHOWN].rstrip() + CUT
 
 
-class Landmarks:
+class LandmarkFinder:
     """The landmarks of a program or a library, of which some instructions ran."""
 
     def __init__(self, path: str, ran: Iterable[int] = (), image: Image | None = None) -> None:
-        self.image, self.ran = image or Image(path), sorted(ran)
+        self.image, self.executed_pcs = image or Image(path), sorted(ran)
         self.classes, self.assertions = cpp_classes.Classes(self.image), Assertions(self.image)
         self.functions = Functions(self.image, self.classes.owners)
 
@@ -76,8 +76,8 @@ class Landmarks:
         """The addresses of texts that a part of a function refers to."""
         code = self.image.bytes(start, end - start)
         told = (
-            *jumped(code, start, LEA),
-            *(it for pattern in self.image.moves for it in numbers(code, start, pattern)),
+            *find_jumps(code, start, LEA),
+            *(it for pattern in self.image.moves for it in find_numbers(code, start, pattern)),
         )
         yield from (it for _, it in told if self.image.is_constant(it) and self.image.begins(it))
 
@@ -85,7 +85,7 @@ class Landmarks:
     def users(self) -> dict[int, set[int]]:
         """The functions that refer to what is constant, by their numbers."""
         found: dict[int, set[int]] = {}
-        for at, to in (*self.image.found(LEA), *self.image.moved):
+        for at, to in (*self.image.find_references(LEA), *self.image.number_loads):
             if self.image.is_constant(to):
                 found.setdefault(to, set()).add(self.functions.number(at))
         return found
@@ -96,7 +96,7 @@ class Landmarks:
         made: list[tuple[bool, bool, int, Assertion]] = []
         found = [it for part in parts for it in self.assertions.of(*part)]
         jumps = (
-            conditional(self.image.bytes(parts[0][0], parts[0][1] - parts[0][0]), parts[0][0])
+            conditional_jumps(self.image.bytes(parts[0][0], parts[0][1] - parts[0][0]), parts[0][0])
             if found
             else {}
         )
@@ -123,7 +123,7 @@ class Landmarks:
             return None
         is_library, is_common, _, nearest = min(made)
         return Landmark(
-            COMMON if is_common else ASSERTION, nearest.told(), self.users_of(nearest), is_library
+            COMMON if is_common else ASSERTION, nearest.text(), self.users_of(nearest), is_library
         )
 
     def users_of(self, assertion: Assertion) -> int:
@@ -134,7 +134,10 @@ class Landmarks:
         name = self.classes.of(start)
         return (
             Landmark(
-                CLASS, f"in a method of {cpp_classes.told(name)}", 1, cpp_classes.is_library(name)
+                CLASS,
+                f"in a method of {cpp_classes.short_class_name(name)}",
+                1,
+                cpp_classes.is_library(name),
             )
             if name
             else None
@@ -147,7 +150,7 @@ class Landmarks:
         found: list[tuple[int, int, str]] = []
         for at in {at for part in parts for at in self.texts_of(*part)} - asserted:
             text = self.image.text(at)
-            shown = text_shown(text.decode("latin-1")) if PRINTED.fullmatch(text) else ""
+            shown = shorten_text(text.decode("latin-1")) if PRINTED.fullmatch(text) else ""
             if shown:
                 found.append((len(self.users.get(at, ())), -len(text), shown))
         if not found:
@@ -155,7 +158,7 @@ class Landmarks:
         users, _, shown = min(found)
         return Landmark(TEXT, f'near the text "{shown}"', users)
 
-    def own(self, addr: int, function: Range) -> Landmark | None:
+    def own_landmark(self, addr: int, function: Range) -> Landmark | None:
         """The strongest that an instruction's function has, or none."""
         parts = self.functions.parts(*function)
         assertion = self.assertion_near(addr, parts)
@@ -174,8 +177,8 @@ class Landmarks:
 
     def runs(self, low: int, high: int) -> bool:
         """Whether an instruction from an address up to another one ran."""
-        at = bisect.bisect_left(self.ran, low)
-        return at < len(self.ran) and self.ran[at] < high
+        at = bisect.bisect_left(self.executed_pcs, low)
+        return at < len(self.executed_pcs) and self.executed_pcs[at] < high
 
     def callers(self, start: int) -> Iterator[tuple[int, Range | None]]:
         """The calls of a function that ran, with the functions that they are in. A jump writes nothing, so its function has to have run."""
@@ -187,7 +190,7 @@ class Landmarks:
                 if function and self.runs(*function):
                     yield at, function
 
-    def called(self, start: int) -> Marks | None:
+    def callers_landmarks(self, start: int) -> Landmarks | None:
         """What is told by the functions that called one, or none; functions between that have no landmark are passed."""
         seen, level, lost = {start}, [start], 0
         found: dict[str, tuple[int, Landmark]] = {}
@@ -202,7 +205,7 @@ class Landmarks:
                 for at, function in calls:
                     if function and function[0] not in seen:
                         seen.add(function[0])
-                        own = self.own(at, function)
+                        own = self.own_landmark(at, function)
                         if own and not own.is_library:
                             found.setdefault(own.text, (number, own))
                         else:
@@ -213,18 +216,18 @@ class Landmarks:
             key=lambda rank: (rank[0], rank[1].strength, rank[1].functions, rank[1].text),
         )
         told, count = tuple(it for _, it in best[:NAMED]), len(best) + lost + len(level)
-        return Marks(told, True, count - len(told)) if told and count <= MOST else None
+        return Landmarks(told, True, count - len(told)) if told and count <= MOST else None
 
     @functools.cache
-    def near(self, addr: int) -> Marks | None:
+    def near(self, addr: int) -> Landmarks | None:
         """What is told of an instruction, or none. (In Go texts don't end with a zero byte.)"""
         function = None if self.image.is_go else self.functions.function(addr)
-        own = self.own(addr, function) if function else None
+        own = self.own_landmark(addr, function) if function else None
         # (what ran before the recording began may have been called from elsewhere)
         has_run = self.runs(addr - CALL_SIZE + 1, addr + 1)
         called = (
-            self.called(function[0])
+            self.callers_landmarks(function[0])
             if function and has_run and (own is None or own.is_library)
             else None
         )
-        return called or (Marks((own,)) if own else None)
+        return called or (Landmarks((own,)) if own else None)

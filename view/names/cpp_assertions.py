@@ -5,8 +5,8 @@ import os
 import re
 from typing import NamedTuple
 
-from view.names.x86_image import CALL, THROUGH, Image, jumped
-from view.names.demangling import short
+from view.names.x86_image import CALL, THROUGH, Image, find_jumps
+from view.names.demangling import short_name
 
 FAILING = "__assert_fail"
 # What such a call takes is loaded in so many bytes before it.
@@ -46,17 +46,17 @@ class Assertion(NamedTuple):
     def is_header(self) -> bool:
         return bool(HEADER.search(self.file))
 
-    def told(self) -> str:
-        place = f"near an assertion at {built(self.file)}:{self.line}"
+    def text(self) -> str:
+        place = f"near an assertion at {path_in_package(self.file)}:{self.line}"
         return f"{place} in {self.function}" if self.function else place
 
 
-def built(file: str) -> str:
+def path_in_package(file: str) -> str:
     """A source from its package's folder on."""
     return BUILT.sub("", os.path.normpath(file))
 
 
-def function_named(whole: str) -> str:
+def short_function_name(whole: str) -> str:
     """A function as `__PRETTY_FUNCTION__` has it, short, with what its templates stand for."""
     given = WITH.search(whole)
     name = whole[: given.start()] if given else whole
@@ -64,7 +64,7 @@ def function_named(whole: str) -> str:
         what, _, value = argument.partition(" = ")
         if what.isidentifier():
             name = re.sub(rf"\b{what}\b", value.replace("\\", ""), name)
-    return short(name.replace(", ", ","))
+    return short_name(name.replace(", ", ","))
 
 
 class Assertions:
@@ -80,7 +80,7 @@ class Assertions:
         jumps = (
             {
                 at
-                for at, word in self.image.found(THROUGH)
+                for at, word in self.image.find_references(THROUGH)
                 if word in slots and self.image.is_jump(at)
             }
             if slots
@@ -99,7 +99,7 @@ class Assertions:
         calls = [
             at
             for form in (CALL, THROUGH)
-            for at, to in jumped(code, start, form)
+            for at, to in find_jumps(code, start, form)
             if to in self.failing
         ]
         return [
@@ -113,12 +113,14 @@ class Assertions:
         told = LOADS.search(loads)
         if told is None or not told["line"]:
             return None
-        texts = tuple(self.loaded(told, at - len(loads), it) for it in ("function", "file", "text"))
+        texts = tuple(
+            self.loaded_assertion(told, at - len(loads), it) for it in ("function", "file", "text")
+        )
         name, file = map(self.image.text, texts[:2])
         line = int.from_bytes(told["line"], "little")
         if not SOURCE.fullmatch(file) or not 0 < line < 1 << 20:
             return None
-        function = function_named(name.decode("latin-1")) if NAME.fullmatch(name) else ""
+        function = short_function_name(name.decode("latin-1")) if NAME.fullmatch(name) else ""
         return Assertion(
             at - len(loads) + told.start(),
             at,
@@ -128,7 +130,7 @@ class Assertions:
             texts,
         )
 
-    def loaded(self, told: re.Match[bytes], begin: int, what: str) -> int:
+    def loaded_assertion(self, told: re.Match[bytes], begin: int, what: str) -> int:
         """The address of a text that is loaded, or 0."""
         if told[what]:
             return begin + told.end(what) + int.from_bytes(told[what], "little", signed=True)

@@ -6,7 +6,7 @@ import re
 from typing import Iterator
 
 from view.names.x86_image import Image
-from view.names.demangling import LONG, depths, demangled, short
+from view.names.demangling import LONG, bracket_depths, demangle, short_name
 
 NAME, SHOWN = re.compile(rb"\*?[A-Za-z0-9_.$]+"), "typeinfo name for "
 # Of so many classes that have a function in common, and no base of all among them, the first by name is told.
@@ -28,7 +28,7 @@ class Classes:
 
     def __init__(self, image: Image) -> None:
         self.image = image
-        self.words = {**image.words, **image.named}
+        self.words = {**image.words, **image.symbol_words}
         # (the classes that have a function in their tables, each by its typeinfo)
         self.owners: dict[int, dict[int, None]] = {}
         for addr, to in self.words.items():
@@ -99,7 +99,7 @@ class Classes:
     def names(self) -> dict[int, str]:
         """The names of all classes, which are told by one call."""
         infos = list({it: None for own in self.owners.values() for it in own})
-        told = demangled(["_ZTS" + self.mangled(it) for it in infos])
+        told = demangle(["_ZTS" + self.mangled(it) for it in infos])
         return {
             info: name.removeprefix(SHOWN)
             for info, name in zip(infos, told)
@@ -112,9 +112,9 @@ def is_library(name: str) -> bool:
     return not re.search(r"\w", PLAIN.sub("", LIBRARY.sub("", name)))
 
 
-def arguments(name: str) -> list[str]:
+def template_arguments(name: str) -> list[str]:
     """What is in the first angle brackets of a name."""
-    deep = depths(name)
+    deep = bracket_depths(name)
     first = next((at for at, it in enumerate(name) if it == "<" and deep[at] == 0), None)
     if first is None:
         return []
@@ -128,10 +128,10 @@ def arguments(name: str) -> list[str]:
     return found
 
 
-def lambda_of(name: str) -> str:
+def lambda_function(name: str) -> str:
     """The function with the first lambda that a name has in its brackets, short, or an empty text."""
     end = name.find(LAMBDA)
-    deep = depths(name)
+    deep = bracket_depths(name)
     if end < 0 or deep[end] == 0:
         return ""
     begin = next(
@@ -139,22 +139,24 @@ def lambda_of(name: str) -> str:
         for at in range(end - 1, -1, -1)
         if deep[at] < deep[end] or deep[at] == deep[end] and name[at] == ","
     )
-    return short(name[begin + 1 : end].strip())
+    return short_name(name[begin + 1 : end].strip())
 
 
 def own_argument(name: str) -> str:
     """Of what a template is made for the first that isn't a library's, whatever of a library's it's in, or an empty text."""
-    own = next((it for it in arguments(name) if not is_library(it)), "")
+    own = next((it for it in template_arguments(name) if not is_library(it)), "")
     return own_argument(own) or own if LIBRARY.match(own) else own
 
 
-def told(name: str) -> str:
+def short_class_name(name: str) -> str:
     """A class's name as short as it still tells something: of a template that is made for a lambda or a class of the program, that too."""
-    outer = short(name.partition("<")[0]).rpartition("::")[2]
-    inner = lambda_of(name)
+    outer = short_name(name.partition("<")[0]).rpartition("::")[2]
+    inner = lambda_function(name)
     if inner:
         return f"{outer}<lambda in {inner}>"
-    own = own_argument(name) if len(name) > LONG and CUT in short(name) else ""
+    own = own_argument(name) if len(name) > LONG and CUT in short_name(name) else ""
     return (
-        f"{outer}<{short(own)}{'' if len(arguments(name)) == 1 else ',..'}>" if own else short(name)
+        f"{outer}<{short_name(own)}{'' if len(template_arguments(name)) == 1 else ',..'}>"
+        if own
+        else short_name(name)
     )

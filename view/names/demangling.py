@@ -22,7 +22,7 @@ OPERATOR = re.compile(r"operator *(?:<=>|<<=|>>=|<<|>>|<=|>=|\(\)|<|>)")
 OPENS, CLOSES = "<([{", ">)]}"
 
 
-def demangled(names: list[str]) -> list[str]:
+def demangle(names: list[str]) -> list[str]:
     """The names of some symbols, by one call of the demangler for all of them."""
     tool = shutil.which("c++filt") or shutil.which("llvm-cxxfilt")
     if not names or tool is None:
@@ -36,7 +36,7 @@ def demangled(names: list[str]) -> list[str]:
     )
 
 
-def depths(name: str) -> list[int]:
+def bracket_depths(name: str) -> list[int]:
     """How deep in brackets each letter of a name is; a bracket is as deep as what is around it. Those of `operator<` and `->` are none."""
     found: list[int] = []
     depth = 0
@@ -47,10 +47,10 @@ def depths(name: str) -> list[int]:
     return found
 
 
-def without(name: str, opening: str, kept: str, least: int = 0) -> str:
+def remove_brackets(name: str, opening: str, kept: str, least: int = 0) -> str:
     """The name with `kept` in the place of what stands in its brackets of a kind, those of at least this depth that something follows or
     precedes."""
-    deep, out, at = depths(name), "", 0
+    deep, out, at = bracket_depths(name), "", 0
     closing = CLOSES[OPENS.index(opening)]
     while at < len(name):
         is_one = (
@@ -84,7 +84,7 @@ def without(name: str, opening: str, kept: str, least: int = 0) -> str:
     return out
 
 
-def short(name: str) -> str:
+def short_name(name: str) -> str:
     """A name without what a reader of the screen doesn't need: parameters, return types, packages' paths and, where it is long, what is in
     angle brackets."""
     if "::" not in name and "(" not in name and "/" not in name:
@@ -96,51 +96,51 @@ def short(name: str) -> str:
     )
     if len(name) > LONG:
         name = SHAPES.sub("[...]", name)
-    name = without(re.sub(r"\) const\b", ")", name), "(", "")
+    name = remove_brackets(re.sub(r"\) const\b", ")", name), "(", "")
     if (
         "operator" not in name
         and not re.search(r"(?:^|\W)\w+ for ", name)
         and not name.startswith("<")
     ):
-        deep = depths(name)
+        deep = bracket_depths(name)
         name = name[
             max((at + 1 for at, it in enumerate(name) if it == " " and deep[at] == 0), default=0) :
         ]
     for least in (1, 0):
         if len(name) > LONG:
-            name = without(name, "<", "<..>", least)
+            name = remove_brackets(name, "<", "<..>", least)
     return name
 
 
-class Names:
+class SymbolNames:
     """The names that are known: each symbol's whole one, and each whole one's short one."""
 
     def __init__(self) -> None:
         self.whole: dict[str, str] = {}
         self.shorts: dict[str, str] = {}
 
-    def learn(self, text: str) -> None:
+    def learn_symbols(self, text: str) -> None:
         """Has all symbols in a text demangled at once."""
         new = sorted({it for it in MANGLED.findall(text) if it not in self.whole})
-        self.whole.update(zip(new, demangled(new)))
+        self.whole.update(zip(new, demangle(new)))
 
-    def note(self, name: str) -> str:
+    def remember(self, name: str) -> str:
         """Takes along a whole name, to show it short."""
         if name not in self.shorts:
-            self.shorts[name] = short(name)
+            self.shorts[name] = short_name(name)
         return name
 
-    def readable(self, name: str) -> str:
+    def readable_name(self, name: str) -> str:
         """A symbol's name as its source has it."""
         if name[:2] in ("_Z", "_R"):
-            self.learn(name)
+            self.learn_symbols(name)
             name = self.whole.get(name, name)
         elif "/" in name:
             name = re.sub("%([0-9a-f]{2})", lambda escape: chr(int(escape[1], 16)), name)
         # (a library's function may have the version of its interface)
-        return self.note(re.sub(r"(?<=\w)@.*", "", name))
+        return self.remember(re.sub(r"(?<=\w)@.*", "", name))
 
-    def shortened(self, text: str) -> str:
+    def shorten(self, text: str) -> str:
         """A text with each name in it short."""
         for long_name in sorted(
             (it for it, other in self.shorts.items() if it != other and it in text),
@@ -150,8 +150,10 @@ class Names:
             text = text.replace(long_name, self.shorts[long_name])
         return text
 
-    def lasting(self, name: str) -> str:
+    def lasting_name(self, name: str) -> str:
         """A symbol's name as another build has it too."""
         return (
-            self.readable(name) if re.search(r"17h[0-9a-f]{16}E|\.llvm\.\d+$|^_R", name) else name
+            self.readable_name(name)
+            if re.search(r"17h[0-9a-f]{16}E|\.llvm\.\d+$|^_R", name)
+            else name
         )

@@ -39,13 +39,13 @@ B = TypeVar("B")
 MOST, DEEPEST = 8, 30
 
 
-def value(die: Die, name: str, usual: Any = None) -> Any:
+def attribute_value(die: Die, name: str, usual: Any = None) -> Any:
     found = die.attributes.get(f"DW_AT_{name}")
     return usual if found is None else found.value
 
 
-def name_of(die: Die) -> str:
-    found = value(die, "name", b"")
+def die_name(die: Die) -> str:
+    found = attribute_value(die, "name", b"")
     return found.decode("utf-8", "replace") if isinstance(found, bytes) else ""
 
 
@@ -71,7 +71,7 @@ def qualified(die: Die) -> str:
         if die.tag in (*RECORDS, *SCOPES) or not parts:
             parts.insert(
                 0,
-                name_of(die)
+                die_name(die)
                 or ("(anonymous namespace)" if die.tag == "DW_TAG_namespace" else "(unnamed)"),
             )
         die = die.get_parent()
@@ -98,44 +98,48 @@ def type_of(die: Die) -> Die:
     )
 
 
-def bare(die: Die) -> Die:
+def bare_type(die: Die) -> Die:
     """A type without the names and qualifiers before it, and the definition of one that is only declared; none where these lead round in a
     ring."""
     for _ in range(DEEPEST):
         if die is None or die.tag not in NAMES_FOR:
-            return die if die is None or "DW_AT_declaration" not in die.attributes else defined(die)
+            return (
+                die
+                if die is None or "DW_AT_declaration" not in die.attributes
+                else definition_of(die)
+            )
         die = type_of(die)
     return None
 
 
-def defined(die: Die) -> Die:
+def definition_of(die: Die) -> Die:
     """The definition of a type that is declared here, by its program, and where it has none the declaration."""
     program = getattr(die.dwarfinfo, "program", None)
     return die if program is None else program.definition(die)
 
 
-def counts(die: Die) -> Iterator[Any]:
+def element_counts(die: Die) -> Iterator[Any]:
     """How many elements each dimension of an array has; 0 where it isn't told."""
     for child in die.iter_children():
         if child.tag == "DW_TAG_subrange_type":
-            top = value(child, "upper_bound")
-            yield value(
+            top = attribute_value(child, "upper_bound")
+            yield attribute_value(
                 child, "count", top + 1 if isinstance(top, int) and top < 2**32 - 1 else 0
             )
 
 
 def size_of(die: Die) -> int:
-    die = bare(die)
+    die = bare_type(die)
     if die is None:
         return 0
     if die.tag == "DW_TAG_array_type":
         size = size_of(type_of(die))
-        for count in counts(die):
+        for count in element_counts(die):
             size *= count if isinstance(count, int) else 0
         return size
     if die.tag in POINTERS and "DW_AT_byte_size" not in die.attributes:
         return die.cu["address_size"]
-    size = value(die, "byte_size", 0)
+    size = attribute_value(die, "byte_size", 0)
     return size if isinstance(size, int) else 0
 
 
@@ -144,12 +148,12 @@ def alignment_of(die: Die) -> int:
     found, named = 1, die
     for _ in range(DEEPEST):
         if named is not None and named.tag in NAMES_FOR:
-            found = max(found, value(named, "alignment", 1))
+            found = max(found, attribute_value(named, "alignment", 1))
             named = type_of(named)
-    die = bare(die)
+    die = bare_type(die)
     if die is None:
         return found
-    found = max(found, value(die, "alignment", 1))
+    found = max(found, attribute_value(die, "alignment", 1))
     if die.tag == "DW_TAG_array_type":
         return max(found, alignment_of(type_of(die)))
     if die.tag in RECORDS:
@@ -162,7 +166,7 @@ def alignment_of(die: Die) -> int:
             [
                 found,
                 *(
-                    max(value(field, "alignment", 1), alignment_of(type_of(field)))
+                    max(attribute_value(field, "alignment", 1), alignment_of(type_of(field)))
                     for field in fields
                     if "DW_AT_external" not in field.attributes
                 ),
@@ -178,7 +182,7 @@ def type_name(die: Die) -> str:
     if die.tag in POINTERS:
         return type_name(type_of(die)) + " *"
     if die.tag == "DW_TAG_array_type":
-        return type_name(type_of(die)) + "".join(f"[{it}]" for it in counts(die))
+        return type_name(type_of(die)) + "".join(f"[{it}]" for it in element_counts(die))
     if die.tag in NAMES_FOR and die.tag != "DW_TAG_typedef":
         return type_name(type_of(die))
     heads = {
@@ -186,42 +190,42 @@ def type_name(die: Die) -> str:
         "DW_TAG_union_type": "union ",
         "DW_TAG_enumeration_type": "enum ",
     }
-    is_c = value(die.cu.get_top_DIE(), "language", 0) in (0x01, 0x02, 0x0C, 0x1D, 0x2C)
-    return heads.get(die.tag, "") + (name_of(die) or "(unnamed)") if is_c else qualified(die)
+    is_c = attribute_value(die.cu.get_top_DIE(), "language", 0) in (0x01, 0x02, 0x0C, 0x1D, 0x2C)
+    return heads.get(die.tag, "") + (die_name(die) or "(unnamed)") if is_c else qualified(die)
 
 
-def place_in(die: Die) -> tuple[int, int | None]:
+def member_place(die: Die) -> tuple[int, int | None]:
     """Where a field lies in its record, in bits, and how many bits it has, or none where all of its type's."""
-    start = value(die, "data_member_location", 0)
+    start = attribute_value(die, "data_member_location", 0)
     start = 8 * start if isinstance(start, int) else 0
-    bits = value(die, "bit_size")
+    bits = attribute_value(die, "bit_size")
     if bits is not None:
-        at = value(die, "data_bit_offset")
+        at = attribute_value(die, "data_bit_offset")
         if at is not None:
             return at, bits
         # (version 4 counts from the upper end of the unit)
-        unit = value(die, "byte_size", size_of(type_of(die)))
-        return start + 8 * unit - value(die, "bit_offset", 0) - bits, bits
+        unit = attribute_value(die, "byte_size", size_of(type_of(die)))
+        return start + 8 * unit - attribute_value(die, "bit_offset", 0) - bits, bits
     return start, None
 
 
-def parts_of(die: Die) -> Iterator[tuple[str, int, int, Die]]:
+def record_parts(die: Die) -> Iterator[tuple[str, int, int, Die]]:
     """What a record or an array is made of, as (name, place in bits, size in bits, type); of an array a function of the range."""
     for child in die.iter_children():
         if (
             child.tag in ("DW_TAG_member", "DW_TAG_inheritance")
             and "DW_AT_external" not in child.attributes
         ):
-            start, bits = place_in(child)
-            own = name_of(child)
+            start, bits = member_place(child)
+            own = die_name(child)
             name = f".{own}" if own and child.tag == "DW_TAG_member" else ""
             yield name, start, 8 * size_of(type_of(child)) if bits is None else bits, type_of(child)
 
 
-def elements(die: Die, low: int, high: int) -> Iterator[tuple[str, int, int, Die]]:
+def array_elements(die: Die, low: int, high: int) -> Iterator[tuple[str, int, int, Die]]:
     """The elements of an array that have bits from low up to high, as parts."""
     element = type_of(die)
-    wide, dims = 8 * size_of(element), list(counts(die))
+    wide, dims = 8 * size_of(element), list(element_counts(die))
     if not wide:
         return
     total = 1
@@ -236,15 +240,15 @@ def elements(die: Die, low: int, high: int) -> Iterator[tuple[str, int, int, Die
         yield "".join(f"[{it}]" for it in [left, *indices]), at * wide, wide, element
 
 
-def paths(die: Die, low: int, high: int, depth: int = 0) -> list[str]:
+def field_paths(die: Die, low: int, high: int, depth: int = 0) -> list[str]:
     """The names of what lies in a value's bits from low up to high: fields, elements, each member of a union."""
-    die = bare(die)
+    die = bare_type(die)
     if die is None or depth > DEEPEST:
         return [""]
     if die.tag == "DW_TAG_array_type":
-        parts = elements(die, low, high)
+        parts = array_elements(die, low, high)
     elif die.tag in RECORDS:
-        parts = parts_of(die)
+        parts = record_parts(die)
     else:
         # (where an address has 8 bytes, a number of 8 bytes is accessed as a whole)
         is_whole = die.cu["address_size"] == 8 and size_of(die) == 8
@@ -252,20 +256,20 @@ def paths(die: Die, low: int, high: int, depth: int = 0) -> list[str]:
     found: list[str] = []
     for name, start, wide, of in parts:
         if start < high and low < start + wide and len(found) < MOST:
-            inner = paths(of, max(low - start, 0), min(high - start, wide), depth + 1)
+            inner = field_paths(of, max(low - start, 0), min(high - start, wide), depth + 1)
             found += [name + it for it in inner]
-    return folded(found)[:MOST] or [f"+{low // 8}"]
+    return fold_names(found)[:MOST] or [f"+{low // 8}"]
 
 
-def are_several(die: Die, low: int, high: int, depth: int = 0) -> bool:
+def has_several_fields(die: Die, low: int, high: int, depth: int = 0) -> bool:
     """Whether several fields or elements lie side by side in a value's bits from low up to high. Members of a union lie in one place."""
-    die = bare(die)
+    die = bare_type(die)
     if die is None or depth > DEEPEST or die.tag not in (*RECORDS, "DW_TAG_array_type"):
         return False
-    parts = elements(die, low, high) if die.tag == "DW_TAG_array_type" else parts_of(die)
+    parts = array_elements(die, low, high) if die.tag == "DW_TAG_array_type" else record_parts(die)
     own = [it for it in parts if it[1] < high and low < it[1] + it[2]]
     inner = [
-        are_several(of, max(low - start, 0), min(high - start, wide), depth + 1)
+        has_several_fields(of, max(low - start, 0), min(high - start, wide), depth + 1)
         for _, start, wide, of in own
     ]
     if die.tag == "DW_TAG_union_type":
@@ -273,7 +277,7 @@ def are_several(die: Die, low: int, high: int, depth: int = 0) -> bool:
     return len(own) > 1 or any(inner)
 
 
-def folded(names: list[str]) -> list[str]:
+def fold_names(names: list[str]) -> list[str]:
     """Names that differ in a last index alone become one: `[4].key`, `[5].key`, `[6].key` is `[4..6].key`."""
     parts = [found for it in names if (found := re.fullmatch(r"(.*)\[(\d+)\]([^\[]*)", it))]
     if len(names) > 1 and len(parts) == len(names) and len({(it[1], it[3]) for it in parts}) == 1:
@@ -281,7 +285,7 @@ def folded(names: list[str]) -> list[str]:
     return names
 
 
-def sound(told: Callable[[], A], usual: B) -> A | B:
+def value_or_default(told: Callable[[], A], usual: B) -> A | B:
     """What a function tells of debug information, and the usual where that is damaged: pyelftools then ends with any fault."""
     try:
         return told()
@@ -297,12 +301,15 @@ class Variable:
     def __init__(self, die: Die) -> None:
         self.dies = [*origins(die)]
         self.type = next((type_of(it) for it in self.dies if "DW_AT_type" in it.attributes), None)
-        self.name = next((name_of(it) for it in self.dies if name_of(it)), "")
+        self.name = next((die_name(it) for it in self.dies if die_name(it)), "")
 
     def alignment(self) -> int:
-        return sound(
+        return value_or_default(
             lambda: max(
-                [alignment_of(self.type), *(value(it, "alignment", 1) for it in self.dies)]
+                [
+                    alignment_of(self.type),
+                    *(attribute_value(it, "alignment", 1) for it in self.dies),
+                ]
             ),
             1,
         )
@@ -317,7 +324,7 @@ class Program:
         self.types: dict[str, list[Die]] = {}
         self.pointers: dict[str, Die] = {}
         self.definitions: dict[str, Die] = {}
-        self.own: list[tuple[int, int, str]] | None = None
+        self.thread_local_symbols: list[tuple[int, int, str]] | None = None
         try:
             with open(path, "rb") as file:
                 self.sha256 = hashlib.file_digest(file, "sha256").hexdigest()
@@ -353,13 +360,13 @@ class Program:
             ]
             return [(it["p_vaddr"], it["p_vaddr"] + it["p_memsz"]) for it in parts]
 
-        return sound(found, [])
+        return value_or_default(found, [])
 
     def thread_locals(self) -> list[tuple[int, int, str]]:
         """The place among a hart's own variables, the size and the name of each."""
-        if self.own is None:
-            self.own = self.symbols_of("STT_TLS")
-        return self.own
+        if self.thread_local_symbols is None:
+            self.thread_local_symbols = self.symbols_of("STT_TLS")
+        return self.thread_local_symbols
 
     def symbols_of(self, kind: str) -> list[tuple[int, int, str]]:
         def found() -> list[tuple[int, int, str]]:
@@ -372,9 +379,9 @@ class Program:
             ]
             return [(it["st_value"], it["st_size"], it.name) for it in symbols]
 
-        return sound(found, [])
+        return value_or_default(found, [])
 
-    def scan(self) -> None:
+    def scan_variables(self) -> None:
         """Finds the variables with an address, and types by name, once."""
         if self.scanned:
             return
@@ -395,16 +402,16 @@ class Program:
             at = self.address(die)
             if at is not None:
                 self.variables.setdefault(at, Variable(die))
-        if die.tag in ("DW_TAG_variable", "DW_TAG_formal_parameter") and name_of(die):
-            kind = bare(type_of(die))
+        if die.tag in ("DW_TAG_variable", "DW_TAG_formal_parameter") and die_name(die):
+            kind = bare_type(type_of(die))
             if kind is not None and kind.tag in POINTERS:
-                self.pointers.setdefault(name_of(die), type_of(kind))
+                self.pointers.setdefault(die_name(die), type_of(kind))
         elif (
             die.tag in (*RECORDS, "DW_TAG_typedef", "DW_TAG_base_type")
-            and name_of(die)
+            and die_name(die)
             and "DW_AT_declaration" not in die.attributes
         ):
-            self.types.setdefault(name_of(die), []).append(die)
+            self.types.setdefault(die_name(die), []).append(die)
 
     def address(self, die: Die) -> int | None:
         """Where a variable lies that has one fixed place, or none."""
@@ -419,15 +426,15 @@ class Program:
         return None
 
     def variable(self, addr: int) -> Variable | None:
-        self.scan()
+        self.scan_variables()
         return self.variables.get(addr)
 
     def type_named(self, text: str) -> Die:
         """A type by its name, with or without `struct`, qualified or not, or that to which a pointer variable of this name points."""
-        self.scan()
+        self.scan_variables()
         name = re.sub(r"^(struct|union|class|enum) +", "", text.strip())
         several = self.types.get(last_name(name), [])
-        found = chosen(several, name) or self.pointers.get(name)
+        found = choose_type(several, name) or self.pointers.get(name)
         if found is None:
             raise Fault(f"{self.path} has no type '{text}', and no pointer variable of that name")
         return found
@@ -453,18 +460,18 @@ class Program:
         if name not in self.definitions:
             places = [
                 at
-                for at, text in self.named(name_of(die))
+                for at, text in self.named(die_name(die))
                 if die.tag in text and "DW_AT_declaration" not in text
             ]
             found = (self.dwarf.get_DIE_from_refaddr(it) for it in places)
             self.definitions[name] = next((it for it in found if qualified(it) == name), die)
         return self.definitions[name]
 
-    def declared(self, variable: Variable) -> tuple[str, int] | None:
+    def declaration(self, variable: Variable) -> tuple[str, int] | None:
         """The file and line of a variable's definition, or else of its declaration, or none. (llvm-dwarfdump reads the tables of files that
         pyelftools 0.29 doesn't.)"""
         tool, line = shutil.which("llvm-dwarfdump"), next(
-            (number for die in variable.dies if (number := value(die, "decl_line"))), None
+            (number for die in variable.dies if (number := attribute_value(die, "decl_line"))), None
         )
         if tool is None or not line:
             return None
@@ -478,7 +485,7 @@ class Program:
         return None
 
 
-def chosen(several: list[Die], name: str) -> Die:
+def choose_type(several: list[Die], name: str) -> Die:
     """The type of some of one plain name that has this qualified one, or ends with it; or the first one, or none."""
     if len(several) < 2 and "::" not in name:
         return next(iter(several), None)
@@ -489,26 +496,26 @@ def chosen(several: list[Die], name: str) -> Die:
     return next(iter(exact), None)
 
 
-def words_of(die: Die, name: str, offset: int) -> str:
+def word_path(die: Die, name: str, offset: int) -> str:
     """The names of what lies in the word at an offset of a value."""
-    found = paths(die, 8 * offset, 8 * offset + 32)
+    found = field_paths(die, 8 * offset, 8 * offset + 32)
     front = os.path.commonprefix(found)
     front = front[: max(front.rfind("."), front.rfind("["), 0)]
     return name + ", ".join([found[0], *(it.removeprefix(front) for it in found[1:])])
 
 
-def at_path(die: Die, path: str) -> Die:
+def type_at_path(die: Die, path: str) -> Die:
     """The type of what a path as `.slots[2].low` names in a value, or none."""
     for name, _ in re.findall(r"\.(\w+)|\[(\d+)\]", path):
-        die = bare(die)
+        die = bare_type(die)
         if die is not None and die.tag == "DW_TAG_array_type":
             die = type_of(die)
         elif die is not None and die.tag in RECORDS:
-            die = next((of for own, _, _, of in parts_of(die) if own == f".{name}"), None)
+            die = next((of for own, _, _, of in record_parts(die) if own == f".{name}"), None)
     return die
 
 
 def element_of(die: Die) -> Die:
     """The type of an array's elements, or none where it is no array."""
-    die = bare(die)
+    die = bare_type(die)
     return type_of(die) if die is not None and die.tag == "DW_TAG_array_type" else None

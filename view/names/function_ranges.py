@@ -8,7 +8,7 @@ import re
 import struct
 from typing import Iterable, Iterator
 
-from view.names.x86_image import CALL, FAR, JUMP, LEA, NEAR, SHORT, Image, jumped
+from view.names.x86_image import CALL, FAR, JUMP, LEA, NEAR, SHORT, Image, find_jumps
 
 # Functions begin at multiples of this, unless they are made as small as can be.
 ALIGNED = 16
@@ -39,9 +39,9 @@ class Functions:
         self.image, self.known = image, known
 
     @functools.cached_property
-    def called(self) -> set[int]:
+    def called_addresses(self) -> set[int]:
         """The addresses that something is called at."""
-        return {to for _, to in self.image.found(CALL)}
+        return {to for _, to in self.image.find_references(CALL)}
 
     def is_beginning(self, addr: int) -> bool:
         """Whether a function may begin at an address that is called."""
@@ -49,7 +49,7 @@ class Functions:
 
     def outside(self, starts: list[int]) -> Iterator[int]:
         """Where jumps go that leave a function for an address that looks like a beginning."""
-        for at, to in self.image.found(JUMP):
+        for at, to in self.image.find_references(JUMP):
             if (
                 to % ALIGNED == 0
                 and bisect.bisect_right(starts, at) != bisect.bisect_right(starts, to)
@@ -65,14 +65,18 @@ class Functions:
     def starts(self) -> list[int]:
         """Where functions begin, as far as that is known or inferred."""
         image = self.image
-        sure = {*image.unwound[0], *image.exported, *self.known}
-        maybe = {it for it in self.called if self.is_beginning(it)}
-        maybe.update(to for _, to in (*image.found(LEA), *image.moved) if to % ALIGNED == 0)
+        sure = {*image.unwind_starts[0], *image.exported_functions, *self.known}
+        maybe = {it for it in self.called_addresses if self.is_beginning(it)}
+        maybe.update(
+            to for _, to in (*image.find_references(LEA), *image.number_loads) if to % ALIGNED == 0
+        )
         maybe.update(
             to for to in (() if image.is_fixed else image.words.values()) if to % ALIGNED == 0
         )
-        ends = {function[1] for start in image.unwound[0] if (function := image.function(start))}
-        ends.update(start + size for start, size in image.exported.items() if size)
+        ends = {
+            function[1] for start in image.unwind_starts[0] if (function := image.function(start))
+        }
+        ends.update(start + size for start, size in image.exported_functions.items() if size)
         maybe.update(-it // ALIGNED * -ALIGNED for it in ends)
         found = sure | self.bare(maybe)
         found |= self.bare(self.outside(sorted(found)))
@@ -89,7 +93,7 @@ class Functions:
             return told
         at = bisect.bisect_right(self.starts, addr) - 1
         start = self.starts[at] if at >= 0 else 0
-        size = self.image.exported.get(start, 0)
+        size = self.image.exported_functions.get(start, 0)
         if size or at < 0:
             return (start, start + size) if addr < start + size else None
         last = next(
@@ -99,20 +103,20 @@ class Functions:
         )
         end = min([last, *self.starts[at + 1 : at + 2]])
         return (
-            self.cut(start, end, addr)
+            self.split_range(start, end, addr)
             if end <= start + LARGEST and self.image.function(start) is None
             else None
         )
 
-    def cut(self, start: int, end: int, addr: int) -> Range:
+    def split_range(self, start: int, end: int, addr: int) -> Range:
         """What is around an instruction between two beginnings: a function that is never called may begin between these, behind what fills
         up, and nothing there jumps to it."""
-        begins = self.unreached(start, end)
+        begins = self.unreached_starts(start, end)
         at = bisect.bisect_right(begins, addr)
         return begins[at - 1] if at else start, begins[at] if at < len(begins) else end
 
     @functools.cache
-    def unreached(self, start: int, end: int) -> list[int]:
+    def unreached_starts(self, start: int, end: int) -> list[int]:
         """Where functions may begin so between two beginnings."""
         code = self.image.bytes(start, end - start)
         places = range((start // ALIGNED + 1) * ALIGNED, end, ALIGNED)
@@ -122,13 +126,13 @@ class Functions:
             if FILLED.search(code[max(place - start - FILLED_SIZE, 0) : place - start])
         ]
         reached = (
-            {to for form in (FAR, SHORT, JUMP, NEAR) for _, to in jumped(code, start, form)}
+            {to for form in (FAR, SHORT, JUMP, NEAR) for _, to in find_jumps(code, start, form)}
             if found
             else set[int]()
         )
         reached.update(
             target
-            for _, table in (jumped(code, start, LEA) if found else ())
+            for _, table in (find_jumps(code, start, LEA) if found else ())
             for target in self.branches(table, start, end)
         )
         return [it for it in found if it not in reached]
@@ -153,19 +157,19 @@ class Functions:
     @functools.cached_property
     def calls(self) -> dict[int, list[int]]:
         """From where each function is called, as far as that is known."""
-        return self.image.called(self.starts)
+        return self.image.find_calls(self.starts)
 
     @functools.cache
     def parts(self, start: int, end: int) -> list[Range]:
         """The parts of a function: what seldom runs stands apart, is jumped to and never called. It's told by the table for unwinding."""
         found = [(start, end)]
-        for _, to in jumped(self.image.bytes(start, end - start), start, FAR):
+        for _, to in find_jumps(self.image.bytes(start, end - start), start, FAR):
             part = self.image.function(to) if not start <= to < end else None
             if (
                 part
                 and part not in found
-                and part[0] not in self.called
-                and part[0] not in self.image.exported
+                and part[0] not in self.called_addresses
+                and part[0] not in self.image.exported_functions
             ):
                 found.append(part)
         return found

@@ -10,7 +10,7 @@ import struct
 from typing import Iterator, NamedTuple, Sequence
 
 from view.names.x86_image import Image
-from view.names.source_lines import Place
+from view.names.source_lines import SourceLine
 
 # How a table's header begins behind the first byte of its magic number: addresses of code go by one byte, and have eight.
 HEAD = b"\xff\xff\xff\0\0\1\x08"
@@ -46,22 +46,22 @@ VERSIONS = {
 }
 
 
-class Loaded(Image):
+class LoadedImage(Image):
     """A program as it is loaded."""
 
     @functools.cached_property
-    def relocated(self) -> dict[int, int]:
+    def relocated_words(self) -> dict[int, int]:
         """The words that the loader makes addresses of the program, where that is moved."""
         return {} if self.is_fixed else self.words
 
     def word(self, addr: int) -> int:
         return (
-            self.relocated[addr]
-            if addr in self.relocated
+            self.relocated_words[addr]
+            if addr in self.relocated_words
             else int.from_bytes(self.bytes(addr, 8), "little")
         )
 
-    def standing(self, what: bytes) -> Iterator[int]:
+    def find_bytes(self, what: bytes) -> Iterator[int]:
         """Where some bytes stand."""
         for begin, data in self.parts:
             at = data.find(what)
@@ -69,10 +69,10 @@ class Loaded(Image):
                 yield begin + at
                 at = data.find(what, at + 1)
 
-    def pointing(self, to: int) -> Iterator[int]:
+    def find_pointers(self, to: int) -> Iterator[int]:
         """The words that are an address."""
-        moved = (addr for addr, it in self.relocated.items() if it == to)
-        return self.standing(to.to_bytes(8, "little")) if self.is_fixed else moved
+        moved = (addr for addr, it in self.relocated_words.items() if it == to)
+        return self.find_bytes(to.to_bytes(8, "little")) if self.is_fixed else moved
 
 
 class Function(NamedTuple):
@@ -89,7 +89,7 @@ class Function(NamedTuple):
     at: int
 
 
-def numbers(data: bytes, at: int) -> Iterator[int]:
+def decode_numbers(data: bytes, at: int) -> Iterator[int]:
     """Numbers of seven bits a byte, the lowest first; the last byte of each is below 128."""
     value = shift = 0
     for byte in memoryview(data)[at:]:
@@ -105,7 +105,7 @@ def numbers(data: bytes, at: int) -> Iterator[int]:
 class Table:
     """The table of a program whose header is at an address. Any fault says that there is none."""
 
-    def __init__(self, image: Loaded, at: int) -> None:
+    def __init__(self, image: LoadedImage, at: int) -> None:
         self.image, self.left = image, STEPS
         self.begin, self.data = next(it for it in image.parts if it[0] <= at < it[0] + len(it[1]))
         self.version = VERSIONS[self.data[at - self.begin]]
@@ -121,7 +121,7 @@ class Table:
             raise ValueError("it is no header of a table")
         self.module = self.module_of(at)
         text = self.module[TEXT] if self.module else image.word(at + 24)
-        self.starts, self.records = self.listed(0 if self.version.number == "Q" else text)
+        self.starts, self.records = self.read_functions(0 if self.version.number == "Q" else text)
         self.check()
 
     def module_of(self, at: int) -> Sequence[int]:
@@ -135,7 +135,7 @@ class Table:
             self.functions,
             self.count + 1,
         ]
-        for place in itertools.islice(self.image.pointing(at), POINTERS):
+        for place in itertools.islice(self.image.find_pointers(at), POINTERS):
             words = [
                 self.image.word(place + 8 * number)
                 for number in range((self.version.data or TEXT) + 1)
@@ -144,7 +144,7 @@ class Table:
                 return words
         return ()
 
-    def listed(self, text: int) -> tuple[list[int], Sequence[int]]:
+    def read_functions(self, text: int) -> tuple[list[int], Sequence[int]]:
         """Where each function begins and the last one ends, and where the record of each is."""
         size = struct.calcsize(self.version.number)
         found = struct.unpack_from(
@@ -181,7 +181,7 @@ class Table:
     def steps(self, table: int) -> tuple[list[int], list[int]]:
         """A table's values, and where each ends, counted from where its function begins."""
         ends, values, end, value = list[int](), list[int](), 0, -1
-        told = numbers(self.data, self.values + table - self.begin)
+        told = decode_numbers(self.data, self.values + table - self.begin)
         for change, size in zip(told, told):
             if not size or not change and ends or not self.left:
                 break
@@ -225,12 +225,12 @@ class Table:
     def number(self, addr: int) -> int:
         return int(struct.unpack_from("<I", self.data, addr - self.begin)[0])
 
-    def place(self, own: Function, function: str, addr: int) -> Place:
+    def place(self, own: Function, function: str, addr: int) -> SourceLine:
         file, line = self.file(own, addr), self.value(own.lines, addr)
         return (
-            Place(function, file, line)
+            SourceLine(function, file, line)
             if file and line is not None and line > 0
-            else Place(function, "", 0)
+            else SourceLine(function, "", 0)
         )
 
     def index(self, own: Function, addr: int) -> int | None:
@@ -253,13 +253,13 @@ class Table:
         name, place = how.unpack(told) if any(told) else (0, -1)
         return (self.name(name), place) if place >= 0 else ("", 0)
 
-    def frames(self, addr: int) -> list[Place]:
+    def frames(self, addr: int) -> list[SourceLine]:
         """The functions inlined at an address, the innermost first. Where these aren't known it's the line alone: the name of the outer
         function isn't that of the line."""
         at = bisect.bisect_right(self.starts, addr) - 1
         if not 0 <= at < self.count:
             return []
-        own, found = self.function(at), list[Place]()
+        own, found = self.function(at), list[SourceLine]()
         inner = place = addr - own.start
         index = self.index(own, place)
         while index is not None and index >= 0:
@@ -275,10 +275,10 @@ class Table:
         return [*found, self.place(own, name, place)]
 
 
-def table_of(path: str) -> Table | None:
+def find_table(path: str) -> Table | None:
     """The table of a program, or none: the one that the runtime's record points to, or else the only one."""
-    image, found = Loaded(path), list[Table]()
-    for at in itertools.islice(image.standing(HEAD), HEADERS):
+    image, found = LoadedImage(path), list[Table]()
+    for at in itertools.islice(image.find_bytes(HEAD), HEADERS):
         with contextlib.suppress(Exception):
             found.append(Table(image, at - 1))
     whole = next((it for it in found if it.module), None)

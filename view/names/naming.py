@@ -5,17 +5,17 @@ import os
 import re
 from typing import TYPE_CHECKING, Any, Iterable, NamedTuple, Sequence, Union
 
-from view.model.object_keys import Key, OfBlocks, OfFile, OfMemory, OfPlace, OfStack, OfSymbol
-from view.names.demangling import Names, short
+from view.model.object_keys import Key, BlocksKey, FileKey, MemoryKey, PlaceKey, StackKey, SymbolKey
+from view.names.demangling import SymbolNames, short_name
 from view.reading.reports import Block, Report, Site, Symbol
-from view.names.source_lines import Place, Sources
+from view.names.source_lines import SourceLine, Sources
 
 if TYPE_CHECKING:
     # (which are read where a program is named alone: they want pyelftools)
     from view.names.fields import Program
     from view.names.native import NativeProgram
-    from view.names.cpp import Marks
-    from view.names.rust import Near
+    from view.names.cpp import Landmarks
+    from view.names.rust import NearPanics
 
 
 class WordKind(NamedTuple):
@@ -26,7 +26,7 @@ class WordKind(NamedTuple):
 
 
 # An object of a report; none is memory without one.
-Found = Union[Symbol, Block, None]
+Holder = Union[Symbol, Block, None]
 
 # Functions of allocators: a block's name begins with the call of one, or of what calls it.
 ALLOCATORS = {
@@ -45,7 +45,7 @@ ALLOCATORS = {
     *("predator_alloc", "mmap", "sbrk", "_Znwj", "_Znaj", "_Znwm", "_Znam", "operator"),
 }
 # The function of the kit that notes what each hart has for itself.
-OWN = "thread_locals"
+THREAD_LOCALS = "thread_locals"
 # Where harts begin: callers that say nothing.
 BEGINNINGS = {
     *(
@@ -70,7 +70,7 @@ BEGINNINGS = {
     ),
 }
 # The same by how their names begin: code of the C library without one, and of Rust.
-BEGUN = (
+BEGINNING_PREFIXES = (
     *("libc.so.", "ld-linux", "std::rt::lang_start"),
     *(
         "std::sys::backtrace::__rust_begin_short_backtrace",
@@ -84,7 +84,7 @@ LIBRARIES = re.compile(
     r"/include/c\+\+/|/lib/gcc/|/rustc/[0-9a-f]+/library/|(?:^|/)(?:sync|runtime/internal|internal/runtime)/atomic/[^/]*\.go$"
 )
 # The libraries of C and C++ that each program has, by how their files' names begin, and functions of Go's runtime.
-OF_LANGUAGE = (
+LANGUAGE_LIBRARIES = (
     "libc.so.",
     "ld-linux",
     "libpthread.so.",
@@ -93,9 +93,9 @@ OF_LANGUAGE = (
     "libc++.so.",
     "libgcc_s.so.",
 )
-OF_GO = re.compile(r"(?:runtime|(?:runtime/)?internal/[\w/]+)\.")
+GO_RUNTIME = re.compile(r"(?:runtime|(?:runtime/)?internal/[\w/]+)\.")
 # Sources of the C library's allocator.
-ALLOCATING = re.compile(r"(?:^|/)malloc/(?:malloc|arena)\.c$")
+ALLOCATOR_SOURCES = re.compile(r"(?:^|/)malloc/(?:malloc|arena)\.c$")
 
 
 class Memory:
@@ -103,26 +103,26 @@ class Memory:
 
     def __init__(self, stacks: tuple[int, int] | None = None, harts: int = 0) -> None:
         self.low, self.high = stacks or (0, 0)
-        self.each = (self.high - self.low) // harts if harts else 0
+        self.stack_bytes = (self.high - self.low) // harts if harts else 0
 
-    def key(self, addr: int) -> OfPlace:
-        if self.each and self.low <= addr < self.high:
-            return OfStack("stack", (self.high - 1 - addr) // self.each)
-        return OfMemory("memory", addr // 4096 * 4096)
+    def key(self, addr: int) -> PlaceKey:
+        if self.stack_bytes and self.low <= addr < self.high:
+            return StackKey("stack", (self.high - 1 - addr) // self.stack_bytes)
+        return MemoryKey("memory", addr // 4096 * 4096)
 
     def owner(self, hart: int) -> str:
         """Whose a stack is that is put together by a hart."""
         return f"hart {hart}"
 
     def top(self, hart: int) -> int:
-        return self.high - hart * self.each
+        return self.high - hart * self.stack_bytes
 
-    def below(self, addr: int) -> int:
+    def bytes_below_top(self, addr: int) -> int:
         """How far an address of a stack is below the top of that."""
-        return (self.high - 1 - addr) % self.each + 1
+        return (self.high - 1 - addr) % self.stack_bytes + 1
 
 
-def shown(addr: int) -> str:
+def address_text(addr: int) -> str:
     return f"{'-' if addr < 0 else ''}0x{abs(addr):08x}"
 
 
@@ -137,83 +137,87 @@ class Naming:
         types: Iterable[str] = (),
         memory: Memory | None = None,
     ) -> None:
-        self.where, self.program, self.sources, self.memory = (
-            report.where if report else {},
+        self.site_places, self.program, self.sources, self.memory = (
+            report.site_places if report else {},
             program,
             sources,
             memory or Memory(),
         )
-        # How many accesses the trace has: up to there lives a block that isn't freed.
-        self.accesses = report.accesses if report else 0
-        self.names = Names()
-        self.keys: dict[tuple[Site, ...], tuple[str, ...]] = {}
+        self.names = SymbolNames()
+        self.cached_sites_keys: dict[tuple[Site, ...], tuple[str, ...]] = {}
         self.types = [it.partition("=")[::2] for it in types]
 
-    def learn(self, text: str) -> None:
+    def learn_symbols(self, text: str) -> None:
         """Has the names of all symbols in a report told at once."""
-        self.names.learn(text)
+        self.names.learn_symbols(text)
 
-    def prepare(self, addresses: Iterable[int]) -> None:
+    def find_lines(self, addresses: Iterable[int]) -> None:
         """Looks lines up for many addresses at once."""
         if self.sources:
             self.sources.find(addresses)
 
-    def readable(self, name: str) -> str:
+    def readable_name(self, name: str) -> str:
         """A symbol's name as its source has it."""
-        return self.names.readable(name)
+        return self.names.readable_name(name)
 
-    def library(self, addr: int) -> str:
+    def library_place(self, addr: int) -> str:
         """Of code without a name the library that it is in and the place there, or an empty text; reports of native programs tell it."""
-        from_file = getattr(self.program, "library", None)
+        from_file = getattr(self.program, "library_place", None)
         return from_file(addr) if from_file else ""
 
-    def near(self, addr: int) -> "Near | Marks | None":
+    def landmark(self, addr: int) -> "NearPanics | Landmarks | None":
         """What is told of an instruction without a function and a line by what its function refers to, or none; reports of native programs
         tell it."""
         is_known = self.sources is not None and any(
             it.function or it.file for it in self.sources.frames(addr)
         )
-        from_file = None if is_known else getattr(self.program, "near", None)
+        from_file = None if is_known else getattr(self.program, "landmark", None)
         return from_file(addr) if from_file else None
 
-    def called(self, site: Site) -> str:
+    def function_name(self, site: Site) -> str:
         """The function of a call site, or where it has none its library."""
         if site.name != "-":
-            return self.readable(site.name)
+            return self.readable_name(site.name)
         return (
-            (self.frame(site.addr) if self.site(site) else "")
-            or self.library(site.addr)
+            (self.frame_function(site.addr) if self.site_line(site) else "")
+            or self.library_place(site.addr)
             or site.name
         )
 
     def is_beginning(self, site: Site) -> bool:
-        name = self.called(site)
-        return site.name in BEGINNINGS and name in BEGINNINGS or name.startswith(BEGUN)
+        name = self.function_name(site)
+        return site.name in BEGINNINGS and name in BEGINNINGS or name.startswith(BEGINNING_PREFIXES)
 
-    def sites_key(self, sites: tuple[Site, ...]) -> tuple[str, ...]:
+    def lasting_sites(self, sites: tuple[Site, ...]) -> tuple[str, ...]:
         """Call sites as another address of the same lines has them: a loop that was unrolled is one place."""
-        if sites not in self.keys:
-            self.keys[sites] = tuple(self.site_key(it) for it in self.in_code(sites))
-        return self.keys[sites]
+        if sites not in self.cached_sites_keys:
+            self.cached_sites_keys[sites] = tuple(
+                self.lasting_site(it) for it in self.sites_in_code(sites)
+            )
+        return self.cached_sites_keys[sites]
 
-    def site_key(self, site: Site) -> str:
+    def lasting_site(self, site: Site) -> str:
         frames = self.sources.frames(site.addr) if self.sources else []
         if any(it.file and it.line for it in frames):
             return "; ".join(f"{it.function} {it.file}:{it.line}" for it in frames)
-        return self.where.get(site.addr) or shown(site.addr)
+        return self.site_places.get(site.addr) or address_text(site.addr)
 
-    def site(self, site: Site) -> str:
+    def site_line(self, site: Site) -> str:
         """The file and line of a call site as `arena.c:78`, or an empty text; native reports bring them."""
-        if site.addr in self.where:
-            return os.path.basename(self.where[site.addr])
+        if site.addr in self.site_places:
+            return os.path.basename(self.site_places[site.addr])
         place = self.sources.place(site.addr) if self.sources else None
         return place.short() if place else ""
 
-    def function(self, site: Site) -> str:
+    def source_function(self, site: Site) -> str:
         place = self.sources.place(site.addr) if self.sources else None
-        return self.names.note(place.function) if place and place.function else self.called(site)
+        return (
+            self.names.remember(place.function)
+            if place and place.function
+            else self.function_name(site)
+        )
 
-    def own_frames(self, addr: int) -> list[Place]:
+    def own_frames(self, addr: int) -> list[SourceLine]:
         """The functions inlined at an instruction, the innermost first, from the first on that isn't of a language's own library."""
         frames = self.sources.frames(addr) if self.sources else []
         first = next(
@@ -221,24 +225,24 @@ class Naming:
         )
         return frames[first:]
 
-    def instruction(self, addr: int) -> str:
+    def instruction_name(self, addr: int) -> str:
         """An instruction's line in the source and its function, or its address."""
         sources, frames = self.sources, self.own_frames(addr)
         place = next((it for it in frames if it.file and it.line), None)
-        names = [self.readable(it.function) for it in frames if it.function]
+        names = [self.readable_name(it.function) for it in frames if it.function]
         near = sources.near(addr) if sources and place is None else None
         told = (
             place.short()
             if place
             else f"near {near.short()}"
             if near
-            else self.library(addr) or f"0x{addr:08x}"
+            else self.library_place(addr) or f"0x{addr:08x}"
         )
-        beside = self.near(addr) if not names else None
+        beside = self.landmark(addr) if not names else None
         return (
             f"{told} ({' < '.join(names[:2])})"
             if names
-            else f"{told} ({beside.told()})"
+            else f"{told} ({beside.text()})"
             if beside
             else told
         )
@@ -247,82 +251,84 @@ class Naming:
         """Whether an instruction is of a library that each program of its language has, as far as its line was looked up."""
         frames = self.sources.frames(addr) if self.sources else []
         return (
-            self.library(addr).startswith(OF_LANGUAGE)
+            self.library_place(addr).startswith(LANGUAGE_LIBRARIES)
             or bool(frames)
-            and bool(OF_GO.match(frames[-1].function))
+            and bool(GO_RUNTIME.match(frames[-1].function))
         )
 
     def is_allocator(self, addr: int) -> bool:
         """Whether an instruction is of the C library's allocator."""
         return (
-            any(ALLOCATING.search(it.file) for it in self.sources.frames(addr))
+            any(ALLOCATOR_SOURCES.search(it.file) for it in self.sources.frames(addr))
             if self.sources
             else False
         )
 
-    def frame(self, addr: int) -> str:
+    def frame_function(self, addr: int) -> str:
         """The function whose frame an instruction runs in, which isn't inlined, or an empty text."""
         frames = self.sources.frames(addr) if self.sources else []
-        return self.readable(frames[-1].function) if frames and frames[-1].function else ""
+        return self.readable_name(frames[-1].function) if frames and frames[-1].function else ""
 
-    def in_code(self, sites: Sequence[Site]) -> list[Site]:
+    def sites_in_code(self, sites: Sequence[Site]) -> list[Site]:
         """The call sites up to the first that no file has: a stack can't be followed further through code without unwinding information."""
-        is_native = hasattr(self.program, "library")
+        is_native = hasattr(self.program, "library_place")
         if not is_native:
             return list(sites)
         return list(
-            itertools.takewhile(lambda site: site.name != "-" or self.library(site.addr), sites)
+            itertools.takewhile(
+                lambda site: site.name != "-" or self.library_place(site.addr), sites
+            )
         ) or list(sites[:1])
 
-    def chain(self, sites: Sequence[Site]) -> list[Site]:
+    def own_sites(self, sites: Sequence[Site]) -> list[Site]:
         """The sites of a block from the one that wants it on: without the allocator's own, and without where harts begin."""
-        sites = self.in_code(sites)
+        sites = self.sites_in_code(sites)
         own = [it for it in sites if it.name not in ALLOCATORS] or list(sites)
         return [it for it in own if not self.is_beginning(it)] or own[:1]
 
-    def functions(self, sites: Sequence[Site]) -> list[str]:
+    def site_functions(self, sites: Sequence[Site]) -> list[str]:
         """The call sites by functions alone, which other builds of the program have too."""
-        sites = self.in_code(sites)
+        sites = self.sites_in_code(sites)
         own = [it for it in sites if it.name not in ALLOCATORS] or list(sites)
         return [
-            self.names.lasting(site.name)
+            self.names.lasting_name(site.name)
             for site in [it for it in own if it.name not in BEGINNINGS] or own[:1]
         ]
 
-    def near_sites(self, chain: Sequence[Site]) -> tuple[int, str]:
+    def landmark_of_sites(self, chain: Sequence[Site]) -> tuple[int, str]:
         """Of a block's call sites the first whose function refers to something, if need be by what calls the last one; and what that is."""
         last = len(chain) - 1
         for at, site in enumerate(chain):
-            near = None if self.site(site) or site.name != "-" else self.near(site.addr)
+            near = None if self.site_line(site) or site.name != "-" else self.landmark(site.addr)
             if near and near.names_source() and (at == last or not near.is_called):
-                return at, f" ({near.told()})"
+                return at, f" ({near.text()})"
         return 0, ""
 
-    def is_told(self, sites: Sequence[Site]) -> bool:
+    def is_identified(self, sites: Sequence[Site]) -> bool:
         """Whether a function, a line, or what stripped code refers to tells any of a block's call sites."""
-        chain = self.chain(sites) if sites else []
-        return any(it.name != "-" or self.site(it) for it in chain) or bool(
-            self.near_sites(chain)[1]
+        chain = self.own_sites(sites) if sites else []
+        return any(it.name != "-" or self.site_line(it) for it in chain) or bool(
+            self.landmark_of_sites(chain)[1]
         )
 
-    def block(self, sites: Sequence[Site]) -> str:
+    def block_name(self, sites: Sequence[Site]) -> str:
         if not sites:
             return "block without call sites"
-        if sites[0].name == OWN:
+        if sites[0].name == THREAD_LOCALS:
             return "thread-local variables"
-        chain = self.chain(sites)
-        at = self.site(chain[0])
-        near, told = self.near_sites(chain)
+        chain = self.own_sites(sites)
+        at = self.site_line(chain[0])
+        near, told = self.landmark_of_sites(chain)
         rest = [
-            self.called(site) + (told if at == near else "")
+            self.function_name(site) + (told if at == near else "")
             for at, site in enumerate(chain)
             if at > 0
         ]
-        name = self.called(chain[0])
+        name = self.function_name(chain[0])
         first = at or ("an unknown function" if name == "-" else name)
         # (a line says more with its function, unless that is named next anyway)
         first += (
-            f" ({self.function(chain[0])})"
+            f" ({self.source_function(chain[0])})"
             if at and not rest and chain[0].name != "main"
             else told
             if near == 0
@@ -332,18 +338,18 @@ class Naming:
             [first, *(rest or (["main"] if at and chain[0].name == "main" else []))]
         )
 
-    def key_name(self, key: Key, example: Found) -> str:
+    def object_name(self, key: Key, example: Holder) -> str:
         """What an object is called."""
-        if isinstance(key, OfSymbol):
-            return self.readable(key.name)
-        if isinstance(key, OfBlocks):
-            return self.block(example.sites if isinstance(example, Block) else ())
-        if isinstance(key, OfFile):
+        if isinstance(key, SymbolKey):
+            return self.readable_name(key.name)
+        if isinstance(key, BlocksKey):
+            return self.block_name(example.sites if isinstance(example, Block) else ())
+        if isinstance(key, FileKey):
             return f"memory of {os.path.basename(key.path)}"
         return (
             f"stack of {self.memory.owner(key.hart)}"
-            if isinstance(key, OfStack)
-            else f"memory at {shown(key.page)}"
+            if isinstance(key, StackKey)
+            else f"memory at {address_text(key.page)}"
         )
 
     def type_of_block(self, block: Block) -> Any:
@@ -355,37 +361,41 @@ class Naming:
 
     def names_of_site(self, block: Block) -> set[str]:
         """What a call may name the call site of a block by: its line, its function, also as the screen has it, or its address."""
-        chain = self.chain(block.sites)
+        chain = self.own_sites(block.sites)
         names = {
-            self.site(chain[0]),
-            self.function(chain[0]),
+            self.site_line(chain[0]),
+            self.source_function(chain[0]),
             chain[0].name,
-            self.called(chain[0]),
-            shown(chain[0].addr),
+            self.function_name(chain[0]),
+            address_text(chain[0].addr),
         }
-        return {*names, *map(short, names)} - {""}
+        return {*names, *map(short_name, names)} - {""}
 
-    def word(self, addr: int, thing: Found) -> tuple[str, str, str]:
+    def word_names(self, addr: int, thing: Holder) -> tuple[str, str, str]:
         """The name of a word of an object, the one of its element, and that of the field in it."""
         if thing is not None:
-            name = self.readable(thing.name) if isinstance(thing, Symbol) else ""
+            name = self.readable_name(thing.name) if isinstance(thing, Symbol) else ""
             offset = addr - thing.addr
-            return self.typed(thing, name, offset) or self.parts(None, name, offset)
+            return self.typed_names(thing, name, offset) or self.part_names(None, name, offset)
         key = self.memory.key(addr)
         below = (
-            f", {self.memory.below(addr):,} bytes below its top" if isinstance(key, OfStack) else ""
+            f", {self.memory.bytes_below_top(addr):,} bytes below its top"
+            if isinstance(key, StackKey)
+            else ""
         )
-        return shown(addr) + below, "", shown(addr)
+        return address_text(addr) + below, "", address_text(addr)
 
-    def typed(self, thing: Symbol | Block, name: str, offset: int) -> tuple[str, str, str] | None:
+    def typed_names(
+        self, thing: Symbol | Block, name: str, offset: int
+    ) -> tuple[str, str, str] | None:
         """The same of an object whose type is known, or none."""
         if self.program is None:
             return None
-        from view.names.fields import sound
+        from view.names.fields import value_or_default
 
-        return sound(lambda: self.field(thing, name, offset), None)
+        return value_or_default(lambda: self.field_names(thing, name, offset), None)
 
-    def typed_value(self, thing: Found, addr: int) -> tuple[Any, int] | None:
+    def typed_value(self, thing: Holder, addr: int) -> tuple[Any, int] | None:
         """The type of the value that a word lies in, and the word's place there, or none where that isn't known."""
         if self.program is None or thing is None:
             return None
@@ -398,59 +408,68 @@ class Naming:
             )
         from view.names.fields import size_of
 
-        element = None if thing.sites and thing.sites[0].name == OWN else self.type_of_block(thing)
+        element = (
+            None
+            if thing.sites and thing.sites[0].name == THREAD_LOCALS
+            else self.type_of_block(thing)
+        )
         return None if element is None else (element, (addr - thing.addr) % (size_of(element) or 1))
 
-    def kind(self, addr: int, thing: Found) -> WordKind:
+    def word_kind(self, addr: int, thing: Holder) -> WordKind:
         """What a word is: of a known type or not, and with several fields or elements or with one."""
         if self.program is None:
             return WordKind(False, False)
-        from view.names.fields import are_several, sound
+        from view.names.fields import has_several_fields, value_or_default
 
-        found = sound(lambda: self.typed_value(thing, addr), None)
+        found = value_or_default(lambda: self.typed_value(thing, addr), None)
         if found is None:
             return WordKind(False, False)
         die, offset = found
-        return WordKind(True, sound(lambda: are_several(die, 8 * offset, 8 * offset + 32), False))
+        return WordKind(
+            True,
+            value_or_default(lambda: has_several_fields(die, 8 * offset, 8 * offset + 32), False),
+        )
 
-    def field(self, thing: Symbol | Block, name: str, offset: int) -> tuple[str, str, str] | None:
+    def field_names(
+        self, thing: Symbol | Block, name: str, offset: int
+    ) -> tuple[str, str, str] | None:
         if self.program is None:
             return None
         if isinstance(thing, Symbol):
             variable = self.program.variable(thing.addr)
             return (
-                self.parts(variable.type, name, offset)
+                self.part_names(variable.type, name, offset)
                 if variable and variable.type is not None
                 else None
             )
-        if thing.sites and thing.sites[0].name == OWN:
+        if thing.sites and thing.sites[0].name == THREAD_LOCALS:
             own = next(
                 (it for it in self.program.thread_locals() if it[0] <= offset < it[0] + it[1]), None
             )
-            return self.parts(None, own[2], offset - own[0]) if own else None
+            return self.part_names(None, own[2], offset - own[0]) if own else None
         element = self.type_of_block(thing)
-        return None if element is None else self.element(element, "", offset, thing.size)
+        return None if element is None else self.element_names(element, "", offset, thing.size)
 
-    def parts(self, kind: Any, name: str, offset: int) -> tuple[str, str, str]:
+    def part_names(self, kind: Any, name: str, offset: int) -> tuple[str, str, str]:
         if kind is None:
             return f"{name}{offset:+d}" if offset or not name else name, "", f"{offset:+d}"
-        from view.names.fields import element_of, size_of, words_of
+        from view.names.fields import element_of, size_of, word_path
 
         of = element_of(kind)
         if of is None or not size_of(of):
-            whole = words_of(kind, name, offset)
+            whole = word_path(kind, name, offset)
             return whole, "", whole
-        whole = words_of(kind, name, offset)
+        whole = word_path(kind, name, offset)
         return (
             whole,
             f"{name}[{offset // size_of(of)}]",
-            words_of(of, "", offset % size_of(of)) or "itself",
+            word_path(of, "", offset % size_of(of)) or "itself",
         )
 
-    def element(self, kind: Any, name: str, offset: int, size: int) -> tuple[str, str, str]:
-        from view.names.fields import size_of, words_of
+    def element_names(self, kind: Any, name: str, offset: int, size: int) -> tuple[str, str, str]:
+        from view.names.fields import size_of, word_path
 
         wide = size_of(kind) or 1
-        field = words_of(kind, "", offset % wide)
+        field = word_path(kind, "", offset % wide)
         index = f"[{offset // wide}]" if size >= 2 * wide else ""
         return f"{name}{index}{field}" or "itself", index, field or "itself"

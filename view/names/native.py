@@ -10,17 +10,16 @@ import subprocess
 from typing import Iterable, Iterator, NamedTuple
 
 from view.faults import Fault
-from view.names.fields import Die, Program, Variable, chosen, last_name, sound
-from view.names.go import Table, table_of
+from view.names.fields import Die, Program, Variable, choose_type, last_name, value_or_default
+from view.names.go import Table, find_table
 from view.names.x86_image import Image
-from view.model.object_keys import OfFile, OfMemory, OfPlace, OfStack
-from view.names.cpp import Landmarks, Marks
-from view.names.demangling import demangled
+from view.model.object_keys import FileKey, MemoryKey, PlaceKey, StackKey
+from view.names.cpp import LandmarkFinder, Landmarks
+from view.names.demangling import demangle
 from view.names.naming import Memory
-from view.names.rust import Near, Panics
-from view.reading.reports import Block, Report, Symbol, bytes_of
-from view.reading.reports import Site as CallSite
-from view.names.source_lines import NEAR, Place, Sources, places
+from view.names.rust import NearPanics, Panics
+from view.reading.reports import Report
+from view.names.source_lines import MAX_INSTRUCTIONS_BACK, SourceLine, Sources, parse_frames
 
 from elftools.elf.elffile import ELFFile
 from elftools.elf.sections import SymbolTableSection
@@ -43,35 +42,28 @@ class Site(NamedTuple):
     line: str
 
 
-def spelled(name: str) -> str:
-    """A name of a report without the version of its library."""
-    return bytes_of(name).decode("utf-8", "surrogateescape").partition("@")[0]
-
-
-def known(word: str) -> str:
+def known_word(word: str) -> str:
     return "" if word == "-" else word
 
 
-class Back:
+class AddressMap:
     """A table back."""
 
     def __init__(self, path: str) -> None:
         self.path, self.program = path, ""
         # Where pages of the trace and instructions, each by its number, were.
         self.pages: dict[int, int] = {}
-        self.code: dict[int, int] = {}
+        self.native_pcs: dict[int, int] = {}
         self.maps: list[tuple[int, str]] = []
         # Where stacks and mapped files were, each from and to an address, and whose or which it was.
         self.stacks: list[tuple[int, int, int]] = []
-        self.mapped: list[tuple[int, int, str]] = []
+        self.mapped_files: list[tuple[int, int, str]] = []
         self.sites: dict[int, list[Site]] = {}
         self.frames: dict[int, list[Site]] = {}
-        # How many accesses the trace has, and why it ends; none where the recorder was killed.
-        self.end: tuple[int, str] | None = None
         try:
             with open(path, encoding="utf-8", errors="surrogateescape") as file:
                 for row in file:
-                    self.put(row.rstrip("\n"))
+                    self.add_row(row.rstrip("\n"))
         except OSError as error:
             raise Fault(f"{path}: {error.strerror}") from error
         except (ValueError, IndexError, AttributeError) as error:
@@ -81,7 +73,7 @@ class Back:
         if not self.program:
             raise Fault(f"{path} isn't an address map: its first line names no program")
 
-    def put(self, row: str) -> None:
+    def add_row(self, row: str) -> None:
         kind, _, rest = row.partition(" ")
         if kind == "program":
             self.program = os.path.normpath(rest)
@@ -93,37 +85,34 @@ class Back:
             self.stacks.append((int(low, 16), int(high, 16), int(thread)))
         elif kind == "file":
             low, high, name = rest.split(" ", 2)
-            self.mapped.append((int(low, 16), int(high, 16), name))
+            self.mapped_files.append((int(low, 16), int(high, 16), name))
         elif kind == "site":
             addr, was, function, line = SITE.fullmatch(rest).groups()  # type: ignore[union-attr]
-            self.sites[int(addr, 16)] = [Site(known(function), known(line))]
-            self.code[int(addr, 16)] = int(was, 16)
+            self.sites[int(addr, 16)] = [Site(known_word(function), known_word(line))]
+            self.native_pcs[int(addr, 16)] = int(was, 16)
         elif kind == "frame":
             addr, line, function = FRAME.fullmatch(rest).groups()  # type: ignore[union-attr]
-            self.frames.setdefault(int(addr, 16), []).append(Site(known(function), known(line)))
-        elif kind == "end":
-            count, word = rest.split(" ")
-            self.end = None if word == "none" else (int(count), word)
+            self.frames.setdefault(int(addr, 16), []).append(
+                Site(known_word(function), known_word(line))
+            )
         elif kind:
             self.pages[int(kind, 16)] = int(rest, 16)
 
-    def was(self, addr: int) -> int | None:
+    def native_address(self, addr: int) -> int | None:
         """What an address of the trace was in the program, or none."""
         page = self.pages.get(addr // PAGE * PAGE)
-        return self.code.get(addr) if page is None else page + addr % PAGE
+        return self.native_pcs.get(addr) if page is None else page + addr % PAGE
 
 
-class File:
+class NativeFile:
     """The program or a library, with its debug information, which may stand in a file of its own."""
 
     def __init__(self, bias: int, path: str) -> None:
         self.bias, self.path, self.debug = bias, path, path
-        self.owner: Program | None = None
-        self.found: dict[int, NativeVariable | None] = {}
+        self.cached_program: Program | None = None
+        self.variables: dict[int, NativeVariable | None] = {}
         self.ranges: list[tuple[int, int]] = []
         self.names: dict[int, str] = {}
-        # Where the file has data of a name, each place with its size.
-        self.extents: dict[str, list[tuple[int, int]]] = {}
         self.is_stripped = False
         with contextlib.suppress(Exception), open(path, "rb") as file:
             elf = ELFFile(file)
@@ -146,9 +135,7 @@ class File:
                 for symbol in table.iter_symbols()
                 if symbol["st_info"]["type"] == "STT_OBJECT"
             ):
-                name = symbol.name.partition("@")[0]
-                self.names.setdefault(symbol["st_value"], name)
-                self.extents.setdefault(name, []).append((symbol["st_value"], symbol["st_size"]))
+                self.names.setdefault(symbol["st_value"], symbol.name.partition("@")[0])
 
     def debug_of(self, elf: ELFFile) -> str:
         note = elf.get_section_by_name(".note.gnu.build-id")
@@ -162,25 +149,25 @@ class File:
         return any(low <= addr - self.bias < low + size for low, size in self.ranges)
 
     def program(self) -> Program:
-        self.owner = self.owner or Program(self.debug)
-        return self.owner
+        self.cached_program = self.cached_program or Program(self.debug)
+        return self.cached_program
 
     def variable(self, addr: int) -> "NativeVariable | None":
         """The variable at an address of the file."""
-        if addr not in self.found:
-            self.found[addr] = None
+        if addr not in self.variables:
+            self.variables[addr] = None
             name = self.names.get(addr, "")
-            plain = last_name(demangled([name])[0]) if name[:2] in ("_Z", "_R") else ""
+            plain = last_name(demangle([name])[0]) if name[:2] in ("_Z", "_R") else ""
             with contextlib.suppress(Exception):
-                self.found[addr] = next(
+                self.variables[addr] = next(
                     (
                         variable
-                        for variable in self.defined(name, plain)
+                        for variable in self.defined_variables(name, plain)
                         if self.program().address(variable.dies[0]) == addr
                     ),
                     None,
                 )
-        return self.found[addr]
+        return self.variables[addr]
 
     def type_named(self, text: str) -> Die:
         """A type that is defined in this file, by its name, or none."""
@@ -189,9 +176,9 @@ class File:
             for at, own in self.program().named(last_name(text))
             if "_type\n" in own and "DW_AT_declaration" not in own
         ]
-        return chosen([self.program().dwarf.get_DIE_from_refaddr(it) for it in places], text)
+        return choose_type([self.program().dwarf.get_DIE_from_refaddr(it) for it in places], text)
 
-    def defined(self, *names: str) -> Iterator["NativeVariable"]:
+    def defined_variables(self, *names: str) -> Iterator["NativeVariable"]:
         """The variables of some names that have a place."""
         for offset, text in self.program().named(*names):
             if "DW_TAG_variable" in text and "DW_AT_location" in text:
@@ -201,7 +188,7 @@ class File:
 class NativeVariable(Variable):
     """A variable, and the file that it is of."""
 
-    def __init__(self, die: Die, file: File) -> None:
+    def __init__(self, die: Die, file: NativeFile) -> None:
         super().__init__(die)
         self.file = file
 
@@ -209,11 +196,11 @@ class NativeVariable(Variable):
 class NativeProgram:
     """The program and its libraries, asked as fields.Program is, with addresses of the trace."""
 
-    def __init__(self, back: Back) -> None:
-        self.back, self.files = back, [File(*it) for it in back.maps]
+    def __init__(self, back: AddressMap) -> None:
+        self.map, self.files = back, [NativeFile(*it) for it in back.maps]
         self.panics: dict[str, Panics | None] = {}
         self.go_tables: dict[str, Table | None] = {}
-        self.landmarks: dict[str, Landmarks | None] = {}
+        self.landmarks: dict[str, LandmarkFinder | None] = {}
         self.path = back.program
         own = next(
             (it for it in self.files if os.path.realpath(it.path) == os.path.realpath(self.path)),
@@ -222,9 +209,9 @@ class NativeProgram:
         self.main, self.own = own.program() if own else Program(self.path), own
         self.dwarf, self.sha256 = self.main.dwarf, self.main.sha256
 
-    def file(self, addr: int) -> tuple[File, int] | None:
+    def file(self, addr: int) -> tuple[NativeFile, int] | None:
         """The file that an address was in, and the address there, or none."""
-        was = self.back.was(addr)
+        was = self.map.native_address(addr)
         if was is None:
             return None
         own = next((it for it in self.files if it.has(was)), None)
@@ -241,32 +228,34 @@ class NativeProgram:
         """None: what each thread has for itself is no block here."""
         return []
 
-    def library(self, addr: int) -> str:
+    def library_place(self, addr: int) -> str:
         """The library that an address is in, and the place there; or an empty text."""
         found = self.file(addr)
         return f"{os.path.basename(found[0].path)}+{found[1]:#x}" if found else ""
 
     @functools.cached_property
-    def ran(self) -> dict[str, list[int]]:
+    def executed_pcs(self) -> dict[str, list[int]]:
         """The instructions that the table tells, by files."""
         found: dict[str, list[int]] = {}
-        for file, at in filter(None, map(self.file, self.back.sites)):
+        for file, at in filter(None, map(self.file, self.map.sites)):
             found.setdefault(file.path, []).append(at)
         return found
 
     @functools.cache
     def image_of(self, path: str) -> Image | None:
-        return sound(lambda: Image(path), None)
+        return value_or_default(lambda: Image(path), None)
 
     def panics_of(self, path: str) -> Panics | None:
         if path not in self.panics:
             image = self.image_of(path)
             self.panics[path] = (
-                sound(lambda: Panics(path, self.ran.get(path, ()), image), None) if image else None
+                value_or_default(lambda: Panics(path, self.executed_pcs.get(path, ()), image), None)
+                if image
+                else None
             )
         return self.panics[path]
 
-    def landmarks_of(self, path: str) -> Landmarks | None:
+    def landmarks_of(self, path: str) -> LandmarkFinder | None:
         """What a file's code refers to; nothing of one in Rust, where texts don't end with a zero byte."""
         if path not in self.landmarks:
             image, panics = self.image_of(path), self.panics_of(path)
@@ -274,20 +263,22 @@ class NativeProgram:
             self.landmarks[path] = (
                 None
                 if is_other
-                else sound(lambda: Landmarks(path, self.ran.get(path, ()), image), None)
+                else value_or_default(
+                    lambda: LandmarkFinder(path, self.executed_pcs.get(path, ()), image), None
+                )
             )
         return self.landmarks[path]
 
-    def near(self, addr: int) -> Near | Marks | None:
+    def landmark(self, addr: int) -> NearPanics | Landmarks | None:
         """What panics tell of an instruction, or else what its function refers to, or none."""
         found = self.file(addr)
         if found is None:
             return None
-        own: list[Panics | Landmarks | None] = [
+        own: list[Panics | LandmarkFinder | None] = [
             self.panics_of(found[0].path),
             self.landmarks_of(found[0].path),
         ]
-        told = (sound(functools.partial(it.near, found[1]), None) for it in own if it)
+        told = (value_or_default(functools.partial(it.near, found[1]), None) for it in own if it)
         return next(filter(None, told), None)
 
     def has_panics(self) -> bool:
@@ -298,13 +289,13 @@ class NativeProgram:
     def go_table(self, path: str) -> Table | None:
         """The table of functions and lines that a program of Go has, or none."""
         if path not in self.go_tables:
-            self.go_tables[path] = sound(lambda: table_of(path), None)
+            self.go_tables[path] = value_or_default(lambda: find_table(path), None)
         return self.go_tables[path]
 
-    def go_frames(self, file: File, addr: int) -> list[Place]:
+    def go_frames(self, file: NativeFile, addr: int) -> list[SourceLine]:
         """The functions at an address of a file as a table of Go's tells them, the innermost first."""
         table = self.go_table(file.path)
-        return sound(functools.partial(table.frames, addr), []) if table else []
+        return value_or_default(functools.partial(table.frames, addr), []) if table else []
 
     def has_go_table(self) -> bool:
         """Whether the program itself has a table of Go's."""
@@ -321,61 +312,26 @@ class NativeProgram:
             return self.main.type_named(text)
         except Fault:
             for file in self.files:
-                found = sound(functools.partial(file.type_named, text), None)
+                found = value_or_default(functools.partial(file.type_named, text), None)
                 if found is not None:
                     return found
             raise
 
-    def declared(self, variable: Variable) -> tuple[str, int] | None:
+    def declaration(self, variable: Variable) -> tuple[str, int] | None:
         return (
-            variable.file.program().declared(variable)
+            variable.file.program().declaration(variable)
             if isinstance(variable, NativeVariable)
             else None
         )
 
-    def stranger(self, report: Report) -> str | None:
-        """What of a report isn't in the address map, or none."""
-        if self.back.end:
-            count, is_whole = self.back.end[0], report.outcome.startswith("exit")
-            # (a trace that was cut has fewer)
-            if count < report.accesses or is_whole and count != report.accesses:
-                return f"it is of a trace of {count:,} accesses, and the report counts {report.accesses:,}"
+    def mismatch(self, report: Report) -> str | None:
+        """What of a report isn't in the table, or none."""
         for line in report.lines[:1000]:
             if line.kind == "observed" and all(
-                self.back.was(addr) is None
+                self.map.native_address(addr) is None
                 for addr in range(max(line.base, 0), line.base + line.size, 4)
             ):
                 return f"it has no page of {line.base:#010x}"
-            found = next(filter(None, map(self.strange_object, line.objects())), None)
-            if found:
-                return found
-        return None
-
-    def strange_object(self, thing: Symbol | Block) -> str | None:
-        """What of a symbol or a block of a report isn't in the address map, or none."""
-        if isinstance(thing, Block):
-            return next(filter(None, map(self.strange_site, thing.sites)), None)
-        name, found = spelled(thing.name), self.file(thing.addr)
-        if found is None:
-            # (a file that is gone has no ranges, and a page that nothing touched isn't in the map)
-            is_there = all(it.ranges for it in self.files)
-            has_page = self.back.was(thing.addr) is not None
-            return f"it has no file with {thing.name}" if is_there and has_page else None
-        own, at = found
-        # (a symbol may be longer than a region of the trace, and begin in one before)
-        lies = any(low <= at < low + max(size, 1) for low, size in own.extents.get(name, ()))
-        if lies or not own.extents:
-            return None
-        return f"{own.path} has no symbol {thing.name} at {at:#x}"
-
-    def strange_site(self, site: CallSite) -> str | None:
-        """What of a call site isn't in the address map, or none."""
-        own = self.back.sites.get(site.addr)
-        if not own:
-            return f"it has no call site {site.addr:#010x}"
-        name = known(spelled(site.name))
-        if name and own[0].function and name != own[0].function.partition("@")[0]:
-            return f"its call site {site.addr:#010x} is in {own[0].function}, and not in {name}"
         return None
 
 
@@ -384,46 +340,52 @@ class NativeMemory(Memory):
 
     def __init__(self, native: NativeProgram) -> None:
         super().__init__()
-        self.native, self.known, self.is_go = native, dict[int, OfPlace](), native.has_go_table()
+        self.native, self.places_by_page, self.is_go = (
+            native,
+            dict[int, PlaceKey](),
+            native.has_go_table(),
+        )
         # (a stack may be another thread's later on)
         self.threads: dict[int, list[int]] = {}
         first: dict[tuple[int, int], int] = {}
-        for low, high, thread in native.back.stacks:
+        for low, high, thread in native.map.stacks:
             own = self.threads.setdefault(first.setdefault((low, high), thread), [])
             if thread not in own:
                 own.append(thread)
 
-    def key(self, addr: int) -> OfPlace:
+    def key(self, addr: int) -> PlaceKey:
         page = addr // PAGE * PAGE
-        if page not in self.known:
-            self.known[page] = self.found(page)
-        found = self.known[page]
+        if page not in self.places_by_page:
+            self.places_by_page[page] = self.find_place(page)
+        found = self.places_by_page[page]
         # (Go's allocator has what it keeps itself on the pages of what it hands out)
         return (
-            OfMemory("memory", addr // LINE * LINE)
-            if isinstance(found, OfMemory) and self.is_go
+            MemoryKey("memory", addr // LINE * LINE)
+            if isinstance(found, MemoryKey) and self.is_go
             else found
         )
 
-    def found(self, page: int) -> OfPlace:
-        back, was = self.native.back, self.native.back.was(page)
+    def find_place(self, page: int) -> PlaceKey:
+        back, was = self.native.map, self.native.map.native_address(page)
         if was is None:
-            return OfMemory("memory", page)
+            return MemoryKey("memory", page)
         stack = self.stack(was)
         if stack:
-            return OfStack("stack", stack[2])
-        path = next((name for low, high, name in reversed(back.mapped) if low <= was < high), None)
+            return StackKey("stack", stack[2])
+        path = next(
+            (name for low, high, name in reversed(back.mapped_files) if low <= was < high), None
+        )
         own = None if path else self.native.file(page)
         path = own[0].path if own else path
         # (what Go's runtime keeps lies beside the program's own variables, and nothing tells where which is)
         is_mixed = (
             own is not None and own[0].is_stripped and self.native.go_table(own[0].path) is not None
         )
-        return OfFile("file", path) if path and not is_mixed else OfMemory("memory", page)
+        return FileKey("file", path) if path and not is_mixed else MemoryKey("memory", page)
 
     def stack(self, was: int) -> tuple[int, int, int] | None:
         """The first stack that was at an address of the program, or none."""
-        return next((it for it in self.native.back.stacks if it[0] <= was < it[1]), None)
+        return next((it for it in self.native.map.stacks if it[0] <= was < it[1]), None)
 
     def owner(self, hart: int) -> str:
         threads = self.threads.get(hart, [hart])
@@ -433,8 +395,8 @@ class NativeMemory(Memory):
             else f"threads {', '.join(map(str, threads[:-1]))} and {threads[-1]}"
         )
 
-    def below(self, addr: int) -> int:
-        was = self.native.back.was(addr) or 0
+    def bytes_below_top(self, addr: int) -> int:
+        was = self.native.map.native_address(addr) or 0
         stack = self.stack(was)
         return stack[1] - was if stack else 0
 
@@ -451,7 +413,7 @@ class NativeSources(Sources):
         self.places.update({it: [] for it in wanted})
         asked = [(it, *where) for it in wanted if (where := self.native.file(it))]
         for (address, _, _), found in zip(
-            asked, self.symbolized((own, addr) for _, own, addr in asked)
+            asked, self.symbolize((own, addr) for _, own, addr in asked)
         ):
             self.places[address] = found
         for address, own, addr in asked:
@@ -461,15 +423,13 @@ class NativeSources(Sources):
         for address in wanted:
             if not has_line(self.places[address]):
                 told: list[Site] = (
-                    self.native.back.frames.get(address)
-                    or self.native.back.sites.get(address)
-                    or []
+                    self.native.map.frames.get(address) or self.native.map.sites.get(address) or []
                 )
                 self.places[address] = [
-                    place for own in told for place in told_by(own)
+                    place for own in told for place in recorded_frames(own)
                 ] or self.places[address]
 
-    def symbolized(self, addresses: Iterable[tuple[File, int]]) -> list[list[Place]]:
+    def symbolize(self, addresses: Iterable[tuple[NativeFile, int]]) -> list[list[SourceLine]]:
         """What debug information tells of addresses of files."""
         rows = "".join(f'"{own.debug}" {addr:#x}\n' for own, addr in addresses)
         words = [self.tool, "--output-style=JSON", "--inlines"]
@@ -481,20 +441,23 @@ class NativeSources(Sources):
             else None
         )
         return (
-            [places(json.loads(it)) for it in ran.stdout.decode("utf-8", "replace").splitlines()]
+            [
+                parse_frames(json.loads(it))
+                for it in ran.stdout.decode("utf-8", "replace").splitlines()
+            ]
             if ran
             else []
         )
 
-    def near(self, address: int) -> Place | None:
+    def near(self, address: int) -> SourceLine | None:
         """The same by the file's own addresses: an instruction's number says nothing of those before it."""
         function = next((it.function for it in reversed(self.frames(address))), "")
         where = self.native.file(address) if function else None
         if where is None or where[0].is_stripped:
             return None
         own, at = where
-        for frames in self.symbolized(
-            (own, it) for it in range(at - 4, max(at - 4 * NEAR, 0) - 1, -4)
+        for frames in self.symbolize(
+            (own, it) for it in range(at - 4, max(at - 4 * MAX_INSTRUCTIONS_BACK, 0) - 1, -4)
         ):
             if not frames or frames[-1].function != function:
                 return None
@@ -503,19 +466,19 @@ class NativeSources(Sources):
         return None
 
 
-def has_line(frames: Iterable[Place]) -> bool:
+def has_line(frames: Iterable[SourceLine]) -> bool:
     return any(it.file and it.line for it in frames)
 
 
-def told_by(site: Site) -> list[Place]:
+def recorded_frames(site: Site) -> list[SourceLine]:
     """What the recorder has told of a call site, as frames."""
     file, _, line = site.line.rpartition(":")
     if file and line.isdigit():
-        return [Place(site.function, file, int(line))]
-    return [Place(site.function, "", 0)] if site.function else []
+        return [SourceLine(site.function, file, int(line))]
+    return [SourceLine(site.function, "", 0)] if site.function else []
 
 
-def beside(trace: str) -> str | None:
+def find_address_map(trace: str) -> str | None:
     """The table back that stands beside a trace, or none."""
     path = f"{trace}.table"
     with contextlib.suppress(OSError), open(path, "rb") as file:

@@ -9,7 +9,7 @@ import struct
 from collections import Counter
 from typing import Iterable, NamedTuple, Sequence
 
-from view.names.x86_image import LEA, MOVE, Image, conditional, jumped, numbers
+from view.names.x86_image import LEA, MOVE, Image, conditional_jumps, find_jumps, find_numbers
 
 # So many files of a function are named.
 NAMED = 2
@@ -49,7 +49,7 @@ class Panic(NamedTuple):
         return f"{file}:{self.line}"
 
 
-class Near(NamedTuple):
+class NearPanics(NamedTuple):
     """What panics tell of an instruction: places in its function, or, where that has none, in the one file that it was called from."""
 
     places: tuple[Panic, ...]
@@ -59,12 +59,12 @@ class Near(NamedTuple):
         """Whether it tells a source of the program or of a crate, and not of the standard library."""
         return any(not it.is_library() for it in self.places)
 
-    def told(self) -> str:
+    def text(self) -> str:
         what = "a panic" if len(self.places) == 1 else "panics"
         return f"{'called ' if self.is_called else ''}near {what} at {' and '.join(it.short() for it in self.places)}"
 
 
-class Handed(NamedTuple):
+class PanicCheck(NamedTuple):
     """A place that code hands to a panic: where it is loaded, and from where that is jumped to."""
 
     at: int
@@ -79,7 +79,7 @@ class Panics:
     """The places of a program's panics, by its functions. What is no program of Rust for x86-64 has none."""
 
     def __init__(self, path: str, ran: Iterable[int] = (), image: Image | None = None) -> None:
-        self.image, self.ran = image or Image(path), frozenset(ran)
+        self.image, self.executed_pcs = image or Image(path), frozenset(ran)
         self.places = {
             addr: place for addr, to in self.image.words.items() if (place := self.place(addr, to))
         }
@@ -98,23 +98,23 @@ class Panics:
         return Panic(name.decode("utf-8", "replace"), line)
 
     @functools.cache
-    def handed(self, start: int, end: int) -> list[Handed]:
+    def panic_checks(self, start: int, end: int) -> list[PanicCheck]:
         """The places that a function hands to panics, those of the standard library only where there are no others."""
         code = self.image.bytes(start, end - start)
         told = [
-            *jumped(code, start, LEA),
-            *(numbers(code, start, MOVE) if self.image.is_fixed else ()),
+            *find_jumps(code, start, LEA),
+            *(find_numbers(code, start, MOVE) if self.image.is_fixed else ()),
         ]
         found = [(at, self.places[to]) for at, to in sorted(told) if to in self.places]
         own = [it for it in found if not it[1].is_library()] or found
-        jumps = conditional(code, start) if own else {}
+        jumps = conditional_jumps(code, start) if own else {}
         blocks, made = [start - BLOCK - 1, *sorted(jumps)], []
         for at, place in own:
             block = blocks[max(bisect.bisect_right(blocks, at) - 1, 0)]
-            made.append(Handed(at, place, jumps[block] if block >= at - BLOCK else ()))
+            made.append(PanicCheck(at, place, jumps[block] if block >= at - BLOCK else ()))
         return made
 
-    def nearest(self, addr: int, handed: Sequence[Handed], most: int) -> tuple[Panic, ...]:
+    def nearest(self, addr: int, handed: Sequence[PanicCheck], most: int) -> tuple[Panic, ...]:
         """Of the files that have most of some places the one of each whose check is nearest to an instruction."""
         counts = Counter(file for file, _ in {it.place for it in handed})
         files = sorted(counts, key=lambda file: (-counts[file], file))[:most]
@@ -129,33 +129,35 @@ class Panics:
     @functools.cached_property
     def calls(self) -> dict[int, list[int]]:
         """From where each function is called, as far as that is known."""
-        return self.image.called(self.image.unwound[0])
+        return self.image.find_calls(self.image.unwind_starts[0])
 
     def has_run(self, at: int) -> bool:
         """Whether a call has run, which writes the place to come back to; a jump, which writes nothing, may have."""
-        return at in self.ran or self.image.is_jump(at)
+        return at in self.executed_pcs or self.image.is_jump(at)
 
     def caller(self, start: int) -> Panic | None:
         """A place of the one file that a function was called from, or none where that isn't known, or there are several."""
         found: list[Panic] = []
-        calls = self.calls.get(start, ()) if self.ran else ()
+        calls = self.calls.get(start, ()) if self.executed_pcs else ()
         # (a trace without pcs tells of no call that it has run)
-        for at in filter(self.has_run, calls if any(it in self.ran for it in calls) else ()):
+        for at in filter(
+            self.has_run, calls if any(it in self.executed_pcs for it in calls) else ()
+        ):
             function = self.image.function(at)
-            own = self.nearest(at, self.handed(*function), 1) if function else ()
+            own = self.nearest(at, self.panic_checks(*function), 1) if function else ()
             if not own or own[0].is_library():
                 return None
             found += own
         return found[0] if len({it.file for it in found}) == 1 else None
 
     @functools.cache
-    def near(self, addr: int) -> Near | None:
+    def near(self, addr: int) -> NearPanics | None:
         """What panics tell of an instruction, or none."""
         function = self.image.function(addr) if self.places else None
         if function is None:
             return None
-        own = self.nearest(addr, self.handed(*function), NAMED)
+        own = self.nearest(addr, self.panic_checks(*function), NAMED)
         # (what ran before the recording began may have been called from elsewhere)
-        has_run = any(addr - it in self.ran for it in range(CALL_SIZE))
+        has_run = any(addr - it in self.executed_pcs for it in range(CALL_SIZE))
         caller = self.caller(function[0]) if has_run and (not own or own[0].is_library()) else None
-        return Near((caller,), True) if caller else Near(own) if own else None
+        return NearPanics((caller,), True) if caller else NearPanics(own) if own else None

@@ -9,11 +9,11 @@ from typing import Any, Iterable, NamedTuple, Sequence
 from view.faults import Fault
 
 # So many instructions before one without a line are looked at.
-NEAR = 16
+MAX_INSTRUCTIONS_BACK = 16
 PACKAGES = "apt-get install llvm python3-pyelftools python3-jinja2"
 
 
-class Place(NamedTuple):
+class SourceLine(NamedTuple):
     """A line of a source, and its function; the file is empty where nothing is known, the line then 0."""
 
     function: str
@@ -24,14 +24,14 @@ class Place(NamedTuple):
         return f"{os.path.basename(self.file)}:{self.line}" if self.file and self.line else ""
 
 
-def places(told: dict[str, Any]) -> list[Place]:
+def parse_frames(told: dict[str, Any]) -> list[SourceLine]:
     """The frames of an address as llvm-symbolizer tells them, the innermost first."""
     frames = [
         (frame.get("FunctionName", ""), frame.get("FileName", ""), frame.get("Line", 0))
         for frame in told.get("Symbol", [])
     ]
     return [
-        Place(function, file and os.path.normpath(file), line)
+        SourceLine(function, file and os.path.normpath(file), line)
         for function, file, line in frames
         if function or file
     ]
@@ -44,7 +44,7 @@ class Sources:
         self, program: str, folders: Iterable[str] = (), code: Sequence[tuple[int, int]] = ()
     ) -> None:
         self.program, self.code = program, code
-        self.places: dict[int, list[Place]] = {}
+        self.places: dict[int, list[SourceLine]] = {}
         self.texts: dict[str, list[str]] = {}
         self.folders = [*folders, "", os.path.dirname(os.path.abspath(program))]
         tool = shutil.which("llvm-symbolizer")
@@ -72,22 +72,26 @@ class Sources:
         )
         for row in ran.stdout.decode("utf-8", "replace").splitlines():
             told = json.loads(row)
-            self.places[int(told["Address"], 16)] = places(told)
+            self.places[int(told["Address"], 16)] = parse_frames(told)
 
-    def frames(self, address: int) -> list[Place]:
+    def frames(self, address: int) -> list[SourceLine]:
         """The functions inlined at an address, the innermost first."""
         self.find([address])
         return self.places[address]
 
-    def place(self, address: int) -> Place | None:
+    def place(self, address: int) -> SourceLine | None:
         """The innermost line of an address that is known, or none."""
         return next((it for it in self.frames(address) if it.file and it.line), None)
 
-    def near(self, address: int) -> Place | None:
+    def near(self, address: int) -> SourceLine | None:
         """Where the compiler has made one instruction of several lines and so told none: the line of the nearest one before it in its
         function."""
         function = next((it.function for it in reversed(self.frames(address))), "")
-        before = range(address - 4, max(address - 4 * NEAR, 0) - 1, -4) if function else range(0)
+        before = (
+            range(address - 4, max(address - 4 * MAX_INSTRUCTIONS_BACK, 0) - 1, -4)
+            if function
+            else range(0)
+        )
         self.find(before)
         for addr in before:
             frames = self.frames(addr)

@@ -182,7 +182,7 @@ class Image:
                 yield addr, to
         relr = self.bytes(self.tags.get(RELR, 0), self.tags.get(RELR_SIZE, 0) // 8 * 8)
         for addr in itertools.islice(
-            packed(it for (it,) in struct.iter_unpack("<Q", relr)), PACKED
+            unpack_relocations(it for (it,) in struct.iter_unpack("<Q", relr)), PACKED
         ):
             yield addr, int.from_bytes(self.bytes(addr, 8), "little")
         low, high = min((it for it, _ in self.parts), default=0), max(
@@ -223,7 +223,7 @@ class Image:
         return self.text(self.tags.get(NAMES, 0) + name).decode("latin-1"), value if part else 0
 
     @functools.cached_property
-    def named(self) -> dict[int, int]:
+    def symbol_words(self) -> dict[int, int]:
         """Each word that the loader makes a symbol's address, with that, which is 0 where the symbol is another file's."""
         rows = self.relocations(RELA, RELA_SIZE)
         found = (
@@ -243,7 +243,7 @@ class Image:
         }
 
     @functools.cached_property
-    def exported(self) -> dict[int, int]:
+    def exported_functions(self) -> dict[int, int]:
         """Where the functions begin that others may call by their names, and their sizes."""
         addr, size = self.exports
         rows = SYMBOL.iter_unpack(self.bytes(addr, size // SYMBOL.size * SYMBOL.size))
@@ -254,7 +254,7 @@ class Image:
         }
 
     @functools.cached_property
-    def unwound(self) -> tuple[list[int], list[int]]:
+    def unwind_starts(self) -> tuple[list[int], list[int]]:
         """Where functions begin and what unwinds each, by the table that is searched when a program unwinds."""
         head = self.bytes(self.table, 12)
         if head[:4] != TABLE:
@@ -265,7 +265,7 @@ class Image:
 
     def function(self, addr: int) -> tuple[int, int] | None:
         """Where the function of an instruction begins and ends, as that table has it, or none."""
-        starts, entries = self.unwound
+        starts, entries = self.unwind_starts
         at = bisect.bisect_right(starts, addr) - 1
         told = self.bytes(entries[at] + 8, 8) if at >= 0 else b""
         if not told:
@@ -277,10 +277,10 @@ class Image:
         return starts[at], starts[at] + size
 
     @functools.cache
-    def found(self, form: Form) -> list[tuple[int, int]]:
+    def find_references(self, form: Form) -> list[tuple[int, int]]:
         """Where instructions of a form stand in all code, with what they refer to; none where there is too much code."""
         is_small = sum(len(code) for _, code in self.code) <= MOST
-        return [it for begin, code in self.code if is_small for it in jumped(code, begin, form)]
+        return [it for begin, code in self.code if is_small for it in find_jumps(code, begin, form)]
 
     @functools.cached_property
     def moves(self) -> list[Pattern]:
@@ -293,7 +293,7 @@ class Image:
         )
 
     @functools.cached_property
-    def moved(self) -> list[tuple[int, int]]:
+    def number_loads(self) -> list[tuple[int, int]]:
         """Where such numbers are loaded in all code, with these."""
         is_small = sum(len(code) for _, code in self.code) <= MOST
         return [
@@ -301,25 +301,27 @@ class Image:
             for begin, code in self.code
             if is_small
             for pattern in self.moves
-            for pair in numbers(code, begin, pattern)
+            for pair in find_numbers(code, begin, pattern)
         ]
 
-    def called(self, starts: Iterable[int]) -> dict[int, list[int]]:
+    def find_calls(self, starts: Iterable[int]) -> dict[int, list[int]]:
         """From where some functions are called. One whose address is taken otherwise, and so may be called from anywhere, isn't there, as
         all of a program that isn't moved: any number may be an address there."""
         found: dict[int, list[int]] = {it: [] for it in starts if not self.is_fixed}
         words = {addr: to for addr, to in self.words.items() if to in found}
         through = set[int]()
-        for at, to in (*self.found(CALL), *self.found(JUMP)) if found else ():
+        for at, to in (*self.find_references(CALL), *self.find_references(JUMP)) if found else ():
             if to in found:
                 found[to].append(at)
-        for at, word in self.found(THROUGH) if words else ():
+        for at, word in self.find_references(THROUGH) if words else ():
             if word in words:
                 found[words[word]].append(at)
                 through.add(word)
-        taken = {to for _, to in self.found(LEA) if to in found} if found else set()
+        taken = {to for _, to in self.find_references(LEA) if to in found} if found else set()
         taken.update(
-            words[word] for _, word in (self.found(LOAD) if words else ()) if word in words
+            words[word]
+            for _, word in (self.find_references(LOAD) if words else ())
+            if word in words
         )
         taken.update(to for word, to in words.items() if word not in through)
         return {start: sorted(calls) for start, calls in found.items() if start not in taken}
@@ -329,7 +331,7 @@ class Image:
         return self.bytes(at, 1) == b"\xe9" or self.bytes(at, 2) == b"\xff\x25"
 
 
-def packed(words: Iterable[int]) -> Iterator[int]:
+def unpack_relocations(words: Iterable[int]) -> Iterator[int]:
     """The addresses of relocations that are packed: an even word is one, and an odd one has a bit for each of the 63 words that follow."""
     base = 0
     for word in words:
@@ -341,7 +343,7 @@ def packed(words: Iterable[int]) -> Iterator[int]:
             base += 8 * 63
 
 
-def jumped(code: bytes, begin: int, form: Form) -> Iterator[tuple[int, int]]:
+def find_jumps(code: bytes, begin: int, form: Form) -> Iterator[tuple[int, int]]:
     """Where what looks like an instruction of a form stands, and the address that its last bytes name from its end on."""
     start = begin - form.first
     for match in form.pattern.finditer(code):
@@ -349,14 +351,14 @@ def jumped(code: bytes, begin: int, form: Form) -> Iterator[tuple[int, int]]:
         yield at, at + form.size + int.from_bytes(match[1], "little", signed=True)
 
 
-def numbers(code: bytes, begin: int, pattern: Pattern) -> Iterator[tuple[int, int]]:
+def find_numbers(code: bytes, begin: int, pattern: Pattern) -> Iterator[tuple[int, int]]:
     """Where what looks like a `mov` of a number stands, and the number."""
     return ((begin + it.start(), int.from_bytes(it[1], "little")) for it in pattern.finditer(code))
 
 
-def conditional(code: bytes, begin: int) -> dict[int, list[int]]:
+def conditional_jumps(code: bytes, begin: int) -> dict[int, list[int]]:
     """Where jumps on a condition go, each with from where."""
     found: dict[int, list[int]] = {}
-    for at, to in (*jumped(code, begin, FAR), *jumped(code, begin, SHORT)):
+    for at, to in (*find_jumps(code, begin, FAR), *find_jumps(code, begin, SHORT)):
         found.setdefault(to, []).append(at)
     return found

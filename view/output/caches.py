@@ -10,9 +10,9 @@ from view.reading.calls import Call
 from view.output.drawings import Given, bar, templates
 from view.faults import Fault, plain
 from view.names.naming import Naming
-from view.model.objects import Spot, parties
-from view.reading.pipes import fed
-from view.reading.engine import REPORTED, Predator, copy
+from view.model.objects import ObjectLine, contending_objects
+from view.reading.pipes import open_as_pipe
+from view.reading.engine import REPORT_STATUSES, Predator, copy_pipe
 from view.reading.reports import Report
 from view.output.screen import counted
 
@@ -153,13 +153,13 @@ class Sized:
 def texts(call: Call, calls: Sequence[list[str]]) -> list[str]:
     """The program's output for the trace and each list of words, some of them side by side."""
     predator = Predator()
-    if call.reads_once():
+    if call.reads_trace_once():
         return texts_of_pipe(predator, call.subject, calls)
     with concurrent.futures.ThreadPoolExecutor(max_workers=min(4, os.cpu_count() or 1)) as pool:
         return list(
             pool.map(
-                lambda words: predator.text(
-                    [*words, "--", call.subject], REPORTED, stderr=subprocess.PIPE
+                lambda words: predator.output(
+                    [*words, "--", call.subject], REPORT_STATUSES, stderr=subprocess.PIPE
                 ),
                 calls,
             )
@@ -171,35 +171,39 @@ def texts_of_pipe(predator: Predator, path: str, calls: Sequence[list[str]]) -> 
 
     def told(words: list[str], take: int) -> str:
         with open(take, "rb", 0) as trace:
-            return predator.text([*words, "-"], REPORTED, stdin=trace, stderr=subprocess.PIPE)
+            return predator.output(
+                [*words, "-"], REPORT_STATUSES, stdin=trace, stderr=subprocess.PIPE
+            )
 
-    with fed(path) as source, concurrent.futures.ThreadPoolExecutor(max_workers=len(calls)) as pool:
+    with open_as_pipe(path) as source, concurrent.futures.ThreadPoolExecutor(
+        max_workers=len(calls)
+    ) as pool:
         asked, ends = [], []
         for words in calls:
             take, give = os.pipe()
             asked.append(pool.submit(told, words, take))
             ends.append(open(give, "wb", 0))  # noqa: SIM115 (`copy` closes it)
-        copy(os.dup(source), ends)
+        copy_pipe(os.dup(source), ends)
     return [it.result() for it in asked]
 
 
 def names_of(report: Report, bases: Sequence[int]) -> dict[int, str]:
     """The name of each of some lines: the object with most of its accesses, and how many others it holds."""
-    naming, lines = Naming(report), report.at()
+    naming, lines = Naming(report), report.observed_by_base()
     names: dict[int, str] = {}
     for base in bases:
         line = lines.get(base)
         if line:
-            shares = parties(Spot(base, line, None), line.objects(), naming)
+            shares = contending_objects(ObjectLine(base, line, None), line.objects(), naming)
             key = max(shares, key=lambda candidate: shares[candidate][1])
             beside = f" and {len(shares) - 1} more" if len(shares) > 1 else ""
-            names[base] = naming.names.shortened(naming.key_name(key, shares[key][0])) + beside
+            names[base] = naming.names.shorten(naming.object_name(key, shares[key][0])) + beside
     return names
 
 
 def found(call: Call) -> list[Sized]:
     """The counts of all shapes, by their line sizes."""
-    shapes, most = shapes_of(call), call.number("top", LINES)
+    shapes, most = shapes_of(call), call.number_option("top", LINES)
     sizes = list(dict.fromkeys(it.size for it in shapes))
     each = [
         ["replay", "--set", "tracking=1,report=1", "--size", str(size), "--shift", "0"]
@@ -221,8 +225,8 @@ def rows(sized: Sized) -> Iterator[str]:
         return
     yield ""
     wide = [
-        max(9, len(str(shape.shape)) + 1, *(len(f"{own:,}") + 1 for own in shape.total))
-        for shape in sized.shapes
+        max(9, len(str(it.shape)) + 1, *(len(f"{own:,}") + 1 for own in it.total))
+        for it in sized.shapes
     ]
 
     def row(first: object, cells: Sequence[object], rest: str) -> str:

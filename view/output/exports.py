@@ -7,13 +7,13 @@ from typing import TYPE_CHECKING, Any
 
 from view.model.rate_bands import STEP
 from view.reading.calls import TOP
-from view.model.instruction_pairs import ATOMIC, LOAD, STORE, UNKNOWN, kind_of
+from view.model.instruction_pairs import ATOMIC, LOAD, STORE, UNKNOWN, pair_kind
 from view.model.object_keys import Key
 from view.model.view import View
-from view.names.naming import shown
-from view.model.objects import Spot, Thing, Told
-from view.model.word_owners import who
-from view.model.predicted_lines import Foretold
+from view.names.naming import address_text
+from view.model.objects import ObjectLine, DataObject, WordUse
+from view.model.word_owners import describe_owners
+from view.model.predicted_lines import PredictedLine
 from view.reading.reports import Block, Site
 from view.output.screen import counted
 from view.output.json_versions import downgrade
@@ -21,7 +21,7 @@ from view.model.miss_rates import latency_of
 
 if TYPE_CHECKING:
     # (which needs pyelftools)
-    from view.repairs.trial_results import Counted
+    from view.repairs.trial_results import TrialCount
 
 # What is written, as `json` has it.
 Record = dict[str, Any]
@@ -51,7 +51,7 @@ RULES = {
 def instruction(view: View, addr: int) -> Record:
     place = view.naming.sources.place(addr) if view.naming.sources else None
     return {
-        "address": shown(addr),
+        "address": address_text(addr),
         "function": place.function if place else "",
         "file": place.file if place else "",
         "line": place.line if place else 0,
@@ -62,7 +62,7 @@ def instruction(view: View, addr: int) -> Record:
 
 def panics(view: View, addr: int) -> Record | None:
     """The places of panics that tell an instruction without debug information, or none."""
-    near = view.naming.near(addr)
+    near = view.naming.landmark(addr)
     places = getattr(near, "places", None)
     return (
         {"called": near.is_called, "places": [it._asdict() for it in places]}
@@ -73,8 +73,8 @@ def panics(view: View, addr: int) -> Record | None:
 
 def landmarks(view: View, addr: int) -> Record | None:
     """What the function of an instruction without debug information refers to, or none."""
-    near = view.naming.near(addr)
-    found, more = getattr(near, "found", None), getattr(near, "more", 0)
+    near = view.naming.landmark(addr)
+    found, more = getattr(near, "landmarks", None), getattr(near, "more", 0)
     return (
         {"called": near.is_called, "texts": [it.text for it in found], "more": more}
         if near and found
@@ -84,13 +84,13 @@ def landmarks(view: View, addr: int) -> Record | None:
 
 def site(view: View, called: Site) -> Record:
     found = instruction(view, called.addr)
-    return {**found, "function": found["function"] or view.naming.called(called)}
+    return {**found, "function": found["function"] or view.naming.function_name(called)}
 
 
-def line(view: View, spot: Spot) -> Record:
+def line(view: View, spot: ObjectLine) -> Record:
     listed, missed = spot.line, spot.missed
     return {
-        "base": shown(spot.base),
+        "base": address_text(spot.base),
         "size": view.report.size,
         "start": listed.start if listed else None,
         "invalidations": view.invalidations_of(spot),
@@ -102,10 +102,10 @@ def line(view: View, spot: Spot) -> Record:
     }
 
 
-def word(use: Told, own: Key) -> Record:
+def word(use: WordUse, own: Key) -> Record:
     hart = None if use.hart == "many" else int(use.hart)
     return {
-        "address": shown(use.addr),
+        "address": address_text(use.addr),
         "field": use.name,
         "own": use.key == own,
         "reads": use.reads,
@@ -141,17 +141,17 @@ def time_of(view: View) -> Record:
     }
 
 
-def numbers_of(counted: "Counted") -> Record:
+def numbers_of(counted: "TrialCount") -> Record:
     return {
         "false_sharing": counted.total["useless"],
         "true_sharing": counted.total["useful"],
-        "invalidations": counted.rule,
+        "invalidations": counted.invalidations,
     }
 
 
-def trial(view: View, obj: Thing) -> Record | None:
+def trial(view: View, obj: DataObject) -> Record | None:
     """The whole run's numbers before and after the fix, or none where none was tried."""
-    tried = view.known(obj)
+    tried = view.decisive_trial(obj)
     if tried is None or tried.after is None or not tried.is_saving():
         return None
     return {
@@ -161,21 +161,21 @@ def trial(view: View, obj: Thing) -> Record | None:
     }
 
 
-def thing(view: View, obj: Thing) -> Record:
-    seen = view.seen(obj)
-    explained, worst, kinds = seen.explained, seen.worst(), view.takings(obj)
+def thing(view: View, obj: DataObject) -> Record:
+    seen = view.details(obj)
+    explained, worst, kinds = seen.explained, seen.worst(), view.invalidation_kinds(obj)
     known = view.misses is not None
     return {
         "name": obj.name,
         "kind": obj.key.kind,
-        "key": view.keys[obj.key],
+        "key": view.lasting_keys[obj.key],
         "type": view.type_of(obj) or None,
         "false_sharing": obj.useless if known else None,
         "true_sharing": obj.useful if known else None,
         "invalidations": view.invalidations(obj),
         "reported_invalidations": obj.count,
-        "blocks": len(obj.lives),
-        "neighbours": [view.all[key].name for key in obj.beside],
+        "blocks": len(obj.block_ids),
+        "neighbours": [view.objects_by_key[key].name for key in obj.neighbours],
         "rate": rounded(view.worth.rate(obj.useless)),
         "severity": severity(view, obj.useless),
         "upper_bound": rounded(view.worth.at_most(obj)),
@@ -184,21 +184,21 @@ def thing(view: View, obj: Thing) -> Record:
         "sites": [site(view, one) for one in obj.example.sites]
         if isinstance(obj.example, Block)
         else [],
-        "who": who(view, obj) or None,
+        "who": describe_owners(view, obj) or None,
         "fix": seen.fix,
         "tried": trial(view, obj),
         "most_written": worst.name if worst else None,
-        "lines": [line(view, spot) for spot in obj.spots],
+        "lines": [line(view, spot) for spot in obj.lines],
         "words": [word(one, obj.key) for one in seen.words],
         "conflicts": [
             {
-                "invalidator": instruction(view, one.taker),
+                "invalidator": instruction(view, one.invalidator),
                 "victim": instruction(view, one.victim),
-                "invalidations": one.taken,
-                "same_word": one.same,
-                "kind": KINDS[kind_of(one, view.does)],
+                "invalidations": one.times,
+                "same_word": one.same_word_times,
+                "kind": KINDS[pair_kind(one, view.effects)],
             }
-            for one in seen.fights()[:8]
+            for one in seen.conflicts()[:8]
         ],
         "harts": [
             {"victim": victim, "invalidator": invalidator, "invalidations": much}
@@ -209,19 +209,19 @@ def thing(view: View, obj: Thing) -> Record:
     }
 
 
-def foretold(view: View, predicted: Foretold) -> Record:
+def foretold(view: View, predicted: PredictedLine) -> Record:
     return {
         "kind": predicted.line.kind,
-        "base": shown(predicted.line.base),
+        "base": address_text(predicted.line.base),
         "size": predicted.line.size,
         "start": predicted.line.start,
         "invalidations": predicted.line.count,
         "verdict": predicted.line.verdict,
         "objects": [view.name_of(key) for key in predicted.keys],
         "false_sharing": predicted.useless,
-        "observed_false_sharing": predicted.inside,
+        "observed_false_sharing": predicted.observed_useless,
         "shown": predicted.is_shown,
-        "reason": predicted.why,
+        "reason": predicted.reason,
     }
 
 
@@ -253,8 +253,8 @@ def record(view: View) -> Record:
         ),
         "total": totals(view),
         "time": time_of(view),
-        "objects": [thing(view, it) for it in view.chosen()],
-        "predicted": [foretold(view, it) for it in view.foretold()],
+        "objects": [thing(view, it) for it in view.chosen_objects()],
+        "predicted": [foretold(view, it) for it in view.chosen_predictions()],
         "notes": view.notes,
     }
 
@@ -279,42 +279,42 @@ def location(view: View, file: str, number: int) -> Record:
     return {"physicalLocation": {"artifactLocation": {"uri": uri}, "region": {"startLine": number}}}
 
 
-def sentences(view: View, obj: Thing) -> str:
+def sentences(view: View, obj: DataObject) -> str:
     """The fix of an object, and what trying it came to, as sentences."""
-    seen = view.seen(obj)
+    seen = view.details(obj)
     tried = f" Tried on this trace: {seen.tried}." if seen.tried else ""
     return f"Fix: {seen.fix}.{tried}"
 
 
-def locations(view: View, obj: Thing) -> list[Record]:
+def locations(view: View, obj: DataObject) -> list[Record]:
     """Where an object's sharing happens in the sources: the conflicting instructions, and else where it is declared or made."""
-    fight = view.seen(obj).fight()
+    fight = view.details(obj).worst_conflict()
     places = (
-        [view.naming.sources.place(at) for at in (fight.taker, fight.victim)]
+        [view.naming.sources.place(at) for at in (fight.invalidator, fight.victim)]
         if fight and view.naming.sources
         else []
     )
     found = [location(view, place.file, place.line) for place in dict.fromkeys(places) if place]
-    declared = view.seen(obj).declared
+    declared = view.details(obj).declared
     return found or ([location(view, *declared)] if declared else [])
 
 
-def result(view: View, obj: Thing) -> Record:
+def result(view: View, obj: DataObject) -> Record:
     known = view.misses is not None
     is_false = (
         obj.useless >= obj.useful
         if known
-        else any(spot.line and spot.line.verdict != "true" for spot in obj.spots)
+        else any(spot.line and spot.line.verdict != "true" for spot in obj.lines)
     )
     much = counted(view.invalidations(obj), "invalidation")
     if known:
         much = f"{counted(obj.useless, 'false-sharing miss')}, {obj.useful:,} true-sharing, {much}"
-    declared = view.seen(obj).declared
+    declared = view.details(obj).declared
     return {
         "ruleId": "false-sharing" if is_false else "true-sharing",
         "level": "warning" if is_false else "note",
         "message": {
-            "text": f"{obj.name}: {much} on {counted(len(obj.spots), 'line')}. {sentences(view, obj)}"
+            "text": f"{obj.name}: {much} on {counted(len(obj.lines), 'line')}. {sentences(view, obj)}"
         },
         "locations": locations(view, obj)[:1],
         "relatedLocations": [
@@ -326,14 +326,14 @@ def result(view: View, obj: Thing) -> Record:
             }
             for one in ([location(view, *declared)] if declared else [])
         ],
-        "partialFingerprints": {"object/v1": view.keys[obj.key]},
+        "partialFingerprints": {"object/v1": view.lasting_keys[obj.key]},
     }
 
 
-def foreseen(view: View, predicted: Foretold) -> Record:
+def foreseen(view: View, predicted: PredictedLine) -> Record:
     names = ", ".join(view.name_of(key) for key in predicted.keys) or "memory"
-    much = f"{counted(predicted.useless or 0, 'false-sharing miss')} instead of {predicted.inside or 0:,}"
-    declared = next((view.declared(view.all[key]) for key in predicted.keys), None)
+    much = f"{counted(predicted.useless or 0, 'false-sharing miss')} instead of {predicted.observed_useless or 0:,}"
+    declared = next((view.declaration(view.objects_by_key[key]) for key in predicted.keys), None)
     return {
         "ruleId": "predicted-sharing",
         "level": "note",
@@ -346,9 +346,9 @@ def foreseen(view: View, predicted: Foretold) -> Record:
 
 def sarif_text(view: View) -> str:
     """The objects, and the predicted lines that are shown, as results."""
-    top = view.call.number("top", TOP)
-    results = [result(view, it) for it in view.listed()[:top]] + [
-        foreseen(view, predicted) for predicted in view.foretold() if predicted.is_shown
+    top = view.call.number_option("top", TOP)
+    results = [result(view, it) for it in view.listed_objects()[:top]] + [
+        foreseen(view, predicted) for predicted in view.chosen_predictions() if predicted.is_shown
     ]
     rules = [
         {

@@ -7,12 +7,12 @@ from typing import Iterator, NamedTuple, Sequence
 from view.reading.calls import TOP
 from view.output.drawings import Given, templates
 from view.model.foreign_objects import row_of
-from view.model.view import Seen, View
-from view.names.naming import shown
-from view.model.objects import Spot, Thing, Told, words_of
-from view.model.word_owners import joined
-from view.model.predicted_lines import Foretold
-from view.reading.reports import Takings
+from view.model.view import ObjectDetails, View
+from view.names.naming import address_text
+from view.model.objects import ObjectLine, DataObject, WordUse, word_uses
+from view.model.word_owners import join_names
+from view.model.predicted_lines import PredictedLine
+from view.reading.reports import LineInvalidations
 from view.output.screen import (
     counted,
     details,
@@ -55,10 +55,10 @@ class Users(NamedTuple):
     others: tuple[int, ...]
 
 
-def users_of(view: View, thing: Thing, word: Told) -> Users:
+def users_of(view: View, thing: DataObject, word: WordUse) -> Users:
     """The threads of a word: while threads run where the trace was read, and else in the whole run."""
-    tried = (view.tried or {}).get(thing.key)
-    found = tried.uses.of(word.addr) if tried and tried.uses and word.key == thing.key else {}
+    tried = (view.trials or {}).get(thing.key)
+    found = tried.uses.users_of(word.addr) if tried and tried.uses and word.key == thing.key else {}
     if not found:
         return Users(None if word.hart == "many" else int(word.hart), ())
     writers = sorted(hart for hart, use in found.items() if use.writes)
@@ -68,27 +68,27 @@ def users_of(view: View, thing: Thing, word: Told) -> Users:
     return Users(None, tuple(sorted(found)))
 
 
-def title_of(view: View, word: Told, users: Users) -> str:
+def title_of(view: View, word: WordUse, users: Users) -> str:
     """What a cell says of its word where a pointer rests on it."""
     owner = view.naming.memory.owner
     who = "several threads" if users.owner is None else owner(users.owner)
     if users.others:
-        names = joined([owner(it) for it in users.others])
+        names = join_names([owner(it) for it in users.others])
         who = f"{who}: {names}" if users.owner is None else f"written by {who}, read by {names}"
     numbers = f"{counted(word.reads, 'read')}, {counted(word.writes, 'write')}"
-    return f"{shown(word.addr)} {word.name}: {numbers}, {who}"
+    return f"{address_text(word.addr)} {word.name}: {numbers}, {who}"
 
 
 class Cells(NamedTuple):
     """What the cells of an object's words have in common: the object, its name, which its cells leave out, and the greatest number."""
 
     view: View
-    thing: Thing | None
+    thing: DataObject | None
     name: str
     most: int
     is_alone: bool
 
-    def cell(self, word: Told) -> Given:
+    def cell(self, word: WordUse) -> Given:
         """A word's cell, in the colour of the thread that writes it, with the letters of those that read it."""
         own = self.thing is not None and word.key == self.thing.key
         users = (
@@ -115,7 +115,7 @@ class Cells(NamedTuple):
 
 
 def cells(
-    view: View, base: int, size: int, words: Sequence[Told], thing: Thing | None, name: str
+    view: View, base: int, size: int, words: Sequence[WordUse], thing: DataObject | None, name: str
 ) -> list[Given | None]:
     """The cells of a range, in order; none where a word wasn't accessed."""
     most = max([it.reads for it in words] + [it.writes for it in words] + [1])
@@ -124,10 +124,14 @@ def cells(
     return [made.cell(at[it]) if it in at else None for it in range(base, base + size, 4)]
 
 
-def row(view: View, spot: Spot, seen: Seen, size: int) -> Given:
+def row(view: View, spot: ObjectLine, seen: ObjectDetails, size: int) -> Given:
     """A line, in rows of words."""
     words = [it for it in seen.words if spot.base <= it.addr < spot.base + size]
-    own = cells(view, spot.base, size, words, seen.thing, seen.thing.name) if spot.told() else []
+    own = (
+        cells(view, spot.base, size, words, seen.thing, seen.thing.name)
+        if spot.line_with_words()
+        else []
+    )
     numbers = []
     if spot.missed:
         numbers.append(counted(spot.missed.useless, "false-sharing miss"))
@@ -136,13 +140,13 @@ def row(view: View, spot: Spot, seen: Seen, size: int) -> Given:
     if invalidations is not None:
         numbers.append(counted(invalidations, "invalidation"))
     return {
-        "base": shown(spot.base),
+        "base": address_text(spot.base),
         "numbers": ", ".join(numbers),
         "parts": [own[it : it + ROW] for it in range(0, len(own), ROW)],
     }
 
 
-def matrix(explained: Takings) -> Given:
+def matrix(explained: LineInvalidations) -> Given:
     """How often each thread invalidates the line in each other thread's cache."""
     harts = sorted({it for pair in explained.harts for it in pair})
     most = max(explained.harts.values(), default=1)
@@ -174,39 +178,43 @@ def side(view: View, addr: int, role: str) -> Given:
         if place
         else "no source line is known"
     )
-    at = f", {shown(addr)}" if place else ""
+    at = f", {address_text(addr)}" if place else ""
     return {
         "role": role,
-        "place": view.naming.instruction(addr) + at,
+        "place": view.naming.instruction_name(addr) + at,
         "lines": lines,
         "lacks": lacks,
     }
 
 
-def pairs(view: View, seen: Seen) -> Iterator[Given]:
-    for conflicting in seen.fights()[:PAIRS]:
+def pairs(view: View, seen: ObjectDetails) -> Iterator[Given]:
+    for conflicting in seen.conflicts()[:PAIRS]:
         sides = [
-            side(view, conflicting.taker, "invalidates"),
+            side(view, conflicting.invalidator, "invalidates"),
             side(view, conflicting.victim, "loses the line"),
         ]
         yield {
-            "text": f"{counted(conflicting.taken, 'invalidation')}, {same_words(conflicting)}",
+            "text": f"{counted(conflicting.times, 'invalidation')}, {same_words(conflicting)}",
             "sides": sides,
         }
 
 
-def worth_drawing(view: View, obj: Thing) -> list[Spot]:
+def worth_drawing(view: View, obj: DataObject) -> list[ObjectLine]:
     """The first lines of an object, without those that have few of the misses and invalidations of its worst one, or of all."""
 
-    def much(spot: Spot) -> int:
+    def much(spot: ObjectLine) -> int:
         return (spot.missed.useless + spot.missed.useful if spot.missed else 0) + (
             spot.line.count if spot.line else 0
         )
 
-    total, worst = sum(one.useless + one.useful + one.count for one in view.things), much(
-        obj.worst()
+    total, worst = sum(one.useless + one.useful + one.count for one in view.objects), much(
+        obj.worst_line()
     )
-    first = [one for one in obj.worst_first()[:LINES] if one.told() and much(one) * FEW >= worst]
+    first = [
+        one
+        for one in obj.worst_lines()[:LINES]
+        if one.line_with_words() and much(one) * FEW >= worst
+    ]
     return [one for at, one in enumerate(first) if at < FIRST or much(one) * LITTLE >= total]
 
 
@@ -215,55 +223,58 @@ def in_code(text: str) -> list[str]:
     return text.split("`")
 
 
-def thing(view: View, obj: Thing) -> Given:
+def thing(view: View, obj: DataObject) -> Given:
     """One object as the template has it."""
-    seen, drawn = view.seen(obj), sorted(worth_drawing(view, obj), key=lambda one: one.base)
-    worst, fight = seen.worst(), seen.fight()
+    seen, drawn = view.details(obj), sorted(worth_drawing(view, obj), key=lambda one: one.base)
+    worst, fight = seen.worst(), seen.worst_conflict()
     return {
         "name": view.label(obj) + obj.note,
         "type": type_and_place(view, obj, seen),
         "numbers": [f"{one:,}" for one in numbers_of(view, obj)],
-        "beside": [view.label(view.all[key]) for key in obj.beside],
-        "worst": worst.whole() if worst else "",
-        "fight": [view.naming.instruction(at) for at in (fight.taker, fight.victim)]
+        "beside": [view.label(view.objects_by_key[key]) for key in obj.neighbours],
+        "worst": worst.field_name() if worst else "",
+        "fight": [view.naming.instruction_name(at) for at in (fight.invalidator, fight.victim)]
         if fight
         else [],
         "details": [(label, in_code(text)) for label, text in details(view, obj)],
         "rows": [row(view, one, seen, view.report.size) for one in drawn],
-        "more": len(obj.spots) - len(drawn),
-        "explained": shown(seen.explained.base) if seen.explained else "",
+        "more": len(obj.lines) - len(drawn),
+        "explained": address_text(seen.explained.base) if seen.explained else "",
         "matrix": matrix(seen.explained) if seen.explained and seen.explained.harts else None,
         "pairs": list(pairs(view, seen)),
     }
 
 
-def strip(view: View, foretold: Foretold, observed: dict[int, Spot]) -> Given:
+def strip(view: View, foretold: PredictedLine, observed: dict[int, ObjectLine]) -> Given:
     """A predicted line as a brace over the words of the lines that it meets."""
     line, size = foretold.line, view.report.size
     first = (line.base - view.report.offset) // size * size + view.report.offset
     bases = list(range(first, line.base + line.size, size))
-    own = words_of(Spot(line.base, line, None), view.naming, view.by_word)
+    own = word_uses(ObjectLine(line.base, line, None), view.naming, view.word_misses)
     beside = [
         word
         for base in bases
         if base in observed
-        for word in words_of(observed[base], view.naming, view.by_word)
+        for word in word_uses(observed[base], view.naming, view.word_misses)
     ]
     words = own + [it for it in beside if not line.base <= it.addr < line.base + line.size]
     name = view.name_of(next(iter(foretold.keys))) if len(foretold.keys) == 1 else ""
     told = counted(line.count, "invalidation")
     if foretold.useless is not None:
-        told = (
-            f"{counted(foretold.useless, 'false-sharing miss')} instead of {foretold.inside or 0:,}"
-        )
+        told = f"{counted(foretold.useless, 'false-sharing miss')} instead of {foretold.observed_useless or 0:,}"
     key = next(iter(foretold.keys), None)
     return {
         "name": ", ".join(view.name_of(key) for key in foretold.keys) or "memory",
         "kind": line.kind,
-        "base": shown(line.base),
+        "base": address_text(line.base),
         "told": told,
         "words": cells(
-            view, first, len(bases) * size, words, view.all[key] if key in view.all else None, name
+            view,
+            first,
+            len(bases) * size,
+            words,
+            view.objects_by_key[key] if key in view.objects_by_key else None,
+            name,
         ),
         "first": (line.base - first) // 4 + 1,
         "last": (line.base + line.size - first) // 4 + 1,
@@ -272,20 +283,20 @@ def strip(view: View, foretold: Foretold, observed: dict[int, Spot]) -> Given:
 
 def library(view: View) -> str:
     """The row that the objects of the C library share, which aren't drawn, or nothing."""
-    if not view.folded():
+    if not view.folded_objects():
         return ""
-    *misses, invalidations, lines = numbers_together(view, view.folded())
+    *misses, invalidations, lines = numbers_together(view, view.folded_objects())
     names = ("false-sharing miss", "true-sharing miss")
     parts = [counted(many, name) for many, name in zip(misses, names)]
     parts += [counted(invalidations, "invalidation"), counted(lines, "line")]
-    return f"{row_of(view.folded(), bool(view.runtime))}: {', '.join(parts)}"
+    return f"{row_of(view.folded_objects(), bool(view.runtime_keys))}: {', '.join(parts)}"
 
 
-def title(view: View, chosen: Sequence[Thing]) -> str:
+def title(view: View, chosen: Sequence[DataObject]) -> str:
     """The worst object in a sentence: `chosen` are the objects that have a row."""
     name = os.path.basename(view.call.named)
     if not chosen:
-        return f"{name}: {'only library objects are' if view.folded() else 'no line is'} contended"
+        return f"{name}: {'only library objects are' if view.folded_objects() else 'no line is'} contended"
     first, useless = chosen[0], view.misses.total["useless"] if view.misses else 0
     if useless:
         how = f"{first.useless:,} of {counted(useless, 'false-sharing miss')}"
@@ -296,13 +307,13 @@ def title(view: View, chosen: Sequence[Thing]) -> str:
 
 def page(view: View) -> str:
     """The whole page."""
-    top = view.call.number("top", TOP)
-    chosen = [it for it in view.listed() if not view.is_minor(it)]
+    top = view.call.number_option("top", TOP)
+    chosen = [it for it in view.listed_objects() if not view.is_minor(it)]
     first = chosen[:top]
     is_all = "predicted" in view.call.options
     observed, foretold = {
-        spot.base: spot for obj in view.things for spot in obj.spots if spot.line
-    }, view.foretold()
+        spot.base: spot for obj in view.objects for spot in obj.lines if spot.line
+    }, view.chosen_predictions()
     strips = [
         strip(view, predicted, observed)
         for predicted in [one for one in foretold if one.is_shown or is_all][:STRIPS]
@@ -323,7 +334,7 @@ def page(view: View) -> str:
             notes=view.notes,
             objects=[thing(view, it) for it in first],
             more=max(0, len(chosen) - top),
-            minors=minors(view, [it for it in view.listed() if view.is_minor(it)]),
+            minors=minors(view, [it for it in view.listed_objects() if view.is_minor(it)]),
             library=library(view),
             harts=harts,
             has_many=has_many,
@@ -335,17 +346,17 @@ def page(view: View) -> str:
 
 
 def threads_of(
-    view: View, things: Sequence[Thing], foretold: Sequence[Foretold]
+    view: View, things: Sequence[DataObject], foretold: Sequence[PredictedLine]
 ) -> tuple[list[Given], bool]:
     """The threads that are drawn, each with its letter and colour, and whether a word of several threads is."""
-    used = [users_of(view, it, word) for it in things for word in view.seen(it).words]
+    used = [users_of(view, it, word) for it in things for word in view.details(it).words]
     harts = [word.hart for it in foretold for word in it.line.words()]
     found = {it.owner for it in used} | {hart for it in used for hart in it.others}
     found |= {None if it == "many" else int(it) for it in harts}
     found |= {
         hart
         for obj in things
-        if (explained := view.seen(obj).explained)
+        if (explained := view.details(obj).explained)
         for pair in explained.harts
         for hart in pair
     }

@@ -9,16 +9,21 @@ from typing import Iterator, NamedTuple, Sequence, TextIO
 from view.repairs.advice import attribute, listing
 from view.reading.calls import TOP
 from view.faults import plain
-from view.model.instruction_pairs import ATOMIC, LOAD, STORE, UNKNOWN, kind_of, told
-from view.model.object_keys import OfBlocks
+from view.model.instruction_pairs import ATOMIC, LOAD, STORE, UNKNOWN, pair_kind, describe_kinds
+from view.model.object_keys import BlocksKey
 from view.model.foreign_objects import row_of
-from view.model.view import RARE, Seen, View
-from view.model.objects import Thing, Told
-from view.model.stack_overflow import is_strange
-from view.model.word_owners import who
-from view.model.predicted_lines import UNCOUNTED, Foretold, inside, together
-from view.reading.engine import setting
-from view.reading.reports import Pair
+from view.model.view import RARE_MISS_DIVISOR, ObjectDetails, View
+from view.model.objects import DataObject, WordUse
+from view.model.stack_overflow import is_outside_code
+from view.model.word_owners import describe_owners
+from view.model.predicted_lines import (
+    UNCOUNTED,
+    PredictedLine,
+    observed_false_sharing,
+    group_predicted_lines,
+)
+from view.reading.engine import setting_value
+from view.reading.reports import InstructionPair
 from view.model.miss_rates import settings_of
 
 BOLD, RED, DIM, END = "1", "1;31", "2", "0"
@@ -76,18 +81,18 @@ def outcome_of(view: View) -> str:
     """How the run ended, with the source line of a trap."""
     outcome, naming = view.report.outcome, view.naming
     if outcome.startswith("trap") and naming.sources:
-        return f"{outcome}, at {naming.instruction(int(outcome.split(' ')[4], 16))}"
+        return f"{outcome}, at {naming.instruction_name(int(outcome.split(' ')[4], 16))}"
     return outcome
 
 
 def interleaving(view: View) -> str:
     """The quantum, seed or schedule of a run, or nothing where that isn't known."""
-    if view.call.how != "run":
+    if view.call.action != "run":
         return ""
-    schedule = view.call.value_of("--schedule")
+    schedule = view.call.option_value("--schedule")
     if schedule:
         return f", schedule {os.path.basename(schedule)}"
-    seed = setting(view.call.settings_words(), "seed")
+    seed = setting_value(view.call.settings_words(), "seed")
     return f", quantum {settings_of(view.call)[1]:,}" + (f", seed {seed}" if seed else "")
 
 
@@ -116,36 +121,30 @@ def totals(view: View) -> str:
 
 def outcome(view: View, paint: Paint, width: int) -> Iterator[str]:
     """The first lines: how the run ended, loudly where that isn't exit 0, and all its misses."""
-    is_part = view.report.outcome == "part"
     if not view.report.ended_well():
-        ended = (
-            "THE RECORDING IS INCOMPLETE"
-            if is_part
-            else f"THE RUN DID NOT END WITH EXIT 0: {outcome_of(view)}"
-        )
         yield from (
             paint(RED, row)
-            for text in (ended, next_step(view))
+            for text in (f"THE RUN DID NOT END WITH EXIT 0: {outcome_of(view)}", next_step(view))
             for row in fold(f"!! {text}", "", "   ", width)
         )
     yield from fold(summary(view), "", "  ", width)
     if view.misses:
         yield from fold(totals(view), "", "  ", width)
-        if view.is_clean() and not is_part:
+        if view.is_clean():
             yield from fold(
-                f"no change is worth it: fewer than one in {RARE:,} accesses is a sharing miss",
+                f"no change is worth it: fewer than one in {RARE_MISS_DIVISOR:,} accesses is a sharing miss",
                 "",
                 "  ",
                 width,
             )
 
 
-def shared(view: View, rows: Sequence[Thing]) -> str:
+def shared(view: View, rows: Sequence[DataObject]) -> str:
     """That most misses are true sharing of one object, where that doesn't stand among the first; or nothing."""
     most = max(rows, key=lambda obj: obj.useful, default=None)
     if most is None or most in rows[:MOST] or 2 * most.useful <= view.total():
         return ""
-    name = view.naming.names.shortened(view.label(most))
+    name = view.naming.names.shorten(view.label(most))
     row = rows.index(most) + 1
     return f"{most.useful:,} of all {view.total():,} sharing misses are true sharing of one object, in row {row}: {name}"
 
@@ -154,52 +153,27 @@ def next_step(view: View) -> str:
     """What to do about a run that didn't end with exit 0."""
     outcome, sources = view.report.outcome, view.naming.sources
     if view.overflow:
-        return view.overflow.told()
+        return view.overflow.sentence()
     if outcome.endswith(("load-misaligned", "store-misaligned")):
         return "the address isn't a multiple of the access size: use `memcpy`, or a type with `__attribute__((packed))`"
-    if sources and is_strange(outcome, sources.code):
+    if sources and is_outside_code(outcome, sources.code):
         return (
             "the program jumped to an address without code, through a bad function pointer or an overwritten return address; "
-            "a stack that is too small does this too (`--set stack=1048576`)"
+            "a larger stack may help (`--set stack=1048576`)"
         )
     advice = {
         "budget": "the run used up its budget of instructions: raise the setting `budget`",
         "deadlock": "no thread could run any more",
-        "part": end_of_recording(view),
+        "part": "a signal ended the program, or the trace was cut",
     }
     return advice.get(outcome, "the report covers the run up to that point")
 
 
-# Why a recording ended before its program did, by the words of its address map, and what to do.
-ENDS_OF_RECORDING = {
-    "signal": "a signal ended the program",
-    "exec": "the program became another one (`exec`), which is not recorded: name that one in its place",
-    "most": "recording stopped after as many accesses as `--most` allows, and the program went on",
-    "max-disk": "recording stopped at `--max-disk` bytes of trace (2G where the call has none), and the program went on: raise `--max-disk`, "
-    "or record less with `--most` or `--marked`",
-    "disk": "recording stopped when its trace had half of what was free on the disk, and the program went on: set TMPDIR to a disk with "
-    "more room, or record less with `--most` or `--marked`",
-    "threads": "recording stopped at more than 256 threads at a time, and the program went on: run it with fewer threads",
-    "addresses": "recording stopped at 4,080 MiB of touched addresses, and the program went on: run it on a smaller input",
-    "error": "the trace could not be written further, and the program went on",
-}
-
-
-def end_of_recording(view: View) -> str:
-    """Why a trace ends before its program did, and what to do."""
-    from view.names.fields import Program
-
-    program = view.naming.program
-    end = None if program is None or isinstance(program, Program) else program.back.end
-    usual = "the program was killed, or the trace was cut"
-    return ENDS_OF_RECORDING.get(end[1], usual) if end else usual
-
-
-def type_and_place(view: View, thing: Thing, seen: Seen) -> str:
+def type_and_place(view: View, thing: DataObject, seen: ObjectDetails) -> str:
     """The type of an object and where it is declared, or how many blocks a call site has; or nothing."""
     parts = [view.type_of(thing)]
-    if isinstance(thing.key, OfBlocks):
-        many = f" ({len(thing.lives):,} blocks)" if len(thing.lives) > 1 else ""
+    if isinstance(thing.key, BlocksKey):
+        many = f" ({len(thing.block_ids):,} blocks)" if len(thing.block_ids) > 1 else ""
         return (f": {parts[0]}" if parts[0] else "") + many
     if seen.declared:
         parts.append(f"{os.path.basename(seen.declared[0])}:{seen.declared[1]}")
@@ -207,38 +181,42 @@ def type_and_place(view: View, thing: Thing, seen: Seen) -> str:
     return f": {found}" if found else ""
 
 
-def same_words(pair: Pair) -> str:
+def same_words(pair: InstructionPair) -> str:
     """How often the two instructions of a pair used the same word."""
-    if not pair.same:
+    if not pair.same_word_times:
         return "always different words"
-    if pair.same == pair.taken:
+    if pair.same_word_times == pair.times:
         return "always the same word"
-    return f"{pair.same:,} of them on the same word"
+    return f"{pair.same_word_times:,} of them on the same word"
 
 
-def conflict(view: View, pair: Pair) -> str:
+def conflict(view: View, pair: InstructionPair) -> str:
     """A pair of instructions that conflict on a line."""
-    victim, invalidator = (view.naming.instruction(it) for it in pair[:2])
-    times = counted(pair.taken, "time")
-    return f"{invalidator} invalidates {victim}: {times}, {same_words(pair)}{BY[kind_of(pair, view.does)]}"
+    victim, invalidator = (view.naming.instruction_name(it) for it in pair[:2])
+    times = counted(pair.times, "time")
+    return f"{invalidator} invalidates {victim}: {times}, {same_words(pair)}{BY[pair_kind(pair, view.effects)]}"
 
 
-def where(view: View, thing: Thing) -> list[str]:
+def where(view: View, thing: DataObject) -> list[str]:
     """The instructions that conflict most on an object's worst line, with `--words` all, and the invalidations of the line by kind."""
-    pairs = view.seen(thing).fights()[: None if "words" in view.call.options else 1]
+    pairs = view.details(thing).conflicts()[: None if "words" in view.call.options else 1]
     rows = [conflict(view, it) for it in pairs]
-    kinds = told(view.takings(thing) or {}, view.is_read(thing))
+    kinds = describe_kinds(view.invalidation_kinds(thing) or {}, view.is_read(thing))
     if rows and kinds:
         rows[0] += f"; in all {kinds}"
     return rows
 
 
-def details(view: View, thing: Thing) -> Iterator[tuple[str, str]]:
+def details(view: View, thing: DataObject) -> Iterator[tuple[str, str]]:
     """The rows below an object's, each with its label."""
-    seen = view.seen(thing)
+    seen = view.details(thing)
     for text in where(view, thing):
         yield "where", text
-    for label, text in (("who", who(view, thing)), ("fix", seen.fix), ("tried", seen.tried)):
+    for label, text in (
+        ("who", describe_owners(view, thing)),
+        ("fix", seen.fix),
+        ("tried", seen.tried),
+    ):
         if text:
             yield label, text
 
@@ -260,22 +238,22 @@ class Table(NamedTuple):
         return f"{rank!s:>{self.rank}}{cells}  "
 
 
-def numbers_of(view: View, thing: Thing) -> list[int]:
+def numbers_of(view: View, thing: DataObject) -> list[int]:
     """The numbers of an object's row."""
     misses = [thing.useless, thing.useful] if view.misses else []
-    return [*misses, view.invalidations(thing), len(thing.spots)]
+    return [*misses, view.invalidations(thing), len(thing.lines)]
 
 
-def numbers_together(view: View, things: Sequence[Thing]) -> list[int]:
+def numbers_together(view: View, things: Sequence[DataObject]) -> list[int]:
     """The numbers of a row that objects share."""
     return [sum(own) for own in zip(*(numbers_of(view, it) for it in things))]
 
 
-def table_of(view: View, rows: Sequence[Thing]) -> Table:
+def table_of(view: View, rows: Sequence[DataObject]) -> Table:
     """The columns that have room for the numbers of some rows and of the library's."""
     found = [numbers_of(view, it) for it in rows]
-    if view.folded():
-        found.append(numbers_together(view, view.folded()))
+    if view.folded_objects():
+        found.append(numbers_together(view, view.folded_objects()))
     wide = [max(NUMBER, *(len(f"{it:,}") + 2 for it in own)) for own in zip(*found)]
     rank = len(str(len(rows)))
     # (the rank and the first number share eight columns, as long as these do)
@@ -283,9 +261,11 @@ def table_of(view: View, rows: Sequence[Thing]) -> Table:
     return Table(rank, tuple(wide), view.misses is not None)
 
 
-def row(view: View, place: int, thing: Thing, paint: Paint, width: int, table: Table) -> list[str]:
+def row(
+    view: View, place: int, thing: DataObject, paint: Paint, width: int, table: Table
+) -> list[str]:
     """One object: its numbers and name, and below it where it is contended, who uses it, the fix, and what that was counted to save."""
-    seen, short = view.seen(thing), view.naming.names.shortened
+    seen, short = view.details(thing), view.naming.names.shorten
     cells = table.cells(place, numbers_of(view, thing))
     name = short(view.label(thing) + type_and_place(view, thing, seen) + thing.note)
     first, *rest = fold(name, cells, " " * len(cells), max(width, len(cells) + MOST * LABEL))
@@ -297,7 +277,7 @@ def row(view: View, place: int, thing: Thing, paint: Paint, width: int, table: T
     return rows
 
 
-def is_one(word: Told, other: Told) -> bool:
+def is_one(word: WordUse, other: WordUse) -> bool:
     """Whether two words are the halves of one number, which is accessed as a whole."""
     halves = (
         other.addr == word.addr + 4
@@ -310,7 +290,7 @@ def is_one(word: Told, other: Told) -> bool:
     return halves and is_near and (word.key, word.hart) == (other.key, other.hart)
 
 
-def joined(word: Told, other: Told) -> Told:
+def joined(word: WordUse, other: WordUse) -> WordUse:
     """Two halves as one."""
     useful = None if word.useful is None else max(word.useful, other.useful or 0)
     return word._replace(
@@ -318,7 +298,7 @@ def joined(word: Told, other: Told) -> Told:
     )
 
 
-def wholes(words: Sequence[Told]) -> Iterator[Told]:
+def wholes(words: Sequence[WordUse]) -> Iterator[WordUse]:
     """The words, those of two that are one number once."""
     at = 0
     while at < len(words):
@@ -327,26 +307,26 @@ def wholes(words: Sequence[Told]) -> Iterator[Told]:
         at += 2 if both else 1
 
 
-def words_table(view: View, thing: Thing, paint: Paint, indent: str) -> Iterator[str]:
+def words_table(view: View, thing: DataObject, paint: Paint, indent: str) -> Iterator[str]:
     """The words of an object's lines."""
-    short, words = view.naming.names.shortened, [*wholes(view.seen(thing).words)]
+    short, words = view.naming.names.shorten, [*wholes(view.details(thing).words)]
     if not words:
         return
     owners = {it: it.owner.removeprefix("several ") for it in words}
     wide = max(len("thread"), *map(len, owners.values()))
-    alone = "" if view.by_word is None else "    alone"
+    alone = "" if view.word_misses is None else "    alone"
     yield paint(DIM, f"{indent}{'address':<10}    reads   writes{alone}  {'thread':<{wide}}  field")
     for word in words:
         needed = "" if word.useful is None else f"{word.useful:>9,}"
         other = (
             ""
             if word.key == thing.key
-            else f"  ({plain(short(view.all[word.key].name)) if word.key in view.all else 'another object'})"
+            else f"  ({plain(short(view.objects_by_key[word.key].name)) if word.key in view.objects_by_key else 'another object'})"
         )
         yield f"{indent}0x{word.addr:08x}{word.reads:>9,}{word.writes:>9,}{needed}  {owners[word]:<{wide}}  {plain(short(word.name))}{other}"
 
 
-def prediction(view: View, group: Sequence[Foretold]) -> str:
+def prediction(view: View, group: Sequence[PredictedLine]) -> str:
     """Some predicted lines of one kind, in a sentence."""
     first, bases = group[0], [f"0x{it.line.base:08x}" for it in group]
     names = [view.name_of(key) for key in first.keys]
@@ -360,45 +340,45 @@ def prediction(view: View, group: Sequence[Foretold]) -> str:
     if first.useless is None or view.misses is None:
         much = counted(sum(it.line.count for it in group), "invalidation")
     else:
-        seen = inside([it.line for it in group], view.misses)
+        seen = observed_false_sharing([it.line for it in group], view.misses)
         much = f"{sum(it.useless or 0 for it in group):,} false-sharing misses instead of {seen:,}"
     apart = f"; {attribute(size)} separates the threads' words"
-    return f"{what}: with {how}, {much}" + (f" (not expected: {first.why})" if first.why else apart)
+    return f"{what}: with {how}, {much}" + (
+        f" (not expected: {first.reason})" if first.reason else apart
+    )
 
 
 def predictions(view: View, paint: Paint, width: int) -> Iterator[str]:
     """The predicted lines that are shown, and how many aren't."""
-    found, is_all = view.foretold(), "predicted" in view.call.options
+    found, is_all = view.chosen_predictions(), "predicted" in view.call.options
     chosen = [it for it in found if it.is_shown or is_all]
     folded = len(found) - len(chosen)
     if chosen:
         yield ""
         yield paint(BOLD, "predicted, if data were placed otherwise or lines were longer:")
-    for group in together(chosen):
-        yield from fold(
-            view.naming.names.shortened(prediction(view, group)), "   ", "      ", width
-        )
+    for group in group_predicted_lines(chosen):
+        yield from fold(view.naming.names.shorten(prediction(view, group)), "   ", "      ", width)
     if folded:
         reasons = "add no false sharing or can't occur with the data's alignment"
-        if view.misses and any(it.why == UNCOUNTED for it in found):
+        if view.misses and any(it.reason == UNCOUNTED for it in found):
             reasons = f"weren't counted, {reasons}"
         text = f"{counted(folded, 'predicted line')} not shown, as they {reasons} (--predicted shows all)"
         yield from (paint(DIM, it) for it in fold(text, "", "  ", width))
 
 
-def order(view: View, rows: Sequence[Thing]) -> str:
+def order(view: View, rows: Sequence[DataObject]) -> str:
     """By what rows are sorted, where that isn't their first column; or nothing."""
     leading = [numbers_of(view, it)[0] for it in rows]
     if leading == sorted(leading, reverse=True):
         return ""
-    return "sorted by the misses that a fix would save, less where store buffers hide them"
+    return "sorted by the misses that a fix would save (fewer where store buffers hide them)"
 
 
-def minors(view: View, rows: Sequence[Thing]) -> str:
+def minors(view: View, rows: Sequence[DataObject]) -> str:
     """The objects that aren't worth a change, and their misses, or nothing."""
     if not rows:
         return ""
-    names = [view.naming.names.shortened(view.label(it)) for it in rows]
+    names = [view.naming.names.shorten(view.label(it)) for it in rows]
     more = len(names) - MOST
     listed = ", ".join(names[:MOST]) + f" and {more} more" if more > 0 else ", ".join(names)
     much = sum(it.useless + it.useful for it in rows)
@@ -409,12 +389,12 @@ def minors(view: View, rows: Sequence[Thing]) -> str:
 def screen(view: View, paint: Paint, width: int = WIDTH) -> Iterator[str]:
     """The whole screen, as lines."""
     yield from outcome(view, paint, width)
-    listed, top = view.listed(), view.call.number("top", TOP)
+    listed, top = view.listed_objects(), view.call.number_option("top", TOP)
     rows = [it for it in listed if not view.is_minor(it)]
     for note in filter(None, (*view.notes, shared(view, rows))):
         yield from fold(f"note: {note}", "", "  ", width)
     name = view.call.options.get("object")
-    if not view.chosen():
+    if not view.chosen_objects():
         yield f"{plain(name)} is not contended" if name else "no line is contended"
     else:
         yield from table_rows(view, rows, top, paint, width)
@@ -426,7 +406,7 @@ def screen(view: View, paint: Paint, width: int = WIDTH) -> Iterator[str]:
 
 
 def table_rows(
-    view: View, rows: Sequence[Thing], top: int, paint: Paint, width: int
+    view: View, rows: Sequence[DataObject], top: int, paint: Paint, width: int
 ) -> Iterator[str]:
     """The table: its head, the first rows, that of the library's objects, and how many more there are."""
     shown = rows[:top]
@@ -440,9 +420,11 @@ def table_rows(
         yield from row(view, place, thing, paint, width, table)
         if "words" in view.call.options:
             yield from words_table(view, thing, paint, " " * (table.rank + 2 + LABEL))
-    if view.folded():
-        numbers = numbers_together(view, view.folded())
-        yield table.cells("", numbers) + paint(DIM, row_of(view.folded(), bool(view.runtime)))
+    if view.folded_objects():
+        numbers = numbers_together(view, view.folded_objects())
+        yield table.cells("", numbers) + paint(
+            DIM, row_of(view.folded_objects(), bool(view.runtime_keys))
+        )
     if len(rows) > top:
         more = counted(len(rows) - top, "more object")
         yield paint(DIM, f"{more} (--top {len(rows)} shows all)")

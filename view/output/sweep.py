@@ -5,11 +5,11 @@ import os
 import re
 from typing import Iterator, NamedTuple, Sequence
 
-from view.model.line_borders import Crossed, crossed
+from view.model.line_borders import BorderCrossing, find_crossings
 from view.reading.calls import Call
 from view.output.drawings import Given, curve, templates
 from view.faults import Fault, plain
-from view.reading.pipes import whole
+from view.reading.pipes import copy_whole
 from view.reading.engine import Predator
 from view.output.screen import counted
 
@@ -40,7 +40,7 @@ class Sweep:
         self.own = self.shifts[0]
         self.least = next((it for it in self.shifts if it.shift == int(least[1])), self.own)
         self.most = max(self.shifts, key=lambda shift: shift.total)
-        self.objects: list[Crossed] = []
+        self.objects: list[BorderCrossing] = []
 
     def ends(self) -> list[Shift]:
         """The shifts that are shown by objects: the trace's own, the one that counts most and the one that counts least, each once."""
@@ -50,7 +50,9 @@ class Sweep:
         """Finds the objects on the contended lines under these shifts."""
         if self.most.total:
             totals = {it.shift: it.total for it in self.ends()}
-            self.objects = crossed(trace, self.size, totals, self.most.shift, self.least.shift)
+            self.objects = find_crossings(
+                trace, self.size, totals, self.most.shift, self.least.shift
+            )
 
     def title(self) -> str:
         """The result in a sentence."""
@@ -68,14 +70,14 @@ class Sweep:
     def extremes(self) -> str:
         """The totals that aren't the trace's own."""
         if self.least.total == self.own.total:
-            return f", the least; the most are {self.most.total:,} at shift {self.most.shift}"
-        return f"; the least are {self.least.total:,} at shift {self.least.shift}"
+            return f", the fewest; {self.most.total:,} at worst (shift {self.most.shift})"
+        return f", {self.least.total:,} at best (shift {self.least.shift})"
 
     def mark(self, shift: Shift) -> str:
         """What a shift is marked as."""
         marks = ["as placed"] if shift is self.own else []
         marks += ["most"] if shift is self.most and self.most.total > self.least.total else []
-        return ", ".join([*marks, *(["least"] if shift is self.least else [])])
+        return ", ".join([*marks, *(["fewest"] if shift is self.least else [])])
 
     def heading(self, shift: Shift) -> str:
         mark = self.mark(shift)
@@ -85,8 +87,8 @@ class Sweep:
 @contextlib.contextmanager
 def trace_of(call: Call) -> Iterator[str]:
     """The trace as a file: from a pipe a copy of it, since it is read for each of the shifts that are looked at."""
-    if call.reads_once():
-        with whole(call.subject) as path:
+    if call.reads_trace_once():
+        with copy_whole(call.subject) as path:
             yield path
     else:
         yield call.subject
@@ -95,7 +97,7 @@ def trace_of(call: Call) -> Iterator[str]:
 def sweep_of(call: Call) -> Sweep:
     with trace_of(call) as trace:
         words = [trace if it == call.subject else it for it in call.words]
-        sweep = Sweep(Predator().text(["sweep", *words]))
+        sweep = Sweep(Predator().output(["sweep", *words]))
         sweep.look(trace)
         return sweep
 
@@ -104,7 +106,7 @@ def rows(sweep: Sweep, most: int) -> Iterator[str]:
     """The screen."""
     yield f"{sweep.title()} ({counted(sweep.accesses, 'access')})"
     yield ""
-    wide = max(8, *(len(f"{shift.total:,}") for shift in sweep.shifts))
+    wide = max(8, *(len(f"{it.total:,}") for it in sweep.shifts))
     yield f"   shift {'inval':>{wide}}  lines"
     for shift in sweep.shifts:
         yield f"{shift.shift:>8} {shift.total:>{wide},} {shift.lines:>6,}  {sweep.mark(shift)}".rstrip()
@@ -131,7 +133,7 @@ def marks(sweep: Sweep) -> list[tuple[str, int, str]]:
             (shape, shift, what)
             for shape, shift, what in (
                 ("triangle", sweep.most, "most"),
-                ("circle", sweep.least, "least"),
+                ("circle", sweep.least, "fewest"),
             )
         ]
     places = {it.shift: at for at, it in enumerate(sweep.shifts)}
@@ -171,7 +173,7 @@ def show(call: Call) -> tuple[list[str], str | None]:
     """The lines of the screen, and the page where one is asked for."""
     if "html" in call.options:
         templates()
-    most = call.number("top", OBJECTS)
+    most = call.number_option("top", OBJECTS)
     sweep = sweep_of(call)
     told: Sequence[str] = [plain(it) for it in rows(sweep, most)]
     return [*told], page(sweep, call.named, most) if "html" in call.options else None

@@ -6,7 +6,7 @@ import re
 from typing import Any, Iterable, Iterator, Sequence
 
 from view.faults import Fault
-from view.reading.file_kinds import IS, How, how_of
+from view.reading.file_kinds import KIND_NAMES, Action, action_for
 from view.reading.settings import ASKED, BARE, KEYS, OPTIONS, WRITTEN
 
 USAGE = """usage: predator view run PROGRAM [options of run] [OPTIONS] [-- WORD ..]
@@ -20,8 +20,8 @@ HELP = (
     USAGE
     + """
 
-Shows the contended objects of a program, a recorded trace or a kept report, with their fields, source lines, threads and fixes. The object
-with the most false-sharing misses comes first. docs/VIEW.md walks through it.
+Shows the contended objects of a program, a recorded trace or a kept report, the worst first, with their fields, source lines, threads and
+fixes. docs/VIEW.md walks through it.
 
 Options:
   --program P        the program of the trace or the report, for the names of fields and source lines
@@ -89,7 +89,7 @@ LISTS = ("type", "shape")
 ALONE = {"sweep": ("html", "top"), "caches": ("html", "shape", "top")}
 # Options of `predator native` that have no value, and those that have one.
 MARKS = ("all", "marked", "child", "built", "pcs", "no-pcs")
-RECORDS = ("--quantum", "--most", "--max-disk", "--trace")
+RECORDS = ("--quantum", "--most")
 # Options of a replay that goes on from another one, which a trace of a program of this machine doesn't.
 STATES = ("--save", "--resume")
 # What view writes.
@@ -98,7 +98,7 @@ OUTPUTS = ("html", "json", "sarif", "patch")
 TOP, EXPLAIN = 10, 3
 
 
-def nearest(word: str, known: Iterable[str]) -> str:
+def suggest_nearest(word: str, known: Iterable[str]) -> str:
     """A question that names what a word may be meant for, or nothing."""
     found = difflib.get_close_matches(word, list(known), 1)
     return f"did you mean `{found[0]}`? " if found else ""
@@ -111,26 +111,26 @@ class Call:
 
     def __init__(self, words: Sequence[str]) -> None:
         first = words[0] if words else ""
-        named: dict[str, How] = {
+        named: dict[str, Action] = {
             "run": "run",
             "replay": "replay",
             "native": "native",
             "sweep": "sweep",
             "caches": "caches",
         }
-        self.how = named.get(first, "file")
+        self.action = named.get(first, "file")
         self.options: dict[str, Any] = {it: [] for it in LISTS}
-        self.own: list[str] = []
-        self.marks: list[str] = []
-        self.given: list[str] = []
+        self.guest_words: list[str] = []
+        self.recorder_flags: list[str] = []
+        self.engine_options: list[str] = []
         # Where the trace of a run may be written that no word names.
-        self.spare: str | None = None
+        self.run_trace: str | None = None
         self.words, names = self.split(words[1:] if first in named else words)
         if "help" in self.options:
             return
         if len(names) != 1:
             what = {"run": "a program", "native": "a program", "file": "a report"}.get(
-                self.how, "a trace"
+                self.action, "a trace"
             )
             raise Fault(
                 f"missing argument: {what}\n{USAGE}"
@@ -138,33 +138,33 @@ class Call:
                 else f"unexpected argument '{names[1]}'\n{USAGE}"
             )
         self.subject = self.named = names[0]
-        self.judge_words()
-        self.program = self.subject if self.how == "run" else self.options.get("program")
-        self.judge()
+        self.check_words()
+        self.program = self.subject if self.action == "run" else self.options.get("program")
+        self.check_values()
 
-    def judge_words(self) -> None:
+    def check_words(self) -> None:
         """Refuses words that what is done with the file doesn't take, and a file with which it can't be done."""
-        what = how_of(self.subject)
-        if what not in ("file", "replay" if self.how in ALONE else self.how):
-            raise Fault(f"{self.subject} is {IS[what]}: use `predator view {self.subject}`")
+        what = action_for(self.subject)
+        if what not in ("file", "replay" if self.action in ALONE else self.action):
+            raise Fault(f"{self.subject} is {KIND_NAMES[what]}: use `predator view {self.subject}`")
         known = (
-            OPTIONS.get(self.how, [])
-            if self.how != "native"
+            OPTIONS.get(self.action, [])
+            if self.action != "native"
             else [*RECORDS, *(it for it in OPTIONS["replay"] if it not in STATES)]
         )
-        for word in (it for it in self.given if it.partition("=")[0] not in known):
-            where = "view" if self.how == "file" else f"view {self.how}"
-            near = nearest(
+        for word in (it for it in self.engine_options if it.partition("=")[0] not in known):
+            where = "view" if self.action == "file" else f"view {self.action}"
+            near = suggest_nearest(
                 word.partition("=")[0], [*known, *(f"--{it}" for it in (*VALUES, *LISTS, *FLAGS))]
             ).strip()
             raise Fault(f"{where} has no option '{word}'{near and '; '}{near}\n{USAGE}")
-        if self.marks and self.how != "native":
-            raise Fault(f"'{self.marks[0]}' applies to native programs only")
-        for pair in (one for value in self.values("--set") for one in value.split(",")):
+        if self.recorder_flags and self.action != "native":
+            raise Fault(f"'{self.recorder_flags[0]}' applies to native programs only")
+        for pair in (one for value in self.option_values("--set") for one in value.split(",")):
             key, is_set, _ = pair.partition("=")
             if is_set and key not in KEYS:
                 raise Fault(
-                    f"'--set {pair}': there is no setting '{key}'; {nearest(key, KEYS)}the settings are {', '.join(KEYS)}"
+                    f"'--set {pair}': there is no setting '{key}'; {suggest_nearest(key, KEYS)}the settings are {', '.join(KEYS)}"
                 )
 
     def split(self, words: Sequence[str]) -> tuple[list[str], list[str]]:
@@ -175,12 +175,12 @@ class Call:
         while at < len(words):
             word, at = words[at], at + 1
             name, has_value, value = word.partition("=")
-            if word == "--" and self.how in ("run", "native") and names:
-                self.own = [*words[at - 1 :]]
+            if word == "--" and self.action in ("run", "native") and names:
+                self.guest_words = [*words[at - 1 :]]
                 return rest, names
-            if word == "--" and self.how == "native":
+            if word == "--" and self.action == "native":
                 # (as `predator native -- PROGRAM ..` has it)
-                self.own = ["--", *words[at + 1 :]]
+                self.guest_words = ["--", *words[at + 1 :]]
                 return [*rest, *words[at : at + 1]], [*words[at : at + 1]]
             if word == "--":
                 return [*rest, "--", *words[at:]], [*names, *words[at:]]
@@ -195,24 +195,26 @@ class Call:
                     if at == len(words):
                         raise Fault(f"'{word}' needs a value")
                     value, at = words[at], at + 1
-                self.put("help" if word == "-h" else name[2:], value)
+                self.set_option("help" if word == "-h" else name[2:], value)
             elif (
-                word[2:] in MARKS and word[:2] == "--" and not (self.how == "run" and word in BARE)
+                word[2:] in MARKS
+                and word[:2] == "--"
+                and not (self.action == "run" and word in BARE)
             ):
-                self.marks.append(word)
+                self.recorder_flags.append(word)
             elif word.startswith("-") and word != "-":
-                self.given.append(word)
+                self.engine_options.append(word)
                 own = [word] if has_value or word in BARE or at == len(words) else [word, words[at]]
                 at += len(own) - 1
                 rest += own
             else:
                 rest.append(word)
                 names.append(word)
-                if self.how == "file" and len(names) == 1:
-                    self.how = how_of(word)
+                if self.action == "file" and len(names) == 1:
+                    self.action = action_for(word)
         return rest, names
 
-    def put(self, name: str, value: str) -> None:
+    def set_option(self, name: str, value: str) -> None:
         name = FORMER.get(name, name)
         if name in LISTS:
             self.options[name].append(value)
@@ -221,9 +223,9 @@ class Call:
         else:
             self.options[name] = value
 
-    def judge(self) -> None:
+    def check_values(self) -> None:
         """Refuses values that an option can't have."""
-        self.judge_alone()
+        self.check_alone()
         for name in ("top", "fail-above", "explain", "latency"):
             value = self.options.get(name, "0")
             if not re.fullmatch("[0-9]{1,18}", value):
@@ -244,46 +246,46 @@ class Call:
                 raise Fault(f"'--{name}' needs '--{of}'")
         if self.options["type"] and not self.has_types():
             raise Fault("'--type' needs a program's types: name the program with '--program'")
-        if self.how in ("run", "native") and "program" in self.options:
-            raise Fault(f"'--program' applies to a trace or a report, not to `view {self.how}`")
-        if "latency" in self.options and self.how != "run":
+        if self.action in ("run", "native") and "program" in self.options:
+            raise Fault(f"'--program' applies to a trace or a report, not to `view {self.action}`")
+        if "latency" in self.options and self.action != "run":
             raise Fault("'--latency' applies to `view run` only")
         if "sources" in self.options and not os.path.isdir(self.options["sources"]):
             raise Fault(f"'--sources' takes a folder, and '{self.options['sources']}' isn't one")
         if "map" in self.options and "program" in self.options:
             raise Fault("'--map' and '--program' exclude each other: the map names the program")
-        if "map" in self.options and self.how in ("run", "native"):
+        if "map" in self.options and self.action in ("run", "native"):
             raise Fault("'--map' applies to a trace or a report of a native program")
 
-    def judge_alone(self) -> None:
+    def check_alone(self) -> None:
         """Refuses what a sweep and caches don't take, and shapes for anything else."""
-        if self.options["shape"] and self.how != "caches":
+        if self.options["shape"] and self.action != "caches":
             raise Fault("'--shape' applies to `view caches` only")
-        if self.how not in ALONE:
+        if self.action not in ALONE:
             return
         strange = [
             name
             for name, value in self.options.items()
-            if name not in ALONE[self.how] and value != []
+            if name not in ALONE[self.action] and value != []
         ]
         if strange:
             raise Fault(
-                f"`view {self.how}` has no option '--{strange[0]}'; it takes {', '.join(f'--{it}' for it in ALONE[self.how])}"
+                f"`view {self.action}` has no option '--{strange[0]}'; it takes {', '.join(f'--{it}' for it in ALONE[self.action])}"
             )
-        if self.how == "sweep" and self.value_of("--size") is None:
+        if self.action == "sweep" and self.option_value("--size") is None:
             raise Fault("`view sweep` needs a line size, such as '--size 64'")
 
     def has_types(self) -> bool:
         """Whether a program is named whose types can be looked up, by itself or by the table of a native one."""
-        if self.program or self.how == "native" or "map" in self.options:
+        if self.program or self.action == "native" or "map" in self.options:
             return True
-        if self.how != "replay":
+        if self.action != "replay":
             return False
-        from view.names.native import beside
+        from view.names.native import find_address_map
 
-        return beside(self.subject) is not None
+        return find_address_map(self.subject) is not None
 
-    def number(self, name: str, usual: int) -> int:
+    def number_option(self, name: str, usual: int) -> int:
         return int(self.options.get(name, usual))
 
     def settings_words(self) -> list[str]:
@@ -292,29 +294,33 @@ class Call:
         at = 0
         while at < len(self.words) and self.words[at] != "--":
             name = self.words[at].partition("=")[0]
-            width = width_of(self.words[at])
+            width = option_width(self.words[at])
             if name in ASKED:
                 kept += self.words[at : at + width]
             at += width
         return kept
 
-    def reads_once(self) -> bool:
+    def reads_trace_once(self) -> bool:
         """Whether the trace comes from a pipe or a terminal, and can be read once."""
         is_pipe = (
             self.subject == "-" or os.path.exists(self.subject) and not os.path.isfile(self.subject)
         )
-        return self.how in ("replay", *ALONE) and is_pipe
+        return self.action in ("replay", *ALONE) and is_pipe
 
-    def trace(self) -> str | None:
+    def trace_file(self) -> str | None:
         """The trace's file, where it is one that is there and can be read again and again."""
-        path = self.subject if self.how == "replay" else self.value_of("--trace") or self.spare
-        return path if path and os.path.isfile(path) and not self.reads_once() else None
+        path = (
+            self.subject
+            if self.action == "replay"
+            else self.option_value("--trace") or self.run_trace
+        )
+        return path if path and os.path.isfile(path) and not self.reads_trace_once() else None
 
     def words_of_pipe(self) -> list[str]:
         """The words of a replay of standard input, in the place of a trace."""
         return ["-" if it == self.subject else it for it in self.words]
 
-    def values(self, option: str) -> Iterator[str]:
+    def option_values(self, option: str) -> Iterator[str]:
         """The values that the words give for one of the program's options."""
         for at, word in enumerate(self.words):
             if word == "--":
@@ -324,24 +330,24 @@ class Call:
             elif word.startswith(option + "="):
                 yield word.partition("=")[2]
 
-    def value_of(self, option: str) -> str | None:
+    def option_value(self, option: str) -> str | None:
         """The value of one of the program's options, or none."""
-        return next(self.values(option), None)
+        return next(self.option_values(option), None)
 
-    def words_to_run(self) -> list[str]:
+    def rerun_words(self) -> list[str]:
         """The words of the same run without its outputs, which were written already, and without the guest's own."""
         kept, at = ["run"], 0
         while at < len(self.words):
             word = self.words[at]
             if word == "--":
                 return kept + self.words[at:]
-            width = width_of(word)
+            width = option_width(word)
             if word.partition("=")[0] not in (*WRITTEN, *BARE):
                 kept += self.words[at : at + width]
             at += width
         return kept
 
 
-def width_of(word: str) -> int:
+def option_width(word: str) -> int:
     """How many words an option of the program takes, or a name."""
     return 2 if word.startswith("--") and "=" not in word and word not in BARE else 1

@@ -11,15 +11,15 @@ import threading
 from typing import Any, Callable, NamedTuple, Sequence, Union
 
 from view.faults import Fault
-from view.reading.reports import Blame, Explained, Misses, Placed, Report
+from view.reading.reports import Blame, Explanation, Misses, Placement, Report
 from view.reading.settings import USUAL
 
 TOP = os.path.dirname(os.path.dirname(os.path.dirname(os.path.abspath(__file__))))
 # What a run or a replay ends with where its report is printed.
-REPORTED = (0, 10, 11, 12)
-PIECE = 1 << 20
+REPORT_STATUSES = (0, 10, 11, 12)
+PIECE_BYTES = 1 << 20
 # What a reader tells of a trace.
-Counted = Union[Misses, Report, Blame]
+PassResult = Union[Misses, Report, Blame]
 
 
 def launcher() -> str:
@@ -45,12 +45,12 @@ class Predator:
 
     def __init__(self) -> None:
         self.command = launcher()
-        self.known: set[str] | None = None
-        self.found: str | None = None
+        self.commands: set[str] | None = None
+        self.direct_path: str | None = None
         # (what the run said whose trace was counted)
-        self.said = ""
+        self.stderr_text = ""
 
-    def text(self, words: Sequence[str | bytes], good: Sequence[int] = (0,), **how: Any) -> str:
+    def output(self, words: Sequence[str | bytes], good: Sequence[int] = (0,), **how: Any) -> str:
         """What a call prints, which must end with one of these statuses."""
         command = how.pop("command", self.command)
         ran = subprocess.run(
@@ -61,7 +61,7 @@ class Predator:
         )
         text = ran.stdout.decode("latin-1")
         if ran.stderr:
-            self.said = ran.stderr.decode("utf-8", "replace")
+            self.stderr_text = ran.stderr.decode("utf-8", "replace")
         if ran.returncode not in good:
             said = (
                 text.partition("\n")[0]
@@ -73,16 +73,16 @@ class Predator:
             raise Refused(f"`predator {words[0]!s}` failed: {said.removeprefix('predator: ')}")
         return text
 
-    def direct(self) -> str:
+    def direct_command(self) -> str:
         """The program without its launcher, which a first screen calls dozens of times; or the launcher where that doesn't know it."""
-        if self.found is None:
+        if self.direct_path is None:
             path = os.environ.get("PREDATOR_PROGRAM") or (
-                "" if os.environ.get("PREDATOR_TRY") else self.where()
+                "" if os.environ.get("PREDATOR_TRY") else self.program_path()
             )
-            self.found = path if os.access(path, os.X_OK) else self.command
-        return self.found
+            self.direct_path = path if os.access(path, os.X_OK) else self.command
+        return self.direct_path
 
-    def where(self) -> str:
+    def program_path(self) -> str:
         ran = subprocess.run(
             [self.command, "--where"],
             stdout=subprocess.PIPE,
@@ -91,13 +91,17 @@ class Predator:
         )
         return os.fsdecode(ran.stdout).rstrip("\n")
 
-    def told(self, words: Sequence[str | bytes], good: Sequence[int] = (0,), **how: Any) -> str:
+    def quiet_output(
+        self, words: Sequence[str | bytes], good: Sequence[int] = (0,), **how: Any
+    ) -> str:
         """What a call prints that reads or writes traces alone, and of whose faults nothing is said."""
-        return self.text(words, good, command=self.direct(), stderr=subprocess.DEVNULL, **how)
+        return self.output(
+            words, good, command=self.direct_command(), stderr=subprocess.DEVNULL, **how
+        )
 
-    def has(self, command: str) -> bool:
+    def has_command(self, command: str) -> bool:
         """Whether the program knows a command, by its lines of usage."""
-        if self.known is None:
+        if self.commands is None:
             ran = subprocess.run(
                 [self.command],
                 stdout=subprocess.PIPE,
@@ -110,79 +114,88 @@ class Predator:
                     or "the command predator fails without a message",
                     127,
                 )
-            self.known = set(
+            self.commands = set(
                 re.findall(r"^usage: predator (\w+)", ran.stdout.decode("latin-1"), re.MULTILINE)
             )
-        return command in self.known
+        return command in self.commands
 
-    def report(self, words: Sequence[str], **how: Any) -> Report:
-        return Report(self.text(words, REPORTED, **how), "the report of " + words[0])
+    def read_report(self, words: Sequence[str], **how: Any) -> Report:
+        return Report(self.output(words, REPORT_STATUSES, **how), "the report of " + words[0])
 
-    def explained(self, words: Sequence[str]) -> Explained:
-        return Explained(self.text(["explain", *words], REPORTED, stderr=subprocess.DEVNULL))
+    def explain_line(self, words: Sequence[str]) -> Explanation:
+        return Explanation(
+            self.output(["explain", *words], REPORT_STATUSES, stderr=subprocess.DEVNULL)
+        )
 
-    def placed(self, trace: str, name: str | bytes, size: int) -> Placed | None:
+    def find_placement(self, trace: str, name: str | bytes, size: int) -> Placement | None:
         """Where `place` puts an object's words apart by their harts, or none where it has no such object or room."""
         try:
-            text = self.told(["place", "--size", str(size), "--", trace, name])
+            text = self.quiet_output(["place", "--size", str(size), "--", trace, name])
         except Refused:
             return None
-        return Placed(text)
+        return Placement(text)
 
-    def counted_of_file(self, trace: str, reader: "Reader") -> Counted:
+    def read_trace(self, trace: str, reader: "TraceReader") -> PassResult:
         """What a reader tells of a trace."""
-        return reader.told(self.told([*reader.words, "--", trace], reader.good))
+        return reader.parse(self.quiet_output([*reader.words, "--", trace], reader.good_statuses))
 
-    def all_counted_of_file(self, trace: str, readers: "Sequence[Reader]") -> list[Counted]:
+    def read_trace_by_all(self, trace: str, readers: "Sequence[TraceReader]") -> list[PassResult]:
         """What readers tell of a trace, side by side."""
         with concurrent.futures.ThreadPoolExecutor(max_workers=min(4, os.cpu_count() or 1)) as pool:
-            return list(pool.map(functools.partial(self.counted_of_file, trace), readers))
+            return list(pool.map(functools.partial(self.read_trace, trace), readers))
 
-    def counted_of_run(
-        self, words: list[str], readers: "Sequence[Reader]", kept: str | None = None
-    ) -> list[Counted]:
+    def read_trace_of_run(
+        self, words: list[str], readers: "Sequence[TraceReader]", kept: str | None = None
+    ) -> list[PassResult]:
         """What readers tell of the trace of a run, which is written to a file if one is named. Else it goes through pipes where the program
         can have it so, and else through a file that is lost."""
         if kept is not None:
             self.record(words, kept)
-            return self.all_counted_of_file(kept, readers)
+            return self.read_trace_by_all(kept, readers)
         with contextlib.suppress(Refused, BrokenPipeError):
-            return self.counted_by_pipes(words, readers)
+            return self.read_run_by_pipes(words, readers)
         with tempfile.TemporaryDirectory(prefix="predator-view-") as folder:
             trace = os.path.join(folder, "trace")
             self.record(words, trace)
-            return self.all_counted_of_file(trace, readers)
+            return self.read_trace_by_all(trace, readers)
 
     def record(self, words: list[str], trace: str) -> None:
         """Has a run write its trace to a file. (What the program puts out was shown with its report.)"""
-        self.text(
-            with_trace([words[0], "--output", os.devnull, *words[1:]], trace),
-            REPORTED,
+        self.output(
+            add_trace_option([words[0], "--output", os.devnull, *words[1:]], trace),
+            REPORT_STATUSES,
             stderr=subprocess.PIPE,
         )
 
-    def counted_by_pipes(self, words: list[str], readers: "Sequence[Reader]") -> list[Counted]:
-        return self.run_by_pipes(words, readers)[1]
+    def read_run_by_pipes(
+        self, words: list[str], readers: "Sequence[TraceReader]"
+    ) -> list[PassResult]:
+        return self.run_and_read_by_pipes(words, readers)[1]
 
-    def run_by_pipes(
-        self, words: list[str], readers: "Sequence[Reader]", is_told: bool = True
-    ) -> tuple[str, list[Counted]]:
+    def run_and_read_by_pipes(
+        self, words: list[str], readers: "Sequence[TraceReader]", is_told: bool = True
+    ) -> tuple[str, list[PassResult]]:
         """The report of a run, and what readers tell of its trace; what it says on standard error is kept only if that is told."""
         said = subprocess.PIPE if is_told else subprocess.DEVNULL
         return self.read_output(
-            lambda name: with_trace(words, name), readers, good=REPORTED, stderr=said
+            lambda name: add_trace_option(words, name), readers, good=REPORT_STATUSES, stderr=said
         )
 
-    def counted_of_move(self, trace: str, table: str, readers: "Sequence[Reader]") -> list[Counted]:
+    def read_moved_trace(
+        self, trace: str, table: str, readers: "Sequence[TraceReader]"
+    ) -> list[PassResult]:
         """What readers tell of a trace whose words have moved by a table, which is written nowhere."""
         words = ["move", "--", trace, table]
         return self.read_output(
-            lambda name: [*words, name], readers, command=self.direct(), stderr=subprocess.DEVNULL
+            lambda name: [*words, name],
+            readers,
+            command=self.direct_command(),
+            stderr=subprocess.DEVNULL,
         )[1]
 
     def read_output(
-        self, words: Callable[[str], list[str]], readers: "Sequence[Reader]", **how: Any
-    ) -> tuple[str, list[Counted]]:
+        self, words: Callable[[str], list[str]], readers: "Sequence[TraceReader]", **how: Any
+    ) -> tuple[str, list[PassResult]]:
         """What a call prints, and what readers tell of the trace that it writes; its words are made of the trace's name."""
         with concurrent.futures.ThreadPoolExecutor(
             max_workers=len(readers) + 1
@@ -191,44 +204,46 @@ class Predator:
             counts = []
             for reader in readers:
                 take, give = os.pipe()
-                counts.append(pool.submit(self.count_from, take, reader))
+                counts.append(pool.submit(self.read_pipe, take, reader))
                 mains.append(open_ends.enter_context(open(give, "wb", 0)))
             take, give = os.pipe()
-            copying = threading.Thread(target=copy, args=(take, mains))
+            copying = threading.Thread(target=copy_pipe, args=(take, mains))
             copying.start()
             try:
-                text = self.text(words(f"/dev/fd/{give}"), pass_fds=(give,), **how)
+                text = self.output(words(f"/dev/fd/{give}"), pass_fds=(give,), **how)
             finally:
                 os.close(give)
                 copying.join()
                 open_ends.close()
         return text, [it.result() for it in counts]
 
-    def count_from(self, take: int, reader: "Reader") -> Counted:
+    def read_pipe(self, take: int, reader: "TraceReader") -> PassResult:
         with open(take, "rb", 0) as trace:
-            return reader.told(self.told([*reader.words, "-"], reader.good, stdin=trace))
+            return reader.parse(
+                self.quiet_output([*reader.words, "-"], reader.good_statuses, stdin=trace)
+            )
 
 
-class Reader(NamedTuple):
+class TraceReader(NamedTuple):
     """A command that reads a trace: its words without that, the statuses of an answer, and what its text is."""
 
     words: list[str]
-    good: tuple[int, ...]
-    told: Callable[[str], Counted]
+    good_statuses: tuple[int, ...]
+    parse: Callable[[str], PassResult]
 
 
-def misses_under(layout: tuple[int, int]) -> Reader:
-    return Reader(["misses", *layout_words(layout)], (0,), Misses)
+def misses_reader(layout: tuple[int, int]) -> TraceReader:
+    return TraceReader(["misses", *layout_words(layout)], (0,), Misses)
 
 
-def blame_under(layout: tuple[int, int]) -> Reader:
-    return Reader(["blame", *layout_words(layout)], (0,), Blame)
+def blame_reader(layout: tuple[int, int]) -> TraceReader:
+    return TraceReader(["blame", *layout_words(layout)], (0,), Blame)
 
 
-def each_line(layout: tuple[int, int]) -> Reader:
+def every_line_reader(layout: tuple[int, int]) -> TraceReader:
     """A report of every line that was ever taken."""
-    return Reader(
-        ["replay", "--set", "tracking=1,report=1", *layout_words(layout)], REPORTED, Report
+    return TraceReader(
+        ["replay", "--set", "tracking=1,report=1", *layout_words(layout)], REPORT_STATUSES, Report
     )
 
 
@@ -236,15 +251,15 @@ def layout_words(layout: tuple[int, int]) -> list[str]:
     return ["--size", str(layout[0]), "--shift", str(layout[1])]
 
 
-def with_trace(words: list[str], name: str) -> list[str]:
+def add_trace_option(words: list[str], name: str) -> list[str]:
     """The words of a run with one option more, before a `--`."""
     return [words[0], "--trace", name, *words[1:]]
 
 
-def copy(take: int, ends: list[Any]) -> None:
+def copy_pipe(take: int, ends: list[Any]) -> None:
     """Copies a pipe to others, and closes them; one whose reader is gone is left out."""
     with open(take, "rb", 0) as source:
-        while piece := source.read(PIECE):
+        while piece := source.read(PIECE_BYTES):
             for end in list(ends):
                 try:
                     left = memoryview(piece)
@@ -256,12 +271,12 @@ def copy(take: int, ends: list[Any]) -> None:
         end.close()
 
 
-def stacks(predator: Predator, program: str, words: Sequence[str]) -> tuple[int, int] | None:
+def stack_range(predator: Predator, program: str, words: Sequence[str]) -> tuple[int, int] | None:
     """The lowest and highest address of the stacks, or none where the program can't tell."""
     with contextlib.suppress(Fault):
         found = re.search(
             r"^stacks (0x[0-9a-f]+) (0x[0-9a-f]+)$",
-            predator.text(["check", program, *words], stderr=subprocess.DEVNULL),
+            predator.output(["check", program, *words], stderr=subprocess.DEVNULL),
             re.MULTILINE,
         )
         if found:
@@ -269,7 +284,7 @@ def stacks(predator: Predator, program: str, words: Sequence[str]) -> tuple[int,
     return None
 
 
-def setting(words: Sequence[str], key: str) -> int:
+def setting_value(words: Sequence[str], key: str) -> int:
     """A setting of a call, by its file and its words, and else the usual one; `words` are those that name settings."""
     import tomllib
 

@@ -6,13 +6,13 @@ from typing import Literal
 
 # What view does with a file: it runs a program for RV32, records a native one, replays a trace or counts it under many layouts, and shows a
 # report.
-How = Literal["run", "native", "replay", "sweep", "caches", "file"]
-IS = {"run": "a program for RV32", "native": "a native program", "replay": "a trace"}
+Action = Literal["run", "native", "replay", "sweep", "caches", "file"]
+KIND_NAMES = {"run": "a program for RV32", "native": "a native program", "replay": "a trace"}
 # The number of x86-64 in an ELF file.
 X86_64 = b"\x3e\x00"
 
 
-def front(path: str) -> bytes:
+def first_bytes(path: str) -> bytes:
     """The first bytes of a file that can be read again, or none."""
     if os.path.isfile(path):
         with contextlib.suppress(OSError), open(path, "rb") as file:
@@ -22,12 +22,12 @@ def front(path: str) -> bytes:
 
 def has_pcs(path: str) -> bool:
     """Whether a file is a trace that has the instruction of each access."""
-    return front(path)[:8] == b"PRDTRC03"
+    return first_bytes(path)[:8] == b"PRDTRC03"
 
 
-def how_of(path: str) -> How:
+def action_for(path: str) -> Action:
     """What is done with a file. (What is wrong with a program for another machine the program says.)"""
-    head = front(path)
+    head = first_bytes(path)
     if head[:6] == b"PRDTRC":
         return "replay"
     if head[:4] == b"\x7fELF":
@@ -35,7 +35,7 @@ def how_of(path: str) -> How:
     return "file"
 
 
-def other(text: str) -> str:
+def describe_other_text(text: str) -> str:
     """What a text is that is no report, as far as its beginning tells, and what to do with it."""
     if text.startswith("PRDTRC"):
         return "a trace: use `predator view replay -` to read one from standard input"

@@ -12,18 +12,18 @@ from typing import Iterator, Sequence
 
 from view.reading.calls import EXPLAIN, RECORDS, Call
 from view.faults import Fault
-from view.reading import guard
 from view.reading.engine import Predator, launcher
 
 # What the recorder ends with where it refuses words, files or programs.
-REFUSED = (125, 126, 127)
-# How much of a disk a trace takes that is kept for the call alone.
-MAX_DISK = "2G"
+REFUSAL_STATUSES = (125, 126, 127)
 # Signals that end a program: the first two are handed on to it, and the others come to it from the terminal.
-HANDED_ON, FROM_TERMINAL = (signal.SIGTERM, signal.SIGHUP), (signal.SIGINT, signal.SIGQUIT)
+FORWARDED_SIGNALS, TERMINAL_SIGNALS = (signal.SIGTERM, signal.SIGHUP), (
+    signal.SIGINT,
+    signal.SIGQUIT,
+)
 
 
-def parted(words: list[str], program: str) -> tuple[list[str], list[str]]:
+def split_words(words: list[str], program: str) -> tuple[list[str], list[str]]:
     """The words of the recorder and those of a replay; the program's name is neither."""
     recorder: list[str] = []
     replay: list[str] = []
@@ -47,44 +47,50 @@ def is_built(program: str) -> bool:
     return False
 
 
-def marks_of(call: Call) -> list[str]:
+def recorder_flags(call: Call) -> list[str]:
     """The words of the recorder that have no value: those of the call, the recorder that the program is for, and that the trace is to have
     no instructions of its accesses where these have no use."""
-    marks = dict.fromkeys(call.marks)
+    marks = dict.fromkeys(call.recorder_flags)
     if is_built(call.subject):
         marks["--built"] = None
-    if "--pcs" not in marks and not (call.number("explain", EXPLAIN) and Predator().has("blame")):
+    if "--pcs" not in marks and not (
+        call.number_option("explain", EXPLAIN) and Predator().has_command("blame")
+    ):
         marks["--no-pcs"] = None
     return list(marks)
 
 
 @contextlib.contextmanager
-def traced(call: Call) -> Iterator[None]:
+def keep_run_trace(call: Call) -> Iterator[None]:
     """Has the run of a guest whose misses are counted write its trace to a file, which is lost at the end, where repairs can be tried."""
-    if call.how != "run" or call.value_of("--trace") is not None or not Predator().has("move"):
+    if (
+        call.action != "run"
+        or call.option_value("--trace") is not None
+        or not Predator().has_command("move")
+    ):
         yield
         return
-    with tempfile.TemporaryDirectory(prefix=guard.folder_prefix()) as folder:
-        call.spare = os.path.join(folder, "trace")
+    with tempfile.TemporaryDirectory(prefix="predator-view-") as folder:
+        call.run_trace = os.path.join(folder, "trace")
         yield
 
 
-def status_of(words: Sequence[str]) -> int:
+def run_recorder(words: Sequence[str]) -> int:
     """What the recorder ends with. What would end this process meanwhile ends the program that is recorded, and what was recorded until
     then is shown."""
     came: list[int] = []
     runs: list[subprocess.Popen[bytes]] = []
 
     def take(number: int, frame: FrameType | None) -> None:
-        if number in HANDED_ON and not runs:
+        if number in FORWARDED_SIGNALS and not runs:
             came.append(number)
-        for run in runs if number in HANDED_ON else ():
+        for run in runs if number in FORWARDED_SIGNALS else ():
             run.send_signal(number)
 
     # (what is ignored stays so, here and in the program)
     before = {
         number: old
-        for number in (*HANDED_ON, *FROM_TERMINAL)
+        for number in (*FORWARDED_SIGNALS, *TERMINAL_SIGNALS)
         if (old := signal.getsignal(number)) is not signal.SIG_IGN
     }
     for number in before:
@@ -99,69 +105,41 @@ def status_of(words: Sequence[str]) -> int:
             signal.signal(number, old)
 
 
-def value_in(words: Sequence[str], option: str) -> str | None:
-    """The value that words give for an option, or none."""
-    for at, word in enumerate(words):
-        name, has_value, value = word.partition("=")
-        if name == option:
-            return value if has_value else words[at + 1]
-    return None
-
-
-def stamp(path: str) -> tuple[int, int]:
-    """A file's size and the time of its last change; zeroes where it isn't there."""
-    with contextlib.suppress(OSError):
-        about = os.stat(path)
-        return about.st_size, about.st_mtime_ns
-    return 0, 0
-
-
-def check_trace(trace: str, old: tuple[int, int], status: int) -> None:
-    """Refuses to go on where nothing was recorded, and gives a trace an end that was cut by a kill."""
-    if stamp(trace) == old or stamp(trace)[0] == 0:
-        if status in REFUSED or 0 < status < 128:
-            raise Fault(
-                f"`predator native` failed with status {status}",
-                status if status in REFUSED[2:] else 2,
-            )
-        number = -status if status < 0 else status - 128
-        name = signal.Signals(number).name if number in set(signal.Signals) else "no signal"
-        raise Fault(
-            f"the recorder ended before it recorded anything: {name}", 128 + number if number else 2
-        )
-    if status in (-signal.SIGKILL, 128 + signal.SIGKILL) and os.path.isfile(trace):
-        subprocess.run(
-            [launcher(), "native", "--mend", trace],
-            stdin=subprocess.DEVNULL,
-            stdout=subprocess.DEVNULL,
-            stderr=subprocess.DEVNULL,
-        )
-
-
 @contextlib.contextmanager
-def recorded(call: Call) -> Iterator[None]:
+def record_program(call: Call) -> Iterator[None]:
     """Records the program of a call, where it is one of this machine, and has the call name its trace as long as that is there. What the
     program prints goes to standard error; its status is the trace's outcome."""
-    if call.how != "native":
+    if call.action != "native":
         yield
         return
-    guard.remove_abandoned()
-    guard.divide()
-    with guard.own_folder() as folder:
-        program = call.subject
-        recorder, replay = parted(call.words, program)
-        trace = value_in(recorder, "--trace") or os.path.join(folder, "trace")
+    with tempfile.TemporaryDirectory(prefix="predator-view-") as folder:
+        trace, program = os.path.join(folder, "trace"), call.subject
+        recorder, replay = split_words(call.words, program)
         # (as a shell has it, a name with a slash is a file, and another one is looked for)
         name = (
             program if "/" in program or not os.path.isfile(program) else os.path.join(".", program)
         )
-        words = [launcher(), "native", *marks_of(call)]
-        if value_in(recorder, "--trace") is None:
-            words += ["--trace", trace]
-            if value_in(recorder, "--max-disk") is None:
-                words += ["--max-disk", MAX_DISK]
-        old = stamp(trace)
-        status = status_of([*words, *recorder, "--", name, *call.own[1:]])
-        check_trace(trace, old, status)
-        call.how, call.subject, call.words, call.own = "replay", trace, [trace, *replay], []
+        words = [
+            launcher(),
+            "native",
+            *recorder_flags(call),
+            *recorder,
+            "--trace",
+            trace,
+            "--",
+            name,
+            *call.guest_words[1:],
+        ]
+        status = run_recorder(words)
+        if not os.path.exists(trace):
+            raise Fault(
+                f"`predator native` failed with status {status}",
+                status if status in REFUSAL_STATUSES[2:] else 2,
+            )
+        call.action, call.subject, call.words, call.guest_words = (
+            "replay",
+            trace,
+            [trace, *replay],
+            [],
+        )
         yield

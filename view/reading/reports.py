@@ -7,7 +7,7 @@ import re
 from typing import Callable, ClassVar, Literal, NamedTuple, TypeVar
 
 from view.faults import Fault
-from view.reading.file_kinds import other
+from view.reading.file_kinds import describe_other_text
 
 SIZES = [1 << it for it in range(2, 11)]
 ANY, MANY = r"-?0x[0-9a-f]{8,16}", r"\d{1,20}"
@@ -38,7 +38,7 @@ Verdict = Literal["false", "true", "mixed"]
 # The words of a line, one text for all lines.
 KINDS: dict[str, LineKind] = {"observed": "observed", "shifted": "shifted", "doubled": "doubled"}
 VERDICTS: dict[str, Verdict] = {"false": "false", "true": "true", "mixed": "mixed"}
-A = TypeVar("A", bound="Rows")
+AnyRows = TypeVar("AnyRows", bound="LineRows")
 
 
 class Site(NamedTuple):
@@ -76,27 +76,27 @@ class Word(NamedTuple):
         return self.reads + self.writes
 
 
-def bytes_of(name: str) -> bytes:
+def name_bytes(name: str) -> bytes:
     """The bytes of a name that is printed."""
     return re.sub(
         rb"\\x([0-9a-f]{2})", lambda escape: bytes([int(escape[1], 16)]), name.encode("latin-1")
     )
 
 
-class Rows:
+class LineRows:
     """The rows of a listed line in a text: `stands` are those that tell what stands on it, one text for all lines where it is the same, and
     its words are between two places."""
 
-    __slots__ = ("text", "stands", "begin", "end")
+    __slots__ = ("text", "object_rows", "begin", "end")
     # The call sites of blocks by their rows: blocks are many, and chains few.
     chains: ClassVar[dict[str, tuple[Site, ...]]] = {}
 
     def __init__(self, text: str, stands: str, begin: int, end: int) -> None:
-        self.text, self.stands, self.begin, self.end = text, stands, begin, end
+        self.text, self.object_rows, self.begin, self.end = text, stands, begin, end
 
     def objects(self) -> list[Symbol | Block]:
         """The symbols and the blocks on the line, in the report's order."""
-        return objects_of(self.stands)
+        return parse_objects(self.object_rows)
 
     def words(self) -> list[Word]:
         return [
@@ -112,7 +112,7 @@ class Rows:
         ]
 
 
-def objects_of(rows: str) -> list[Symbol | Block]:
+def parse_objects(rows: str) -> list[Symbol | Block]:
     """What some rows say that stands on a line."""
     found: list[Symbol | Block] = []
     for match in OBJECT.finditer(rows):
@@ -126,23 +126,23 @@ def objects_of(rows: str) -> list[Symbol | Block]:
                     int(length),
                     int(born),
                     None if died is None else int(died),
-                    chain(sites),
+                    parse_sites(sites),
                 )
             )
     return found
 
 
-def chain(rows: str) -> tuple[Site, ...]:
+def parse_sites(rows: str) -> tuple[Site, ...]:
     """The call sites that some rows tell."""
-    found = Rows.chains.get(rows)
+    found = LineRows.chains.get(rows)
     if found is None:
-        found = Rows.chains[rows] = tuple(
+        found = LineRows.chains[rows] = tuple(
             Site(int(addr, 16), name) for addr, name in SITE.findall(rows)
         )
     return found
 
 
-class Line(Rows):
+class Line(LineRows):
     """A listed line of a report."""
 
     __slots__ = ("kind", "base", "size", "start", "count", "verdict")
@@ -150,7 +150,7 @@ class Line(Rows):
     def __init__(
         self, text: str, stands: str, begin: int, end: int, fields: tuple[str, ...]
     ) -> None:
-        self.text, self.stands, self.begin, self.end = text, stands, begin, end
+        self.text, self.object_rows, self.begin, self.end = text, stands, begin, end
         kind, base, size, start, count, verdict, _ = fields
         self.kind, self.verdict = KINDS[kind], VERDICTS[verdict]
         self.base, self.size, self.start, self.count = (
@@ -161,7 +161,7 @@ class Line(Rows):
         )
 
 
-class Missed(Rows):
+class MissLine(LineRows):
     """A line of a count of misses."""
 
     __slots__ = ("base", "cold", "useful", "useless")
@@ -169,7 +169,7 @@ class Missed(Rows):
     def __init__(
         self, text: str, stands: str, begin: int, end: int, fields: tuple[str, ...]
     ) -> None:
-        self.text, self.stands, self.begin, self.end = text, stands, begin, end
+        self.text, self.object_rows, self.begin, self.end = text, stands, begin, end
         base, cold, useful, useless, _ = fields
         self.base, self.cold, self.useful, self.useless = (
             int(base, 16),
@@ -179,14 +179,14 @@ class Missed(Rows):
         )
 
 
-def listed(
+def parse_lines(
     text: str,
     pattern: re.Pattern[str],
-    kind: Callable[[str, str, int, int, tuple[str, ...]], A],
+    kind: Callable[[str, str, int, int, tuple[str, ...]], AnyRows],
     of: str,
-) -> tuple[list[A], int | None]:
+) -> tuple[list[AnyRows], int | None]:
     """The lines that a text lists, each with its rows, and where the text goes on behind them."""
-    found: list[A] = []
+    found: list[AnyRows] = []
     known: dict[str, str] = {}
     place = text.find("\nline ") + 1
     if not place:
@@ -206,7 +206,7 @@ def listed(
     return found, place
 
 
-def head(text: str, of: str) -> dict[str, str]:
+def parse_head(text: str, of: str) -> dict[str, str]:
     """The first lines of a text, as a word and what follows it, and whether the text is whole."""
     fields: dict[str, str] = {}
     for row in text[:2000].split("\n")[1:8]:
@@ -217,15 +217,15 @@ def head(text: str, of: str) -> dict[str, str]:
     return fields
 
 
-def number(fields: dict[str, str], name: str, of: str) -> int:
+def head_number(fields: dict[str, str], name: str, of: str) -> int:
     if not re.fullmatch(MANY, fields.get(name, "")):
         raise Fault(f"{of} has no line `{name} N` in its head")
     return int(fields[name])
 
 
-def sites_of(text: str) -> set[int]:
+def site_addresses(text: str) -> set[int]:
     """The addresses of all call sites in a text."""
-    return {it.addr for rows in {it[0] for it in SITES.finditer(text)} for it in chain(rows)}
+    return {it.addr for rows in {it[0] for it in SITES.finditer(text)} for it in parse_sites(rows)}
 
 
 class Report:
@@ -242,14 +242,16 @@ class Report:
                 if re.fullmatch(r"predator report \d+", first)
                 else "isn't a report"
             )
-            if other(text):
-                raise Fault(f"{of} isn't a report but {other(text)}")
+            if describe_other_text(text):
+                raise Fault(f"{of} isn't a report but {describe_other_text(text)}")
             raise Fault(f"{of} {what}: the first line isn't `predator report 1`")
-        fields = head(text, of)
+        fields = parse_head(text, of)
         self.outcome = fields.get("outcome", "")
         if not OUTCOME.fullmatch(self.outcome):
             raise Fault(f"{of} has no valid line `outcome`")
-        self.steps, self.accesses = number(fields, "steps", of), number(fields, "accesses", of)
+        self.steps, self.accesses = head_number(fields, "steps", of), head_number(
+            fields, "accesses", of
+        )
         layout = re.fullmatch(rf"{NUMBER} {NUMBER}", fields.get("layout", ""))
         told = re.fullmatch(rf"{NUMBER} ({MANY}|none) {NUMBER}", fields.get("thresholds", ""))
         if (
@@ -261,8 +263,8 @@ class Report:
             raise Fault(f"{of} has no valid line `layout` or `thresholds`")
         self.size, self.offset = int(layout[1]), int(layout[2])
         self.thresholds = told.groups()
-        self.lines, place = listed(text, LINE, Line, of)
-        if len(self.lines) != number(fields, "lines", of):
+        self.lines, place = parse_lines(text, LINE, Line, of)
+        if len(self.lines) != head_number(fields, "lines", of):
             raise Fault(
                 f"{of}: the header says {fields['lines']} lines, the file has {len(self.lines)}"
             )
@@ -272,18 +274,18 @@ class Report:
         }:
             raise Fault(f"{of} has lines of another size than its layout")
         # What native/predator-native prints behind a report: where a call site stands.
-        self.where = {int(it[1], 16): it[2] for it in WHERE.finditer(text, place or 0)}
+        self.site_places = {int(it[1], 16): it[2] for it in WHERE.finditer(text, place or 0)}
 
     def ended_well(self) -> bool:
         return self.outcome == "exit 0"
 
     def sites(self) -> set[int]:
-        return sites_of(self.text)
+        return site_addresses(self.text)
 
     def observed(self) -> list[Line]:
         return [it for it in self.lines if it.kind == "observed"]
 
-    def at(self) -> dict[int, Line]:
+    def observed_by_base(self) -> dict[int, Line]:
         """The observed lines by their bases."""
         return {it.base: it for it in self.observed()}
 
@@ -302,7 +304,9 @@ class Misses:
         if not found or not total:
             raise Fault(f"{of}: unexpected output of `predator misses`")
         self.size, self.offset, self.accesses = (int(it) for it in found.groups()[:3])
-        self.text, self.lines = text, {it.base: it for it in listed(text, MISSES, Missed, of)[0]}
+        self.text, self.lines = text, {
+            it.base: it for it in parse_lines(text, MISSES, MissLine, of)[0]
+        }
         self.total = {
             name: int(count) for name, count in zip(("cold", "useful", "useless"), total.groups())
         }
@@ -310,30 +314,34 @@ class Misses:
             raise Fault(f"{of}: the header says {found[4]} lines, the text has {len(self.lines)}")
 
     def sites(self) -> set[int]:
-        return sites_of(self.text)
+        return site_addresses(self.text)
 
 
-class Pair(NamedTuple):
+class InstructionPair(NamedTuple):
     """Two instructions: the second one takes the line from the first so often, so often for one word."""
 
     victim: int
-    taker: int
-    taken: int
-    same: int
+    invalidator: int
+    times: int
+    same_word_times: int
 
 
-class Takings(NamedTuple):
+class LineInvalidations(NamedTuple):
     """What takes a line: pairs of instructions, and how often each hart takes it from which."""
 
     base: int
-    pairs: list[Pair]
+    pairs: list[InstructionPair]
     harts: dict[tuple[int, int], int]
 
 
-def takings(base: int, rows: str) -> Takings:
+def parse_invalidations(base: int, rows: str) -> LineInvalidations:
     """What the rows of a line say that take it."""
-    pairs = [Pair(int(a, 16), int(b, 16), int(c), int(d)) for a, b, c, d in PAIR.findall(rows)]
-    return Takings(base, pairs, {(int(a), int(b)): int(c) for a, b, c in FROM.findall(rows)})
+    pairs = [
+        InstructionPair(int(a, 16), int(b, 16), int(c), int(d)) for a, b, c, d in PAIR.findall(rows)
+    ]
+    return LineInvalidations(
+        base, pairs, {(int(a), int(b)): int(c) for a, b, c in FROM.findall(rows)}
+    )
 
 
 class Blame:
@@ -350,12 +358,12 @@ class Blame:
         if len(self.places) != int(head[4]):
             raise Fault(f"{of}: the header says {head[4]} lines, the text has {len(self.places)}")
 
-    def takings(self, base: int) -> Takings | None:
+    def invalidations(self, base: int) -> LineInvalidations | None:
         place = self.places.get(base)
-        return takings(base, self.text[slice(*place)]) if place else None
+        return parse_invalidations(base, self.text[slice(*place)]) if place else None
 
 
-class Explained:
+class Explanation:
     """What `explain` says of a line."""
 
     def __init__(self, text: str, of: str = "explain") -> None:
@@ -374,15 +382,15 @@ class Explained:
             int(line[4]),
         )
         self.steps, self.accesses = int(steps[1]), int(accesses[1])
-        self.takings = takings(self.base, text)
-        self.pairs, self.harts = self.takings.pairs, self.takings.harts
+        self.invalidations = parse_invalidations(self.base, text)
+        self.pairs, self.harts = self.invalidations.pairs, self.invalidations.harts
         sites = re.findall(
             rf"^site {ADDRESS} reads (\d+) writes (\d+) (hart \d+|many) (\S+)$", text, re.MULTILINE
         )
         self.sites = {int(it[0], 16): (int(it[1]), int(it[2]), it[3], it[4]) for it in sites}
 
 
-class Placed:
+class Placement:
     """What `place` says: where an object lies, where its words go, by their old places, with whose they are, and how often all lines are
     taken before and after."""
 

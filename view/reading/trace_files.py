@@ -31,7 +31,7 @@ STEADY = 100
 READ = 1
 
 
-class Use(NamedTuple):
+class HartUse(NamedTuple):
     """How a hart uses a word: reads, writes, and the bytes of it, as bits."""
 
     reads: int
@@ -43,10 +43,10 @@ class Use(NamedTuple):
 
 
 # The use of a word by each hart.
-ByHart = dict[int, Use]
+ByHart = dict[int, HartUse]
 
 
-def pieces(data: mmap.mmap) -> Iterator[tuple[int, bytes]]:
+def access_pieces(data: mmap.mmap) -> Iterator[tuple[int, bytes]]:
     """The accesses of a trace of version 1, in pieces, in order, each with where it begins."""
     place, many, end = HEADER, FEW, len(data)
     while place < end:
@@ -68,7 +68,7 @@ def pieces(data: mmap.mmap) -> Iterator[tuple[int, bytes]]:
         many = FEW
 
 
-class Running:
+class ThreadPhase:
     """How often each access is made while threads run: from the first access of another hart than the first one on, up to the last such
     access. `front` is the first part of a long trace, a trace too, or empty."""
 
@@ -77,7 +77,7 @@ class Running:
         self.front = b""
         pending: "Counter[int]" = Counter()
         first, accesses, enough, step = b"", 0, 0, len(data) // (ACCESS * ENOUGH) + 1
-        for at, (place, piece) in enumerate(pieces(data)):
+        for at, (place, piece) in enumerate(access_pieces(data)):
             # (a hart is below 256, and has its number in one byte)
             harts = piece[1::ACCESS]
             first = first or harts[:1]
@@ -103,28 +103,28 @@ class Running:
                 )
 
 
-class Uses:
+class WordUses:
     """Who uses which words of a trace while threads run."""
 
     def __init__(self, path: str) -> None:
         with open(path, "rb") as file, mmap.mmap(file.fileno(), 0, access=mmap.ACCESS_READ) as data:
-            running = Running(data)
+            running = ThreadPhase(data)
         self.front = running.front
         self.words: dict[int, ByHart] = {}
         self.cached: dict[int, ByHart] = {}
         for key, much in running.counts.items():
             addr = key >> 24 & 0xFFFFFFFF
-            self.note(addr & ~3, key, addr & 3, much)
+            self.add(addr & ~3, key, addr & 3, much)
 
-    def note(self, word: int, key: int, at: int, much: int) -> None:
+    def add(self, word: int, key: int, at: int, much: int) -> None:
         hart, is_read, size = key >> 8 & 0xFFFF, key & 0xFF == READ, key >> 56
         own = self.words.setdefault(word, {})
         reads, writes, used = own.get(hart, (0, 0, 0))
-        own[hart] = Use(
+        own[hart] = HartUse(
             reads + much * is_read, writes + much * (not is_read), used | ((1 << size) - 1) << at
         )
 
-    def of(self, word: int) -> ByHart:
+    def users_of(self, word: int) -> ByHart:
         """The harts that use a word, without those that only look at it."""
         if word in self.cached or word not in self.words:
             return self.cached.get(word, {})
@@ -140,19 +140,19 @@ class Uses:
 
     def is_mixed(self, word: int) -> bool:
         """Whether harts use different bytes of a word, one of them to write."""
-        own = self.of(word).values()
+        own = self.users_of(word).values()
         return len({it.bytes for it in own}) > 1 and any(it.writes for it in own)
 
 
-def uses_of(predator: Predator, trace: str) -> Uses | None:
+def read_word_uses(predator: Predator, trace: str) -> WordUses | None:
     """Who uses the words of a trace, or none where it can't be read so."""
     with tempfile.TemporaryDirectory(prefix="predator-view-") as folder:
         for at in range(3):
             with open(trace, "rb") as file:
                 version = file.read(8)
             if version == b"PRDTRC01":
-                return Uses(trace)
+                return WordUses(trace)
             other = os.path.join(folder, str(at))
-            predator.told(["convert", "--", trace, other])
+            predator.quiet_output(["convert", "--", trace, other])
             trace = other
     return None

@@ -17,7 +17,7 @@ ACCESSES = {
 PIECE = 1024
 
 
-def accesses_of(trace: str) -> int:
+def trace_accesses(trace: str) -> int:
     """How many accesses a trace says that it has, or none where it has no end."""
     with open(trace, "rb") as file:
         file.seek(max(os.fstat(file.fileno()).st_size - PART_END.size, 0))
@@ -27,7 +27,7 @@ def accesses_of(trace: str) -> int:
     return int(PART_END.unpack(end)[-1])
 
 
-def other(data: mmap.mmap, place: int) -> int:
+def other_record_size(data: mmap.mmap, place: int) -> int:
     """The size of a record that is no access, or 0 at the end or what is no record."""
     tag = data[place] if place < len(data) else END
     if tag not in SIZES:
@@ -35,7 +35,7 @@ def other(data: mmap.mmap, place: int) -> int:
     return SIZES[tag] + (struct.unpack_from("<H", data, place + 10)[0] if tag == SYMBOL else 0)
 
 
-def cut(trace: str, most: int, out: str) -> int:
+def write_prefix(trace: str, most: int, out: str) -> int:
     """Writes the first accesses of a trace to a file, with what lies between them. How many these are is what comes back: a few more than
     `most`, or all."""
     with open(trace, "rb") as file, mmap.mmap(file.fileno(), 0, access=mmap.ACCESS_READ) as data:
@@ -49,7 +49,7 @@ def cut(trace: str, most: int, out: str) -> int:
             if match is not None:
                 place, found = match.end(), found + by
                 continue
-            size = other(data, place)
+            size = other_record_size(data, place)
             if not size:
                 break
             place += size

@@ -3,9 +3,9 @@
 import re
 from typing import Callable, Iterable, Mapping, NamedTuple, Sequence
 
-from view.model.object_keys import Key, OfBlocks, OfStack
-from view.model.objects import Thing, Told
-from view.reading.reports import Placed
+from view.model.object_keys import Key, BlocksKey, StackKey
+from view.model.objects import DataObject, WordUse
+from view.reading.reports import Placement
 
 # A word whose own misses are fewer than one in so many accesses is one thread's, but for reads at the start and the end.
 SELDOM = 20
@@ -33,14 +33,14 @@ def attribute(line: int) -> str:
     return f"__attribute__((aligned({line})))"
 
 
-class Whose(NamedTuple):
+class FieldGroup(NamedTuple):
     """Whose some words are: a thread's own, or of `SHARED` threads by their pattern, or written by one thread, by their name."""
 
     whose: str
     of: str
 
 
-Groups = dict[Whose, list[Told]]
+Groups = dict[FieldGroup, list[WordUse]]
 
 
 def patterns(names: Iterable[str]) -> list[str]:
@@ -68,7 +68,7 @@ def is_field(name: str) -> bool:
     return name[:1] not in ("+", "0")
 
 
-def is_shared(word: Told) -> bool:
+def is_shared(word: WordUse) -> bool:
     """Whether threads pass a word to each other: by its own misses, and without them by its threads."""
     if word.useful is None:
         return word.hart == "many" and word.writes > 0
@@ -77,12 +77,12 @@ def is_shared(word: Told) -> bool:
     )
 
 
-def is_packed(word: Told) -> bool:
+def is_packed(word: WordUse) -> bool:
     """Whether several fields or elements lie in a word, which counts as one."""
     return word.kind.is_packed
 
 
-def is_waited_for(words: Sequence[Told]) -> bool:
+def is_waited_for(words: Sequence[WordUse]) -> bool:
     """Whether threads read elements of an array far more often than they write them."""
     return len(words) > 1 and sum(it.reads for it in words) >= 2 * sum(it.writes for it in words)
 
@@ -99,36 +99,38 @@ def arrays(names: Sequence[str]) -> str | None:
     return None
 
 
-def array_of(words: Sequence[Told]) -> str | None:
+def array_of(words: Sequence[WordUse]) -> str | None:
     """The array in which some words first differ, or whose elements share the one word; or none."""
-    names = [it.whole().partition(", ")[0] for it in words]
+    names = [it.field_name().partition(", ")[0] for it in words]
     alone = PACKED.search(names[0]) if len(set(names)) == 1 else None
     return names[0][: alone.start()] if alone else arrays(names)
 
 
-def groups(words: Iterable[Told]) -> Groups:
+def groups(words: Iterable[WordUse]) -> Groups:
     """The words by whose they are: each thread's own, each shared one alone, and the read-only ones."""
     found: Groups = {}
     for word in sorted(words, key=lambda word: -word.writes):
         if is_shared(word):
-            found.setdefault(Whose(SHARED, INDEX.sub("[..]", word.whole())), []).append(word)
+            found.setdefault(FieldGroup(SHARED, INDEX.sub("[..]", word.field_name())), []).append(
+                word
+            )
         elif word.hart != "many":
-            found.setdefault(Whose(word.owner, ""), []).append(word)
+            found.setdefault(FieldGroup(word.owner, ""), []).append(word)
         elif word.writes * STEADY > word.reads:
-            found.setdefault(Whose("one thread", word.whole()), []).append(word)
+            found.setdefault(FieldGroup("one thread", word.field_name()), []).append(word)
         else:
-            found.setdefault(Whose(READ, ""), []).append(word)
+            found.setdefault(FieldGroup(READ, ""), []).append(word)
     return found
 
 
-def is_fought(found: Groups) -> bool:
+def is_contended(found: Groups) -> bool:
     """Whether words of some groups conflict: one of them is written."""
     return len(found) > 1 and any(
         key.whose != READ and any(it.writes for it in own) for key, own in found.items()
     )
 
 
-def told(key: Whose, words: Sequence[Told], size: int, element: Element) -> str:
+def describe_words(key: FieldGroup, words: Sequence[WordUse], size: int, element: Element) -> str:
     """A group of words, and whose it is; of an array whose elements each need a line, how they get it."""
     array = (
         array_of(words)
@@ -136,7 +138,7 @@ def told(key: Whose, words: Sequence[Told], size: int, element: Element) -> str:
         else None
     )
     if not array:
-        names = patterns(it.whole() for it in words)
+        names = patterns(it.field_name() for it in words)
         return f"{all_of(names) if is_field(names[0]) else listing(names)} ({key.whose})"
     return f"each element of {array} ({SHARED}; {by_type(array, size, element)})"
 
@@ -146,48 +148,48 @@ def by_type(array: str, size: int, element: Element) -> str:
     return element(array) or f"`{attribute(size)}` on the element's type"
 
 
-def lines(words: Iterable[Told]) -> list[list[Told]]:
+def lines(words: Iterable[WordUse]) -> list[list[WordUse]]:
     """The words by their lines."""
-    found: dict[int, list[Told]] = {}
+    found: dict[int, list[WordUse]] = {}
     for word in words:
         found.setdefault(word.base, []).append(word)
     return list(found.values())
 
 
-def fought(own: list[Told]) -> list[Told]:
+def contended_words(own: list[WordUse]) -> list[WordUse]:
     """The words of the lines on which several threads' words are, or of the first line."""
-    found = [it for line in lines(own) if is_fought(groups(line)) for it in line]
+    found = [it for line in lines(own) if is_contended(groups(line)) for it in line]
     return found or (own and lines(own)[0])
 
 
-def naming_fields(words: Sequence[Told], thing: Thing) -> str:
+def naming_fields(words: Sequence[WordUse], thing: DataObject) -> str:
     """How to name the fields of a block whose type isn't known, or nothing."""
     site = thing.name.partition(" made at ")[2].partition(" ")[0]
     return f" (`--type {site}=TYPE` names its fields)" if site and is_untyped(words, thing) else ""
 
 
-def is_untyped(words: Iterable[Told], thing: Thing) -> bool:
-    return isinstance(thing.key, OfBlocks) and all(it.name[:1] == "+" for it in words)
+def is_untyped(words: Iterable[WordUse], thing: DataObject) -> bool:
+    return isinstance(thing.key, BlocksKey) and all(it.name[:1] == "+" for it in words)
 
 
-def in_pieces(words: Sequence[Told], thing: Thing, size: int) -> str:
+def in_pieces(words: Sequence[WordUse], thing: DataObject, size: int) -> str:
     """The fix for memory without a type of which each thread has pieces."""
     how = f"`{attribute(size)}` on the element's type" + (
-        f" and `aligned_alloc({size}, ..)`" if isinstance(thing.key, OfBlocks) else ""
+        f" and `aligned_alloc({size}, ..)`" if isinstance(thing.key, BlocksKey) else ""
     )
     rounded = f"in an arena round the start and the size of each piece up to multiples of {size}"
     said = f"give each thread's words their own line: in an array put {how}; {rounded}"
     return said + naming_fields(words, thing)
 
 
-def is_raw(words: Sequence[Told], thing: Thing) -> bool:
+def is_raw(words: Sequence[WordUse], thing: DataObject) -> bool:
     """Whether an object is memory without a type, or bytes, of which each thread has its own."""
     own = groups(words)
     is_plain = is_untyped(words, thing) or all(PACKED.search(it.name) for it in words)
-    return is_fought(own) and all(key.whose != SHARED for key in own) and is_plain
+    return is_contended(own) and all(key.whose != SHARED for key in own) and is_plain
 
 
-def groups_apart(own: Sequence[Told], thing: Thing, size: int, element: Element) -> str:
+def groups_apart(own: Sequence[WordUse], thing: DataObject, size: int, element: Element) -> str:
     """Which words of a line need lines of their own."""
     found = groups(own)
     if (
@@ -198,24 +200,24 @@ def groups_apart(own: Sequence[Told], thing: Thing, size: int, element: Element)
         return f"give each thread's words their own line: `{attribute(size)}` on the element's type"
     if len(found) < 2:
         return f"start {thing.name} on its own line: `{attribute(size)}` after its name"
-    listed = [told(key, it, size, element) for key, it in found.items()]
+    listed = [describe_words(key, it, size, element) for key, it in found.items()]
     more = len(listed) - NAMED
-    if more > 1 and not any(is_field(it.whole()) for it in own):
+    if more > 1 and not any(is_field(it.field_name()) for it in own):
         listed[NAMED:] = [f"and {more} more groups"]
     return f"separate these groups with `{attribute(size)}` after the first field of each: {'; '.join(listed)}{naming_fields(own, thing)}"
 
 
-def apart(words: Iterable[Told], thing: Thing, size: int, element: Element) -> str:
+def apart(words: Iterable[WordUse], thing: DataObject, size: int, element: Element) -> str:
     """Which of an object's words need lines of their own; `element` gives the code for an array's elements."""
     own = [it for it in words if it.key == thing.key]
-    if isinstance(thing.key, OfStack):
+    if isinstance(thing.key, StackKey):
         return f"other threads use variables on this stack: put `{attribute(size)}` on these, or move them off the stack"
-    if isinstance(thing.key, OfBlocks) and any(
+    if isinstance(thing.key, BlocksKey) and any(
         len({it.begin for it in line}) > 1 for line in lines(own)
     ):
         how = f"`aligned_alloc({size}, ..)` with sizes rounded up to multiples of {size}"
         return f"allocate each of these blocks on its own lines: {how}"
-    own = fought(own)
+    own = contended_words(own)
     if own and is_raw(own, thing):
         return in_pieces(own, thing, size)
     written = [it for it in own if it.writes]
@@ -225,7 +227,7 @@ def apart(words: Iterable[Told], thing: Thing, size: int, element: Element) -> s
     return groups_apart(own, thing, size, element)
 
 
-def neighbours(words: Sequence[Told], thing: Thing, names: Mapping[Key, str]) -> list[str]:
+def neighbours(words: Sequence[WordUse], thing: DataObject, names: Mapping[Key, str]) -> list[str]:
     """The names of the objects that conflict with another one on its worst line, as far as its words show."""
     if not words:
         return list(names.values())
@@ -243,20 +245,22 @@ def neighbours(words: Sequence[Told], thing: Thing, names: Mapping[Key, str]) ->
     ]
 
 
-def cost(thing: Thing, words: Iterable[Told]) -> str:
+def cost(thing: DataObject, words: Iterable[WordUse]) -> str:
     """How many misses more the words would have on lines of their own, where they would; or nothing."""
     fields: dict[tuple[int, str], int] = {}
     for word in words:
         if word.key == thing.key:
-            fields[word.base, word.whole()] = max(
-                fields.get((word.base, word.whole()), 0), word.useful or 0
+            fields[word.base, word.field_name()] = max(
+                fields.get((word.base, word.field_name()), 0), word.useful or 0
             )
     own = sum(fields.values())
     more = own - thing.useful - thing.useless
-    return f"; its own line for each word would cost {more:,} misses more" if more > 0 else ""
+    return f"; a separate line per word would cost {more:,} more misses" if more > 0 else ""
 
 
-def placing(placed: Placed | None, name: Callable[[int], str], owner: Callable[[int], str]) -> str:
+def placing(
+    placed: Placement | None, name: Callable[[int], str], owner: Callable[[int], str]
+) -> str:
     """The placement that `place` counted of the object, or nothing; `name` gives a word's name by its address."""
     if placed is None:
         return ""
@@ -271,7 +275,7 @@ def placing(placed: Placed | None, name: Callable[[int], str], owner: Callable[[
     return f"; grouped by thread ({where}), invalidations {placed.before:,} → {placed.after:,} (`place`)"
 
 
-def little(thing: Thing, total: int) -> str:
+def little(thing: DataObject, total: int) -> str:
     """Why an object with hardly any of all misses isn't worth a change."""
     return f"not worth a change: {thing.useless + thing.useful:,} of all {total:,} sharing misses"
 
@@ -281,30 +285,32 @@ def of_allocator() -> str:
     return "reuse blocks, free them in the thread that allocated them, or link another allocator"
 
 
-def is_true(thing: Thing, is_counted: bool) -> bool:
+def is_true(thing: DataObject, is_counted: bool) -> bool:
     if is_counted:
         return thing.useless < thing.useful
-    return {it.line.verdict for it in thing.spots if it.line} == {"true"}
+    return {it.line.verdict for it in thing.lines if it.line} == {"true"}
 
 
-def packed_most(own: Sequence[Told]) -> bool:
+def mostly_packed(own: Sequence[WordUse]) -> bool:
     """Whether words with several fields or elements are most of what is missed of some shared words."""
     return 2 * sum(it.useful or 1 for it in own if is_packed(it)) > sum(
         it.useful or 1 for it in own
     )
 
 
-def bytewise(own: Iterable[Told]) -> str:
+def bytewise(own: Iterable[WordUse]) -> str:
     """Those of some shared words in which threads may use different bytes, since several fields or elements lie there; or nothing."""
-    return written_most(it for it in own if is_packed(it))
+    return mostly_written(it for it in own if is_packed(it))
 
 
-def truly(thing: Thing, words: Sequence[Told], own: Sequence[Told], is_counted: bool) -> str:
+def true_sharing_sentence(
+    thing: DataObject, words: Sequence[WordUse], own: Sequence[WordUse], is_counted: bool
+) -> str:
     """The fix for words that threads pass to each other, `own` of some."""
     total, packed = thing.useful + thing.useless, bytewise(own)
     much = f" ({thing.useful:,} of {total:,} misses)" if is_counted else ""
-    said = f"{written_most(own) or thing.name}: true sharing{much}"
-    if packed and packed_most(own):
+    said = f"{mostly_written(own) or thing.name}: true sharing{much}"
+    if packed and mostly_packed(own):
         how = "where threads use different ones, give each its own line and run again"
         return (
             f"{said} by whole 4-byte words, and several fields or elements lie in one word: {how}"
@@ -317,26 +323,30 @@ def truly(thing: Thing, words: Sequence[Told], own: Sequence[Told], is_counted: 
     return f"{less}; padding doesn't help{cost(thing, words)}"
 
 
-def in_turns(thing: Thing, words: Iterable[Told], turns: int) -> str:
+def in_turns(thing: DataObject, words: Iterable[WordUse], turns: int) -> str:
     """That a large quantum hides what threads do at the same time, where that may be."""
-    own, missed = [it for it in words if it.key == thing.key], thing.worst().missed
+    own, missed = [it for it in words if it.key == thing.key], thing.worst_line().missed
     if (
         turns <= SHORT
         or missed is None
         or missed.useful + missed.useless < MANY
-        or len(groups(fought(own) or ())) < 2
+        or len(groups(contended_words(own) or ())) < 2
     ):
         return ""
     return f"; quantum {turns} may hide false sharing here: try `--set quantum=1` too"
 
 
-def written_most(words: Iterable[Told]) -> str:
+def mostly_written(words: Iterable[WordUse]) -> str:
     """Some words by their names, those that are written most first."""
-    return listing(it.whole() for it in sorted(words, key=lambda word: -word.writes))
+    return listing(it.field_name() for it in sorted(words, key=lambda word: -word.writes))
 
 
-def parted(
-    words: Sequence[Told], thing: Thing, names: Mapping[Key, str], size: int, element: Element
+def split_sentence(
+    words: Sequence[WordUse],
+    thing: DataObject,
+    names: Mapping[Key, str],
+    size: int,
+    element: Element,
 ) -> str:
     """What needs separate lines: an object and its neighbours, and its own words where these conflict with each other."""
     beside = neighbours(words, thing, names)
@@ -344,13 +354,15 @@ def parted(
         return apart(words, thing, size, element)
     both = f"{all_of([thing.name, *beside])} share lines: put `{attribute(size)}` after each name"
     own = [it for it in words if it.key == thing.key]
-    within = not isinstance(thing.key, OfStack) and any(is_fought(groups(it)) for it in lines(own))
+    within = not isinstance(thing.key, StackKey) and any(
+        is_contended(groups(it)) for it in lines(own)
+    )
     return f"{both}, and {apart(words, thing, size, element)}" if within else both
 
 
 def sentence(
-    thing: Thing,
-    words: Sequence[Told],
+    thing: DataObject,
+    words: Sequence[WordUse],
     names: Mapping[Key, str],
     size: int,
     is_counted: bool,
@@ -368,14 +380,14 @@ def sentence(
         thing, is_counted
     )
     if truth and (not is_counted or thing.useless * SELDOM < thing.useful):
-        return truly(thing, words, own, is_counted) + in_turns(thing, words, turns)
-    what = parted(words, thing, names, size, element)
+        return true_sharing_sentence(thing, words, own, is_counted) + in_turns(thing, words, turns)
+    what = split_sentence(words, thing, names, size, element)
     if not is_counted:
         return what
     saved, packed = f"saves up to {thing.useless:,} of {total:,} misses", bytewise(own)
     more = f", or more: several fields or elements lie in one word of {packed}" if packed else ""
-    if not truth or packed and packed_most(own):
+    if not truth or packed and mostly_packed(own):
         return f"{what}; {saved}{more}" + ("" if packed else cost(thing, words))
-    shared = written_most(own) or thing.name
+    shared = mostly_written(own) or thing.name
     less = f"write {shared} less often ({thing.useful:,} of {total:,} misses are true sharing)"
     return f"{less}; to save up to {thing.useless:,} more, {what}{more}"

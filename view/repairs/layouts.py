@@ -6,17 +6,17 @@ from view.names.fields import (
     RECORDS,
     Die,
     alignment_of,
-    bare,
-    counts,
-    name_of,
-    place_in,
+    bare_type,
+    element_counts,
+    die_name,
+    member_place,
     size_of,
     type_of,
-    value,
+    attribute_value,
 )
 
 # So many ranges are moved at most.
-MOST = 100_000
+MAX_MOVED_RANGES = 100_000
 STRUCTS = ("DW_TAG_structure_type", "DW_TAG_class_type")
 
 
@@ -31,9 +31,9 @@ class Shape(NamedTuple):
     skip: int = 0
 
     def dims(self) -> list[int]:
-        kind = bare(self.die)
+        kind = bare_type(self.die)
         return (
-            [it or 0 for it in counts(kind)][self.skip :]
+            [it or 0 for it in element_counts(kind)][self.skip :]
             if kind is not None and kind.tag == "DW_TAG_array_type"
             else []
         )
@@ -42,21 +42,21 @@ class Shape(NamedTuple):
         return (
             Shape(self.die, self.skip + 1)
             if len(self.dims()) > 1
-            else Shape(type_of(bare(self.die)))
+            else Shape(type_of(bare_type(self.die)))
         )
 
     def size(self) -> int:
         dims = self.dims()
         if not dims:
             return size_of(self.die)
-        size = size_of(type_of(bare(self.die)))
+        size = size_of(type_of(bare_type(self.die)))
         for count in dims:
             size *= count
         return size
 
     def record(self) -> Die:
         """The record that it is, or none."""
-        kind = bare(self.die)
+        kind = bare_type(self.die)
         return kind if kind is not None and kind.tag in RECORDS else None
 
 
@@ -70,10 +70,10 @@ class Member(NamedTuple):
     die: Die
 
     def alignment(self) -> int:
-        return max(value(self.die, "alignment", 1), alignment_of(self.shape.die))
+        return max(attribute_value(self.die, "alignment", 1), alignment_of(self.shape.die))
 
 
-def members_of(record: Die) -> list[Member] | None:
+def record_members(record: Die) -> list[Member] | None:
     """The fields of a structure, or none where these can't be put in another order: bit fields, base classes, and a union's."""
     found: list[Member] = []
     if record.tag not in STRUCTS:
@@ -82,12 +82,12 @@ def members_of(record: Die) -> list[Member] | None:
         if child.tag == "DW_TAG_inheritance":
             return None
         if child.tag == "DW_TAG_member" and "DW_AT_external" not in child.attributes:
-            start, bits = place_in(child)
-            if bits is not None or start % 8 or not name_of(child):
+            start, bits = member_place(child)
+            if bits is not None or start % 8 or not die_name(child):
                 return None
             found.append(
                 Member(
-                    name_of(child),
+                    die_name(child),
                     start // 8,
                     size_of(type_of(child)),
                     Shape(type_of(child)),
@@ -97,21 +97,21 @@ def members_of(record: Die) -> list[Member] | None:
     return found if all(it.size for it in found) else None
 
 
-class Change:
+class LayoutChange:
     """What is declared otherwise. A record is named by its place in the debug information, an array by the path to its elements, as
     `.slots[]`."""
 
     def __init__(self, line: int) -> None:
         self.line = line
         # Records that begin on a line and fill it.
-        self.aligned: set[int] = set()
+        self.aligned_records: set[int] = set()
         # Of records their fields in a new order, each group of which begins on a line.
-        self.parted: dict[int, list[list[Member]]] = {}
+        self.grouped_fields: dict[int, list[list[Member]]] = {}
         # Arrays whose elements have a struct around each.
-        self.wrapped: set[str] = set()
+        self.wrapped_arrays: set[str] = set()
 
 
-class Part(NamedTuple):
+class MovedRange(NamedTuple):
     """Some bytes of a value, and where they come to lie in it."""
 
     begin: int
@@ -119,95 +119,101 @@ class Part(NamedTuple):
     to: int
 
 
-class Laid(NamedTuple):
+class NewLayout(NamedTuple):
     """A value as it is laid out anew."""
 
     size: int
     alignment: int
-    parts: list[Part]
+    parts: list[MovedRange]
 
     def is_as_before(self, size: int) -> bool:
         return self.size == size and all(it.begin == it.to for it in self.parts)
 
 
-def rounded(number: int, by: int) -> int:
+def round_up(number: int, by: int) -> int:
     return -(-number // by) * by
 
 
-def laid(shape: Shape, change: Change, path: str = "") -> Laid:
+def lay_out(shape: Shape, change: LayoutChange, path: str = "") -> NewLayout:
     """A value of a type as the change lays it out."""
     if shape.dims():
-        return laid_array(shape, change, path)
+        return lay_out_array(shape, change, path)
     record = shape.record()
     size, alignment = shape.size(), alignment_of(shape.die)
-    whole = Laid(size, alignment, [Part(0, size, 0)])
+    whole = NewLayout(size, alignment, [MovedRange(0, size, 0)])
     if record is None:
         return whole
-    members = members_of(record)
-    found = laid_record(record, members, change, path) if members else whole
+    members = record_members(record)
+    found = lay_out_record(record, members, change, path) if members else whole
     if found.is_as_before(size):
         found = whole
-    if record.offset in change.aligned or record.offset in change.parted:
-        return Laid(
-            rounded(found.size, change.line), max(found.alignment, change.line), found.parts
+    if record.offset in change.aligned_records or record.offset in change.grouped_fields:
+        return NewLayout(
+            round_up(found.size, change.line), max(found.alignment, change.line), found.parts
         )
     return found
 
 
-def laid_record(record: Die, members: Sequence[Member], change: Change, path: str) -> Laid:
-    groups = change.parted.get(record.offset)
-    own = [(it, laid(it.shape, change, f"{path}.{it.name}")) for it in members]
+def lay_out_record(
+    record: Die, members: Sequence[Member], change: LayoutChange, path: str
+) -> NewLayout:
+    groups = change.grouped_fields.get(record.offset)
+    own = [(it, lay_out(it.shape, change, f"{path}.{it.name}")) for it in members]
     by_name = {member.name: inner for member, inner in own}
-    at, parts, most = 0, [], value(record, "alignment", 1)
+    at, parts, most = 0, [], attribute_value(record, "alignment", 1)
     for group in groups or [list(members)]:
         for first, member in enumerate(group):
             inner = by_name[member.name]
             alignment = max(
                 member.alignment(), inner.alignment, change.line if groups and not first else 1
             )
-            at, most = rounded(at, alignment), max(most, alignment)
-            parts += [Part(member.begin + it.begin, it.size, at + it.to) for it in inner.parts]
+            at, most = round_up(at, alignment), max(most, alignment)
+            parts += [
+                MovedRange(member.begin + it.begin, it.size, at + it.to) for it in inner.parts
+            ]
             at += inner.size
-    return Laid(rounded(at, most), most, parts)
+    return NewLayout(round_up(at, most), most, parts)
 
 
-def laid_array(shape: Shape, change: Change, path: str) -> Laid:
+def lay_out_array(shape: Shape, change: LayoutChange, path: str) -> NewLayout:
     element, count = shape.element(), shape.dims()[0]
-    wide, inner = element.size(), laid(element, change, f"{path}[]")
+    wide, inner = element.size(), lay_out(element, change, f"{path}[]")
     stride, alignment = (
-        rounded(inner.size, inner.alignment) if inner.alignment else inner.size,
+        round_up(inner.size, inner.alignment) if inner.alignment else inner.size,
         inner.alignment,
     )
-    if f"{path}[]" in change.wrapped:
-        stride, alignment = rounded(stride, change.line), max(alignment, change.line)
+    if f"{path}[]" in change.wrapped_arrays:
+        stride, alignment = round_up(stride, change.line), max(alignment, change.line)
     if stride == wide and inner.is_as_before(wide):
-        return Laid(count * wide, alignment, [Part(0, count * wide, 0)])
-    if count * len(inner.parts) > MOST:
+        return NewLayout(count * wide, alignment, [MovedRange(0, count * wide, 0)])
+    if count * len(inner.parts) > MAX_MOVED_RANGES:
         raise Unmovable("it has too many elements")
     parts = [
-        Part(at * wide + part.begin, part.size, at * stride + part.to)
+        MovedRange(at * wide + part.begin, part.size, at * stride + part.to)
         for at in range(count)
         for part in inner.parts
     ]
-    return Laid(count * stride, alignment, parts)
+    return NewLayout(count * stride, alignment, parts)
 
 
-def in_words(parts: Iterable[Part]) -> list[Part]:
+def to_whole_words(parts: Iterable[MovedRange]) -> list[MovedRange]:
     """The same in whole words, neighbours that stay so as one."""
-    found: list[Part] = []
+    found: list[MovedRange] = []
     for begin, size, to in sorted(parts):
         if not size:
             continue
-        low, high, by = begin // 4 * 4, rounded(begin + size, 4), to - begin
+        low, high, by = begin // 4 * 4, round_up(begin + size, 4), to - begin
         if by % 4:
             raise Unmovable("fields would lie at other bytes of a word")
         last = found[-1] if found else None
         if last and last.to - last.begin == by and low <= last.begin + last.size:
-            found[-1] = Part(last.begin, max(high, last.begin + last.size) - last.begin, last.to)
+            found[-1] = MovedRange(
+                last.begin, max(high, last.begin + last.size) - last.begin, last.to
+            )
         elif last and low < last.begin + last.size:
             raise Unmovable("several fields lie in one word")
         else:
-            found.append(Part(low, high - low, low + by))
+            found.append(MovedRange(low, high - low, low + by))
     return found
 
 
@@ -227,13 +233,13 @@ def arrays_in(shape: Shape, begins: list[int], path: str = "", depth: int = 0) -
     if dims and dims[0] > 1:
         element = shape.element()
         wide = element.size()
-        if not wide or len(begins) * dims[0] > MOST:
+        if not wide or len(begins) * dims[0] > MAX_MOVED_RANGES:
             return
         own = [it + at * wide for it in begins for at in range(dims[0])]
         yield Array(f"{path}[]", element, own)
         yield from arrays_in(element, own, f"{path}[]", depth + 1)
     elif record is not None:
-        for member in members_of(record) or []:
+        for member in record_members(record) or []:
             yield from arrays_in(
                 member.shape,
                 [at + member.begin for at in begins],
@@ -260,7 +266,7 @@ def records_in(shape: Shape, begins: list[int], path: str = "", depth: int = 0) 
     if dims:
         element = shape.element()
         wide = element.size()
-        if wide and len(begins) * dims[0] <= MOST:
+        if wide and len(begins) * dims[0] <= MAX_MOVED_RANGES:
             yield from records_in(
                 element,
                 [it + at * wide for it in begins for at in range(dims[0])],
@@ -268,7 +274,7 @@ def records_in(shape: Shape, begins: list[int], path: str = "", depth: int = 0) 
                 depth + 1,
             )
     elif record is not None:
-        members = members_of(record)
+        members = record_members(record)
         if members and len(members) > 1:
             yield Record(path, record, shape, members, begins)
         for member in members or []:

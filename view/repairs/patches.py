@@ -6,7 +6,7 @@ import re
 from typing import Callable, Iterable, NamedTuple, Protocol, Sequence
 
 from view.repairs.advice import attribute
-from view.names.fields import value
+from view.names.fields import attribute_value
 from view.repairs.layouts import Member
 
 COMMENT = re.compile(r"//.*|/\*.*?\*/")
@@ -14,7 +14,7 @@ COMMENT = re.compile(r"//.*|/\*.*?\*/")
 FIXED = re.compile(r"^\s*(?:#|(?:public|private|protected)\s*:)", re.MULTILINE)
 
 
-class Place(Protocol):
+class SourcePlace(Protocol):
     """Where something is declared."""
 
     @property
@@ -30,7 +30,7 @@ class Unpatchable(Exception):
     """A declaration that isn't spelled so that it can be changed line by line."""
 
 
-def behind(text: str, name: str, line: int) -> str:
+def add_attribute(text: str, name: str, line: int) -> str:
     """A declaration with the attribute behind a name and its dimensions. (What is behind a name in parentheses is another declarator's.)"""
     plain = COMMENT.sub(lambda comment: " " * len(comment[0]), text)
     found = list(re.finditer(rf"\b{re.escape(name)}\b((?:\s*\[[^\]]*\])*)(?=\s*[;,={{])", plain))
@@ -43,7 +43,7 @@ def behind(text: str, name: str, line: int) -> str:
 class AlignRecord(NamedTuple):
     """A record that is to begin on a line and to fill it."""
 
-    place: Place
+    place: SourcePlace
     keyword: str
     name: str
     line: int
@@ -70,7 +70,7 @@ class AlignRecord(NamedTuple):
 class AlignVariable(NamedTuple):
     """A variable that is to begin on a line."""
 
-    place: Place
+    place: SourcePlace
     name: str
     line: int
 
@@ -79,13 +79,13 @@ class AlignVariable(NamedTuple):
 
     def apply(self, lines: list[str]) -> None:
         at = self.place.line - 1
-        lines[at] = behind(lines[at], self.name, self.line)
+        lines[at] = add_attribute(lines[at], self.name, self.line)
 
 
 class OrderFields(NamedTuple):
     """A record whose fields are to be put in another order, each group of them on lines of its own."""
 
-    place: Place
+    place: SourcePlace
     name: str
     groups: list[list[Member]]
     line: int
@@ -93,7 +93,7 @@ class OrderFields(NamedTuple):
     def key(self) -> tuple[str, int, str]:
         return self.place.file, self.place.line, "fields"
 
-    def by_position(self, lines: list[str]) -> bool:
+    def has_positional_values(self, lines: list[str]) -> bool:
         """Whether the file has a value of the record whose fields have their values by their order."""
         text = "\n".join(COMMENT.sub("", it) for it in lines)
         names = re.escape(self.name) if self.name else r"\}"
@@ -104,10 +104,10 @@ class OrderFields(NamedTuple):
         )
 
     def apply(self, lines: list[str]) -> None:
-        if self.by_position(lines):
+        if self.has_positional_values(lines):
             raise Unpatchable("an initializer names no fields")
         own = sorted((it for group in self.groups for it in group), key=lambda member: member.begin)
-        starts = [value(it.die, "decl_line", 0) for it in own]
+        starts = [attribute_value(it.die, "decl_line", 0) for it in own]
         first = next(
             (at for at in range(self.place.line - 1, starts[0]) if "{" in lines[at]), len(lines)
         )
@@ -131,7 +131,7 @@ class OrderFields(NamedTuple):
             for place, member in enumerate(group):
                 segment = segments[member.name]
                 if number and not place:
-                    segment = behind("\n".join(segment), member.name, self.line).split("\n")
+                    segment = add_attribute("\n".join(segment), member.name, self.line).split("\n")
                 new += segment
         lines[first + 1 : at] = new
 
@@ -139,7 +139,7 @@ class OrderFields(NamedTuple):
 Edit = AlignRecord | AlignVariable | OrderFields
 
 
-def applied(edits: Iterable[Edit], read: Callable[[str], str]) -> dict[str, tuple[str, str]]:
+def apply_edits(edits: Iterable[Edit], read: Callable[[str], str]) -> dict[str, tuple[str, str]]:
     """The files of some edits, each as it is and as it is to be; `read` gives the text of one."""
     by_key: dict[tuple[str, int, str], Edit] = {}
     for edit in edits:
@@ -156,7 +156,7 @@ def applied(edits: Iterable[Edit], read: Callable[[str], str]) -> dict[str, tupl
     return found
 
 
-def text_of(path: str | None) -> str:
+def read_source(path: str | None) -> str:
     if path is None:
         raise Unpatchable("its source isn't here")
     try:
@@ -181,12 +181,12 @@ def difference(name: str, old: str, new: str) -> str:
     return "".join(rows)
 
 
-def why_not(edits: Sequence[Edit] | None, path: Callable[[str], str | None]) -> str:
+def patch_obstacle(edits: Sequence[Edit] | None, path: Callable[[str], str | None]) -> str:
     """Why some edits can't be made, or nothing; `path` tells where a source is."""
     if edits is None:
         return "its fix changes more than declarations"
     try:
-        applied(edits, lambda file: text_of(path(file)))
+        apply_edits(edits, lambda file: read_source(path(file)))
     except Unpatchable as fault:
         return f"its declaration can't be edited line by line ({fault})"
     return ""
@@ -194,7 +194,7 @@ def why_not(edits: Sequence[Edit] | None, path: Callable[[str], str | None]) -> 
 
 def patch(edits: Sequence[Edit], path: Callable[[str], str | None]) -> str:
     """All of some edits that can be made, as a unified diff."""
-    files = applied(edits, lambda file: text_of(path(file)))
+    files = apply_edits(edits, lambda file: read_source(path(file)))
     return "".join(
         difference(name_in_patch(path(file) or file), old, new)
         for file, (old, new) in sorted(files.items())

@@ -8,55 +8,55 @@ from view.names.fields import (
     NAMES_FOR,
     Die,
     Variable,
-    name_of,
+    die_name,
     size_of,
-    sound,
+    value_or_default,
     type_name,
     type_of,
-    value,
+    attribute_value,
 )
-from view.model.object_keys import Key, OfSymbol
+from view.model.object_keys import Key, SymbolKey
 from view.repairs.layouts import Member, Shape
 from view.model.foreign_objects import is_foreign
 from view.model.view import View
-from view.names.naming import OWN
-from view.model.objects import Thing, key_of
+from view.names.naming import THREAD_LOCALS
+from view.model.objects import DataObject, object_key
 from view.reading.reports import Block, Symbol
-from view.reading.trace_files import STEADY, Uses
+from view.reading.trace_files import STEADY, WordUses
 
 # What isn't the user's to declare otherwise: headers of the system and of the kit for guests.
-SYSTEM = re.compile(r"^/usr/(?:include|lib)/|(?:^|/)guest/(?:include/|predator\.h$)")
+SYSTEM_HEADERS = re.compile(r"^/usr/(?:include|lib)/|(?:^|/)guest/(?:include/|predator\.h$)")
 KEYWORDS = {
     "DW_TAG_structure_type": "struct",
     "DW_TAG_class_type": "class",
     "DW_TAG_union_type": "union",
 }
 # Objects of more bytes than this aren't looked at word by word.
-LARGEST = 1 << 24
+MAX_SUBJECT_BYTES = 1 << 24
 
 
-class Declared(NamedTuple):
+class Declaration(NamedTuple):
     """Where something is declared."""
 
     file: str
     line: int
 
 
-class Whose(NamedTuple):
+class Sharing(NamedTuple):
     """Whose some words are while threads run: one hart's own, only read, written by some harts and used by others, or unused."""
 
     kind: Literal["none", "own", "read", "shared"]
     harts: frozenset[int]
 
 
-UNUSED = Whose("none", frozenset())
+UNUSED = Sharing("none", frozenset())
 
 
-def whose(uses: Uses, begin: int, size: int) -> Whose:
+def sharing_of(uses: WordUses, begin: int, size: int) -> Sharing:
     """Whose the words of a range are, taken together."""
     readers, writers, reads, writes = set(), set(), 0, 0
     for word in range(begin // 4 * 4, begin + size, 4):
-        for hart, use in uses.of(word).items():
+        for hart, use in uses.users_of(word).items():
             readers.add(hart)
             reads, writes = reads + use.reads, writes + use.writes
             if use.writes:
@@ -64,10 +64,10 @@ def whose(uses: Uses, begin: int, size: int) -> Whose:
     if not readers:
         return UNUSED
     if len(readers) == 1:
-        return Whose("own", frozenset(readers))
+        return Sharing("own", frozenset(readers))
     if writes * STEADY < reads + writes:
-        return Whose("read", frozenset())
-    return Whose("shared", frozenset(writers))
+        return Sharing("read", frozenset())
+    return Sharing("shared", frozenset(writers))
 
 
 class Subject:
@@ -75,7 +75,7 @@ class Subject:
 
     def __init__(
         self,
-        thing: Thing,
+        thing: DataObject,
         name: str,
         ranges: Sequence[tuple[int, int]],
         shape: Shape | None,
@@ -100,7 +100,7 @@ class Subject:
             yield from range(begin // 4 * 4, begin + size, 4)
 
     def is_blocks(self) -> bool:
-        return not isinstance(self.thing.key, OfSymbol)
+        return not isinstance(self.thing.key, SymbolKey)
 
     def begins(self) -> list[int]:
         """Where the values of its type begin."""
@@ -116,35 +116,35 @@ class Subject:
         )
 
 
-def place_of(die: Die) -> Declared | None:
+def declaration_place(die: Die) -> Declaration | None:
     """Where a type or a variable is declared, or none."""
     program: Any = getattr(getattr(die, "dwarfinfo", None), "program", None)
     if program is None:
         return None
-    found = sound(lambda: program.declared(Variable(die)), None)
+    found = value_or_default(lambda: program.declaration(Variable(die)), None)
     if not found:
         return None
     # (a file that was named from where the compiler ran)
-    folder = value(die.cu.get_top_DIE(), "comp_dir", b"").decode("utf-8", "replace")
-    return Declared(os.path.normpath(os.path.join(folder, found[0])), found[1])
+    folder = attribute_value(die.cu.get_top_DIE(), "comp_dir", b"").decode("utf-8", "replace")
+    return Declaration(os.path.normpath(os.path.join(folder, found[0])), found[1])
 
 
-def users(die: Die) -> Declared | None:
+def user_declaration(die: Die) -> Declaration | None:
     """Where the program's own sources declare a type or a variable, or none."""
-    found = place_of(die)
-    return None if found is None or SYSTEM.search(found.file) else found
+    found = declaration_place(die)
+    return None if found is None or SYSTEM_HEADERS.search(found.file) else found
 
 
-def spelled_record(shape: Shape) -> tuple[str, str]:
+def record_name(shape: Shape) -> tuple[str, str]:
     """The keyword of a record and its name, which is its typedef's where it has none."""
     record, die = shape.record(), shape.die
-    name = name_of(record)
+    name = die_name(record)
     while not name and die is not None and die.tag in NAMES_FOR:
-        name, die = name_of(die), type_of(die)
+        name, die = die_name(die), type_of(die)
     return KEYWORDS[record.tag], name
 
 
-def declaration(shape: Shape, name: str) -> str:
+def field_declaration(shape: Shape, name: str) -> str:
     """A field of a type, as it is declared."""
     die = shape.die
     while die is not None and die.tag in NAMES_FOR and die.tag != "DW_TAG_typedef":
@@ -155,18 +155,18 @@ def declaration(shape: Shape, name: str) -> str:
     return f"{type_name(die)} {name}"
 
 
-def symbols_beside(view: View, thing: Thing) -> dict[Key, Symbol]:
+def symbols_beside(view: View, thing: DataObject) -> dict[Key, Symbol]:
     """The variables that lie on lines of an object, by their keys."""
     found: dict[Key, Symbol] = {}
-    for spot in thing.spots:
-        for obj in spot.rows():
-            key = key_of(obj, view.naming, spot.base)
+    for spot in thing.lines:
+        for obj in spot.objects():
+            key = object_key(obj, view.naming, spot.base)
             if isinstance(obj, Symbol) and key != thing.key:
                 found.setdefault(key, obj)
     return found
 
 
-def of_symbol(view: View, thing: Thing, symbol: Symbol) -> Subject:
+def symbol_subject(view: View, thing: DataObject, symbol: Symbol) -> Subject:
     program = view.naming.program
     variable = program.variable(symbol.addr) if program else None
     shape = Shape(variable.type) if variable is not None and variable.type is not None else None
@@ -179,18 +179,18 @@ def of_symbol(view: View, thing: Thing, symbol: Symbol) -> Subject:
     )
 
 
-def of_blocks(view: View, thing: Thing, example: Block) -> Subject:
+def blocks_subject(view: View, thing: DataObject, example: Block) -> Subject:
     ranges: set[tuple[int, int]] = set()
-    for spot in thing.spots:
-        for obj in spot.rows():
-            if isinstance(obj, Block) and key_of(obj, view.naming, spot.base) == thing.key:
+    for spot in thing.lines:
+        for obj in spot.objects():
+            if isinstance(obj, Block) and object_key(obj, view.naming, spot.base) == thing.key:
                 ranges.add((obj.addr, obj.size))
-    of = sound(lambda: view.naming.type_of_block(example), None)
+    of = value_or_default(lambda: view.naming.type_of_block(example), None)
     shape = Shape(of) if of is not None and size_of(of) else None
-    return Subject(thing, view.label(thing), disjoint(ranges), shape)
+    return Subject(thing, view.label(thing), join_ranges(ranges), shape)
 
 
-def disjoint(ranges: Iterable[tuple[int, int]]) -> list[tuple[int, int]]:
+def join_ranges(ranges: Iterable[tuple[int, int]]) -> list[tuple[int, int]]:
     """The ranges, those that meet as one: blocks of different sizes that lived at one place."""
     found: list[tuple[int, int]] = []
     for begin, size in sorted(ranges):
@@ -201,30 +201,30 @@ def disjoint(ranges: Iterable[tuple[int, int]]) -> list[tuple[int, int]]:
     return found
 
 
-def subject_of(view: View, thing: Thing, uses: Uses) -> Subject | None:
+def subject_of(view: View, thing: DataObject, uses: WordUses) -> Subject | None:
     """An object as it may be laid out anew, or none: what lies on a stack, in no object or in a library is nothing that the program
     declares."""
     if is_foreign(thing, view.naming):
         return None
     if isinstance(thing.example, Symbol):
-        found = of_symbol(view, thing, thing.example)
+        found = symbol_subject(view, thing, thing.example)
     elif isinstance(thing.example, Block) and not (
-        thing.example.sites and thing.example.sites[0].name == OWN
+        thing.example.sites and thing.example.sites[0].name == THREAD_LOCALS
     ):
-        found = of_blocks(view, thing, thing.example)
+        found = blocks_subject(view, thing, thing.example)
     else:
         return None
-    if not 0 < found.size() <= LARGEST:
+    if not 0 < found.size() <= MAX_SUBJECT_BYTES:
         return None
     found.owner = view.naming.memory.owner
     for key, symbol in symbols_beside(view, thing).items():
-        other = Thing(key, symbol)
-        other.name = view.naming.key_name(key, symbol)
-        own = of_symbol(view, other, symbol)
+        other = DataObject(key, symbol)
+        other.name = view.naming.object_name(key, symbol)
+        own = symbol_subject(view, other, symbol)
         if (
             not is_foreign(other, view.naming)
-            and own.size() <= LARGEST
-            and any(uses.of(it) for it in own.words())
+            and own.size() <= MAX_SUBJECT_BYTES
+            and any(uses.users_of(it) for it in own.words())
         ):
             found.neighbours.append(own)
     return found
@@ -234,8 +234,10 @@ def subject_of(view: View, thing: Thing, uses: Uses) -> Subject | None:
 Group = tuple[list[Member], str]
 
 
-def patterns(
-    members: Sequence[Member], begins: Sequence[int], uses: Uses
-) -> dict[str, tuple[Whose, ...]]:
+def field_patterns(
+    members: Sequence[Member], begins: Sequence[int], uses: WordUses
+) -> dict[str, tuple[Sharing, ...]]:
     """Whose each field is, in each of the records that begin at some places."""
-    return {it.name: tuple(whose(uses, at + it.begin, it.size) for at in begins) for it in members}
+    return {
+        it.name: tuple(sharing_of(uses, at + it.begin, it.size) for at in begins) for it in members
+    }

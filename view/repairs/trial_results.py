@@ -3,27 +3,27 @@
 from typing import NamedTuple
 
 from view.repairs.advice import patterns
-from view.model.objects import Thing
+from view.model.objects import DataObject
 from view.repairs.candidates import Repair
-from view.reading.trace_files import Uses
+from view.reading.trace_files import WordUses
 from view.repairs.subjects import Subject
 
 # A repair that saves fewer than one in so many of the object's misses, or of the accesses, isn't worth it.
-LITTLE, SELDOM = 10, 1000
+MIN_OWN_SHARE_DIVISOR, MIN_ACCESS_SHARE_DIVISOR = 10, 1000
 # Where words in which threads use different bytes have one in so many of the accesses to what threads share, words can't tell.
-MIXED = 4
+MIXED_SHARE_DIVISOR = 4
 
 
-class Counted(NamedTuple):
+class TrialCount(NamedTuple):
     """What is counted of a trace: its misses, and what the report's rule counts, or none."""
 
     total: dict[str, int]
-    rule: int | None
+    invalidations: int | None
 
-    def missed(self) -> int:
+    def sharing_misses(self) -> int:
         return self.total["useless"] + self.total["useful"]
 
-    def beside(self, after: "Counted") -> str:
+    def beside(self, after: "TrialCount") -> str:
         """The numbers before and after a repair."""
         told = ", ".join(
             f"{column} {self.total[name]:,} → {after.total[name]:,}"
@@ -31,23 +31,23 @@ class Counted(NamedTuple):
         )
         return f"misses {told}" + (
             ""
-            if self.rule is None or after.rule is None
-            else f", invalidations {self.rule:,} → {after.rule:,}"
+            if self.invalidations is None or after.invalidations is None
+            else f", invalidations {self.invalidations:,} → {after.invalidations:,}"
         )
 
 
-class Tried:
+class Trial:
     """The best of the repairs of an object and what it came to, each none where none could be tried; `instead` is the fix for words in
     which threads use different bytes. Of a long trace only its first accesses are counted: `own_there` are the object's misses there, and
     none where the whole is counted."""
 
     def __init__(
         self,
-        thing: Thing,
-        before: Counted,
+        thing: DataObject,
+        before: TrialCount,
         accesses: int,
         subject: Subject | None = None,
-        uses: Uses | None = None,
+        uses: WordUses | None = None,
         own_there: int | None = None,
     ) -> None:
         self.thing, self.before, self.accesses, self.subject, self.uses = (
@@ -57,35 +57,46 @@ class Tried:
             subject,
             uses,
         )
-        self.own_there = own_there
-        self.known_mixed: list[int] | None = None
+        self.own_misses_in_part = own_there
+        self.cached_mixed_words: list[int] | None = None
         self.repair: Repair | None = None
-        self.after: Counted | None = None
+        self.after: TrialCount | None = None
         # (what comes of the other way that the repair names, or none)
-        self.other: Counted | None = None
+        self.other: TrialCount | None = None
         # (how many misses it saves, by the part of the trace by which it was chosen)
-        self.many, self.hoped, self.instead = 0, 0, ""
+        self.tried_repairs, self.expected_savings, self.instead = 0, 0, ""
 
-    def own(self) -> int:
-        return self.thing.useless + self.thing.useful if self.own_there is None else self.own_there
+    def own_misses(self) -> int:
+        return (
+            self.thing.useless + self.thing.useful
+            if self.own_misses_in_part is None
+            else self.own_misses_in_part
+        )
 
-    def there(self) -> str:
+    def part_text(self) -> str:
         """The part of the trace that was counted, where it isn't the whole."""
-        return "" if self.own_there is None else f" (first {self.accesses:,} accesses)"
+        return "" if self.own_misses_in_part is None else f" (first {self.accesses:,} accesses)"
 
     def is_rare(self) -> bool:
         """Whether the object is missed so seldom that no repair is worth anything."""
-        return self.own_there is None and self.own() * SELDOM < self.accesses
+        return (
+            self.own_misses_in_part is None
+            and self.own_misses() * MIN_ACCESS_SHARE_DIVISOR < self.accesses
+        )
 
-    def saved(self) -> int:
-        return self.before.missed() - self.after.missed() if self.after else 0
+    def saved_misses(self) -> int:
+        return self.before.sharing_misses() - self.after.sharing_misses() if self.after else 0
 
     def is_saving(self) -> bool:
         """Whether the best repair saves enough to be named."""
-        return self.is_much(self.saved())
+        return self.is_much(self.saved_misses())
 
     def is_much(self, saved: int) -> bool:
-        return saved > 0 and saved * LITTLE >= self.own() and saved * SELDOM >= self.accesses
+        return (
+            saved > 0
+            and saved * MIN_OWN_SHARE_DIVISOR >= self.own_misses()
+            and saved * MIN_ACCESS_SHARE_DIVISOR >= self.accesses
+        )
 
     def otherwise(self) -> str:
         """The other way that the repair names, where that saves enough too, and what it came to; or nothing."""
@@ -93,44 +104,48 @@ class Tried:
         if (
             other is None
             or self.other is None
-            or not self.is_much(self.before.missed() - self.other.missed())
+            or not self.is_much(self.before.sharing_misses() - self.other.sharing_misses())
         ):
             return ""
-        return f"; or {other.said()}: {self.before.beside(self.other)}"
-
-    def mixed(self) -> list[int]:
-        """The words of the object in which threads use different bytes, where these have a large part of the accesses to shared words."""
-        if self.known_mixed is None:
-            self.known_mixed = self.mixed_words()
-        return self.known_mixed
+        return f"; or {other.sentence()}: {self.before.beside(self.other)}"
 
     def mixed_words(self) -> list[int]:
+        """The words of the object in which threads use different bytes, where these have a large part of the accesses to shared words."""
+        if self.cached_mixed_words is None:
+            self.cached_mixed_words = self.find_mixed_words()
+        return self.cached_mixed_words
+
+    def find_mixed_words(self) -> list[int]:
         if self.subject is None or self.uses is None:
             return []
-        shared = [it for it in self.subject.words() if len(self.uses.of(it)) > 1]
+        shared = [it for it in self.subject.words() if len(self.uses.users_of(it)) > 1]
         found = [it for it in shared if self.uses.is_mixed(it)]
-        return found if self.much(found) * MIXED >= self.much(shared) else []
+        return (
+            found
+            if self.accesses_to(found) * MIXED_SHARE_DIVISOR >= self.accesses_to(shared)
+            else []
+        )
 
-    def much(self, words: list[int]) -> int:
+    def accesses_to(self, words: list[int]) -> int:
         """How many accesses some words have while threads run."""
         return (
-            sum(use.accesses() for it in words for use in self.uses.of(it).values())
+            sum(use.accesses() for it in words for use in self.uses.users_of(it).values())
             if self.uses
             else 0
         )
 
-    def knows(self) -> bool:
+    def is_decisive(self) -> bool:
         """Whether the trial decides the fix."""
-        return self.after is not None or self.is_rare() or bool(self.mixed())
+        return self.after is not None or self.is_rare() or bool(self.mixed_words())
 
     def fix(self, names: list[str], quantum: int = 0) -> str:
         """The fix of the object; `names` are the words in which threads use different bytes, and `quantum` is 0 where it isn't known."""
         if self.is_rare():
-            return f"none needed: {self.own():,} of {self.accesses:,} accesses miss"
+            return f"none needed: {self.own_misses():,} of {self.accesses:,} accesses miss"
         mixed = f"because threads use different bytes of {', '.join(patterns(names))} and misses are counted per 4-byte word"
         if self.is_saving() and self.repair:
             rest = f"; for the rest {self.instead}, then run again, {mixed}" if names else ""
-            return self.repair.said() + rest
+            return self.repair.sentence() + rest
         if names:
             return f"{self.instead}, then run again, {mixed}"
         where = f" at this interleaving (quantum {quantum:,})" if quantum else " on this trace"
@@ -144,10 +159,12 @@ class Tried:
         if self.is_rare() or self.after is None:
             return ""
         if self.is_saving():
-            return self.before.beside(self.after) + self.there() + self.otherwise()
+            return self.before.beside(self.after) + self.part_text() + self.otherwise()
         if is_mixed:
             return ""
         what = (
-            f"{self.many} layouts, the best saves" if self.many > 1 else "one layout, which saves"
+            f"{self.tried_repairs} layouts; the best saves"
+            if self.tried_repairs > 1
+            else "one layout, which saves"
         )
-        return f"{what} {max(self.saved(), 0):,} of {self.own():,} misses{self.there()}"
+        return f"{what} {max(self.saved_misses(), 0):,} of {self.own_misses():,} misses{self.part_text()}"

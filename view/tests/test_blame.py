@@ -12,7 +12,7 @@ from calling import PROGRAM, STAND_IN, TOP, TURNS, built, has, joined, view
 sys.path[:0] = [TOP]
 
 from view.faults import Fault  # noqa: E402
-from view.reading.reports import Blame, Pair  # noqa: E402
+from view.reading.reports import Blame, InstructionPair  # noqa: E402
 
 TEXT = (
     "predator blame 1\naccesses 19\nlayout 64 0\nlines 2\n"
@@ -31,14 +31,17 @@ class Read(unittest.TestCase):
     def test_lines(self):
         found = Blame(TEXT)
         self.assertEqual(found.accesses, 19)
-        first, other = found.takings(0x11000), found.takings(-0x20)
+        first, other = found.invalidations(0x11000), found.invalidations(-0x20)
         self.assertEqual(
-            first.pairs, [Pair(0x10044, 0x1003C, 5, 2), Pair(0xFFFFFFFC, 0x10044, 1, 0)]
+            first.pairs,
+            [InstructionPair(0x10044, 0x1003C, 5, 2), InstructionPair(0xFFFFFFFC, 0x10044, 1, 0)],
         )
         self.assertEqual((first.base, first.harts), (0x11000, {(0, 255): 6}))
-        self.assertEqual((other.pairs, other.harts), ([Pair(0, 0x10044, 1, 1)], {(1, 0): 1}))
-        self.assertIsNone(found.takings(0x11040))
-        self.assertIsNone(Blame(EMPTY).takings(0))
+        self.assertEqual(
+            (other.pairs, other.harts), ([InstructionPair(0, 0x10044, 1, 1)], {(1, 0): 1})
+        )
+        self.assertIsNone(found.invalidations(0x11040))
+        self.assertIsNone(Blame(EMPTY).invalidations(0))
 
     def test_what_is_none(self):
         for text in (

@@ -1,12 +1,13 @@
 """Completion offers exactly the options that a call of view takes."""
 
+import os
 import subprocess
 import sys
 import unittest
 
 from calling import HERE, TOP, built
 
-sys.path.insert(0, TOP)
+sys.path.insert(0, os.path.dirname(os.path.dirname(HERE)))
 
 from view.reading.calls import FLAGS, FORMER, LISTS, MARKS, RECORDS, VALUES, Call  # noqa: E402
 from view.faults import Fault  # noqa: E402

@@ -11,7 +11,13 @@ HERE = os.path.dirname(os.path.abspath(__file__))
 sys.path.insert(0, os.path.dirname(os.path.dirname(HERE)))
 
 from view.faults import Fault  # noqa: E402
-from view.names.fields import Program, are_several, size_of, type_name, words_of  # noqa: E402
+from view.names.fields import (  # noqa: E402
+    Program,
+    has_several_fields,
+    size_of,
+    type_name,
+    word_path,
+)
 from view.names.source_lines import Sources  # noqa: E402
 
 
@@ -21,12 +27,12 @@ def built(name):
 
 class Fields(unittest.TestCase):
     def variable(self, program, name):
-        program.scan()
+        program.scan_variables()
         return next(it for it in program.variables.values() if it.name == name)
 
     def named(self, program, name, *offsets):
         variable = self.variable(program, name)
-        return [words_of(variable.type, name, it) for it in offsets]
+        return [word_path(variable.type, name, it) for it in offsets]
 
     def test_version_5(self):
         program = Program(built("ring.elf"))
@@ -41,7 +47,7 @@ class Fields(unittest.TestCase):
             (type_name(stats.type), size_of(stats.type), stats.alignment()),
             ("struct stats[4]", 64, 256),
         )
-        self.assertEqual(program.declared(stats), ("ring.c", 29))
+        self.assertEqual(program.declaration(stats), ("ring.c", 29))
 
     def test_version_4_with_all_kinds(self):
         program = Program(built("odd.elf"))
@@ -67,7 +73,7 @@ class Fields(unittest.TestCase):
         ):
             kind = self.variable(Program(built(name)), variable).type
             self.assertEqual(
-                {it: are_several(kind, 8 * it, 8 * it + 32) for it in offsets}, offsets, name
+                {it: has_several_fields(kind, 8 * it, 8 * it + 32) for it in offsets}, offsets, name
             )
 
     def test_bit_fields_of_version_5(self):

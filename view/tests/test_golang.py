@@ -22,18 +22,18 @@ sys.path[:0] = [TOP, os.path.join(TOP, "native", "others")]
 
 from view.names import go  # noqa: E402
 from view.names import demangling  # noqa: E402
-from view.names.fields import sound  # noqa: E402
-from view.names.go import Table, table_of  # noqa: E402
-from view.model.object_keys import OfFile  # noqa: E402
+from view.names.fields import value_or_default  # noqa: E402
+from view.names.go import Table, find_table  # noqa: E402
+from view.model.object_keys import FileKey  # noqa: E402
 from view.main import lacking  # noqa: E402
 from view.names.naming import Naming  # noqa: E402
 from view.names.native import NativeProgram, NativeSources, Site  # noqa: E402
-from view.model.objects import Thing  # noqa: E402
+from view.model.objects import DataObject  # noqa: E402
 from pclntab import MODULE, OWN, TABLE, TEXT, Made, encoded  # noqa: E402
 from view.reading.reports import Site as Called  # noqa: E402
 from run import is_named  # noqa: E402
-from view.names.source_lines import Place  # noqa: E402
-from view.names.unnamed_memory import is_unnamed, name  # noqa: E402
+from view.names.source_lines import SourceLine  # noqa: E402
+from view.names.unnamed_memory import is_unnamed, name_by_users  # noqa: E402
 
 VERSIONS, WAYS = ("1.16", "1.18", "1.20"), ("fixed", "addends", "packed")
 A, B, C = "/src/a.go", "/src/b.go", "lib/c.go"
@@ -76,7 +76,7 @@ class OfBytes(unittest.TestCase):
         """The table that is found in a program, or in its bytes."""
         with open(self.path, "wb") as file:
             file.write(made if isinstance(made, bytes) else made.bytes(**how))
-        return table_of(self.path)
+        return find_table(self.path)
 
     def told(self, made):
         table = self.table(made)
@@ -139,7 +139,7 @@ class Versions(OfBytes):
         # (of another machine)
         self.assertIsNone(self.table(made, machine=183))
         for it in ("/bin/sh", sys.executable, os.path.join(TOP, "guest", "built", "counters.elf")):
-            self.assertIsNone(table_of(it))
+            self.assertIsNone(find_table(it))
 
 
 class Strange(OfBytes):
@@ -236,21 +236,21 @@ class Strange(OfBytes):
                     self.assertEqual(found, [("lib.deep", B, 50), ("main.outer", A, 302)])
                 else:
                     self.assertEqual(found, [("", B, 50)], (version, hex(place), value))
-                self.assertEqual(table.frames(TEXT + 80), [Place("main.outer", A, 302)])
+                self.assertEqual(table.frames(TEXT + 80), [SourceLine("main.outer", A, 302)])
             # (the outer one behind the inner one; and a record without a tree)
             made = Made(version)
             made.put(inner + place_at, struct.pack("<I", 47))
             made.put(deep + place_at, struct.pack("<I", 15))
-            self.assertEqual(self.table(made).frames(TEXT + 48), [Place("", B, 20)])
+            self.assertEqual(self.table(made).frames(TEXT + 48), [SourceLine("", B, 20)])
             made = Made(version)
             made.put(made.records[1] + {"1.18": 39}.get(version, 43), b"\3")
-            self.assertEqual(self.table(made).frames(TEXT + 48), [Place("", B, 20)])
+            self.assertEqual(self.table(made).frames(TEXT + 48), [SourceLine("", B, 20)])
             # (the first name is one like others, unless nothing at all is there)
             made = Made(version)
             made.put(inner + name_at, bytes(4))
-            self.assertEqual(self.table(made).frames(TEXT + 48)[0], Place("go.buildid", B, 20))
+            self.assertEqual(self.table(made).frames(TEXT + 48)[0], SourceLine("go.buildid", B, 20))
             made.put(inner, bytes(size))
-            self.assertEqual(self.table(made).frames(TEXT + 48), [Place("", B, 20)])
+            self.assertEqual(self.table(made).frames(TEXT + 48), [SourceLine("", B, 20)])
 
     def test_how_deep_calls_are(self):
         for deep, wanted in ((2, TOLD[64]), (1, [("", B, 50)])):
@@ -269,13 +269,13 @@ class Strange(OfBytes):
         made = Made()
         # (one that begins within another one, and one that is longer than all)
         made.put(made.records[0] + 4, struct.pack("<I", made.get(made.records[0] + 4) + 1))
-        self.assertEqual(self.table(made).frames(TEXT), [Place("", B, 7)])
+        self.assertEqual(self.table(made).frames(TEXT), [SourceLine("", B, 7)])
         made.put(made.records[1] + 4, struct.pack("<I", made.get(made.records[1] + 4) + 1))
-        self.assertEqual(self.table(made).frames(TEXT + 48), [Place("", B, 20)])
+        self.assertEqual(self.table(made).frames(TEXT + 48), [SourceLine("", B, 20)])
         with mock.patch.object(go, "NAME", len("main.plain")):
-            self.assertEqual(self.table(Made()).frames(TEXT), [Place("", B, 7)])
+            self.assertEqual(self.table(Made()).frames(TEXT), [SourceLine("", B, 7)])
         with mock.patch.object(go, "NAME", len("main.plain") + 1):
-            self.assertEqual(self.table(Made()).frames(TEXT), [Place("main.plain", B, 7)])
+            self.assertEqual(self.table(Made()).frames(TEXT), [SourceLine("main.plain", B, 7)])
 
     def test_files(self):
         made = Made()
@@ -288,26 +288,28 @@ class Strange(OfBytes):
             made = Made()
             made.put(place, struct.pack("<I", value))
             self.assertEqual(
-                self.table(made).frames(TEXT), [Place("main.plain", "", 0)], (hex(place), value)
+                self.table(made).frames(TEXT),
+                [SourceLine("main.plain", "", 0)],
+                (hex(place), value),
             )
         # (no file, and one behind the list of them)
         for unit, at in ((2, -1), (0, (TABLE + 0x1800 - made.places[1]) // 4), (1 << 20, 0)):
             made = Made(own=[OWN[0]._replace(unit=unit, files=[(at, 32)])])
             self.assertEqual(
-                self.table(made).frames(TEXT), [Place("main.plain", "", 0)], (unit, at)
+                self.table(made).frames(TEXT), [SourceLine("main.plain", "", 0)], (unit, at)
             )
 
     def test_lines(self):
         for line in (-1, 0, -7):
             made = Made(own=[OWN[0]._replace(lines=[(line, 32)])])
-            self.assertEqual(self.table(made).frames(TEXT), [Place("main.plain", "", 0)])
+            self.assertEqual(self.table(made).frames(TEXT), [SourceLine("main.plain", "", 0)])
 
     def test_what_ends_early(self):
         whole = Made().bytes()
         for size in range(0, len(whole), 37):
-            table = sound(functools.partial(self.table, whole[:size]), None)
+            table = value_or_default(functools.partial(self.table, whole[:size]), None)
             for at in TOLD if table else ():
-                found = sound(functools.partial(table.frames, TEXT + at), [])
+                found = value_or_default(functools.partial(table.frames, TEXT + at), [])
                 # (all, or the line alone, or the function alone, or nothing)
                 line, function = [("", *it[1:]) for it in TOLD[at][:1]], [
                     (it[0], "", 0) for it in TOLD[at][-1:]
@@ -367,7 +369,7 @@ class Strange(OfBytes):
             table = self.table(made)
             self.assertEqual(
                 table and table.frames(TEXT),
-                None if grown[:4] == head[:4] else [Place("main.plain", B, 7)],
+                None if grown[:4] == head[:4] else [SourceLine("main.plain", B, 7)],
             )
             self.assertLess(time.process_time() - begin, 4)
         with mock.patch.object(go, "FUNCTIONS", len(OWN) - 1):
@@ -399,7 +401,7 @@ class Native:
     """A program of this machine: a file with a table, and one without."""
 
     def __init__(self, path):
-        self.path, self.back, self.go_tables, self.own = (
+        self.path, self.map, self.go_tables, self.own = (
             path,
             mock.Mock(frames={}, sites={}),
             {},
@@ -415,7 +417,7 @@ class Native:
     def file(self, addr):
         return (self.one if addr < 1 << 31 else self.other), addr % (1 << 31)
 
-    def library(self, addr):
+    def library_place(self, addr):
         own, at = self.file(addr)
         return f"{os.path.basename(own.path)}+{at:#x}"
 
@@ -437,28 +439,30 @@ class Names(OfBytes):
             (144, f"program+{TEXT + 144:#x} (main.unknown)"),
             (176, f"program+{TEXT + 176:#x}"),
         ):
-            self.assertEqual(naming.instruction(TEXT + at), wanted)
+            self.assertEqual(naming.instruction_name(TEXT + at), wanted)
         self.assertEqual(
-            naming.names.shortened(naming.instruction(TEXT + 96)), "c.go:1000000 (y.v3.(*T).M)"
+            naming.names.shorten(naming.instruction_name(TEXT + 96)), "c.go:1000000 (y.v3.(*T).M)"
         )
-        self.assertEqual(naming.instruction((1 << 31) + 0x40), "sh+0x40")
+        self.assertEqual(naming.instruction_name((1 << 31) + 0x40), "sh+0x40")
 
     def test_call_sites(self):
         naming, _ = self.naming()
         sites = [Called(TEXT + at, "-") for at in (64, 31, 144, 0x100)]
         # (a function that is called has its own name, and not that of what is inlined)
-        self.assertEqual([naming.called(it) for it in sites[:2]], ["main.outer", "main.plain"])
         self.assertEqual(
-            [naming.called(it) for it in sites[2:]],
+            [naming.function_name(it) for it in sites[:2]], ["main.outer", "main.plain"]
+        )
+        self.assertEqual(
+            [naming.function_name(it) for it in sites[2:]],
             [f"program+{TEXT + 144:#x}", f"program+{TEXT + 0x100:#x}"],
         )
-        self.assertEqual(naming.block(sites[:2]), "block made at b.go:50 < main.plain")
-        self.assertEqual(naming.called(Called(TEXT, "own")), "own")
+        self.assertEqual(naming.block_name(sites[:2]), "block made at b.go:50 < main.plain")
+        self.assertEqual(naming.function_name(Called(TEXT, "own")), "own")
 
     def test_what_is_told_by_others(self):
         """Debug information comes before the table, and what the recorder told behind it."""
         _, native = self.naming()
-        native.back.sites = {TEXT + at: [Site("recorded", "r.c:1")] for at in (0, 144)}
+        native.map.sites = {TEXT + at: [Site("recorded", "r.c:1")] for at in (0, 144)}
         told = [
             {"Symbol": [it]}
             for it in (
@@ -473,23 +477,23 @@ class Names(OfBytes):
         ):
             sources = NativeSources(native)
             sources.find([TEXT, TEXT + 16, TEXT + 24, TEXT + 144, TEXT + 164, TEXT + 176])
-        self.assertEqual(sources.frames(TEXT), [Place("own", "/own.c", 3)])
-        self.assertEqual(sources.frames(TEXT + 16), [Place("main.plain", B, 8)])
-        self.assertEqual(sources.frames(TEXT + 24), [Place("main.plain", B, 6)])
-        self.assertEqual(sources.frames(TEXT + 144), [Place("own", "/own.c", 3)])
-        self.assertEqual(sources.frames(TEXT + 164), [Place("own", "", 0)])
+        self.assertEqual(sources.frames(TEXT), [SourceLine("own", "/own.c", 3)])
+        self.assertEqual(sources.frames(TEXT + 16), [SourceLine("main.plain", B, 8)])
+        self.assertEqual(sources.frames(TEXT + 24), [SourceLine("main.plain", B, 6)])
+        self.assertEqual(sources.frames(TEXT + 144), [SourceLine("own", "/own.c", 3)])
+        self.assertEqual(sources.frames(TEXT + 164), [SourceLine("own", "", 0)])
         with mock.patch(
             "view.names.native.subprocess.run",
             return_value=mock.Mock(stdout=json.dumps(told[1]).encode()),
         ):
             sources = NativeSources(native)
-            self.assertEqual(sources.frames(TEXT + 144), [Place("recorded", "r.c", 1)])
-            native.back.sites = {}
+            self.assertEqual(sources.frames(TEXT + 144), [SourceLine("recorded", "r.c", 1)])
+            native.map.sites = {}
             sources = NativeSources(native)
-            self.assertEqual(sources.frames(TEXT + 144), [Place("own", "", 0)])
+            self.assertEqual(sources.frames(TEXT + 144), [SourceLine("own", "", 0)])
 
     def test_short_names(self):
-        names = demangling.Names()
+        names = demangling.SymbolNames()
         for whole, wanted in (
             ("github.com/junegunn/fzf/src.(*Matcher).scan.func1", "src.(*Matcher).scan.func1"),
             ("gopkg.in/yaml%2ev3.(*parser).parse", "yaml.v3.(*parser).parse"),
@@ -508,7 +512,7 @@ class Names(OfBytes):
                 "sync.(*Map[...]).Load",
             ),
         ):
-            self.assertEqual(names.shortened(names.readable(whole)), wanted)
+            self.assertEqual(names.shorten(names.readable_name(whole)), wanted)
 
     def test_atomic_operations(self):
         files = (
@@ -517,19 +521,21 @@ class Names(OfBytes):
             "internal/runtime/atomic/types.go",
         )
         for file in files:
-            told = [Place("atomic.Add", file, 3), Place("main.own", "own.go", 4)]
+            told = [SourceLine("atomic.Add", file, 3), SourceLine("main.own", "own.go", 4)]
             self.assertEqual(
-                Naming(None, None, mock.Mock(frames=lambda _, told=told: told)).instruction(8),
+                Naming(None, None, mock.Mock(frames=lambda _, told=told: told)).instruction_name(8),
                 "own.go:4 (main.own)",
             )
         for file in ("x/unsync/atomic/x.go", "x/sync/atomic/x.h"):
-            told = [Place("x.Add", file, 3), Place("main.own", "own.go", 4)]
-            told_as = Naming(None, None, mock.Mock(frames=lambda _, told=told: told)).instruction(8)
+            told = [SourceLine("x.Add", file, 3), SourceLine("main.own", "own.go", 4)]
+            told_as = Naming(
+                None, None, mock.Mock(frames=lambda _, told=told: told)
+            ).instruction_name(8)
             self.assertEqual(told_as, f"{os.path.basename(file)}:3 (x.Add < main.own)")
 
     def test_memory_of_a_file(self):
         naming, native = self.naming()
-        thing = Thing(OfFile("file", self.path), None)
+        thing = DataObject(FileKey("file", self.path), None)
         self.assertTrue(is_unnamed(thing, naming))
         for pcs, wanted in (
             (
@@ -542,8 +548,8 @@ class Names(OfBytes):
             ),
             ([TEXT + 176, TEXT + 176], f"memory of program, used at program+{TEXT + 176:#x}"),
         ):
-            thing.name = naming.key_name(thing.key, None)
-            name(thing, pcs, naming)
+            thing.name = naming.object_name(thing.key, None)
+            name_by_users(thing, pcs, naming)
             self.assertEqual(thing.name, wanted)
 
     def test_what_counts_as_named(self):
@@ -650,9 +656,9 @@ class OfGo(unittest.TestCase):
 
     def test_the_same_as_by_debug_information(self):
         for whole, small in self.programs:
-            places, table = self.instructions(whole, r"(?:main|sync|strconv|runtime)\."), table_of(
-                small
-            )
+            places, table = self.instructions(
+                whole, r"(?:main|sync|strconv|runtime)\."
+            ), find_table(small)
             self.assertGreater(len(places), 30000)
             different, chains = [], set()
             for at, told in zip(places, self.symbolized(whole, places), strict=True):
@@ -672,11 +678,11 @@ class OfGo(unittest.TestCase):
     def test_each_way_to_strip(self):
         for whole, small in self.programs:
             places = self.instructions(whole, r"main\.")
-            wanted = [*map(table_of(whole).frames, places)]
+            wanted = [*map(find_table(whole).frames, places)]
             self.assertTrue(all(it and it[0].line for it in wanted))
             subprocess.run(["strip", "-o", whole + ".bare", whole], check=True)
             for path in (small, whole + ".bare"):
-                self.assertEqual([*map(table_of(path).frames, places)], wanted)
+                self.assertEqual([*map(find_table(path).frames, places)], wanted)
 
 
 if __name__ == "__main__":

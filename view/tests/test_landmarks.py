@@ -15,9 +15,9 @@ sys.path.insert(0, TOP)
 
 from elftools.elf.elffile import ELFFile  # noqa: E402
 
-from view.names.cpp import Landmarks  # noqa: E402
-from view.names.native import Back, NativeProgram  # noqa: E402
-from view.names.rust import Near, Panic  # noqa: E402
+from view.names.cpp import LandmarkFinder  # noqa: E402
+from view.names.native import AddressMap, NativeProgram  # noqa: E402
+from view.names.rust import NearPanics, Panic  # noqa: E402
 
 # (what is called and what refers to something is never inlined but where that is wanted, and stands in this order)
 SOURCE = r"""
@@ -241,19 +241,21 @@ class Ways(Built):
         for way, words in WAYS.items():
             with self.subTest(way):
                 path, places = self.built(SOURCE, *CODE, *words)
-                landmarks = Landmarks(path, (at for it in places.values() for at in range(*it)))
+                landmarks = LandmarkFinder(
+                    path, (at for it in places.values() for at in range(*it))
+                )
                 for name, told in wanted(way).items():
                     with self.subTest(way=way, name=name):
                         near = landmarks.near(places[name][0])
-                        self.assertEqual(near.told() if near else None, told)
+                        self.assertEqual(near.text() if near else None, told)
                         inside = landmarks.near(places[name][1] - 1)
                         self.assertEqual(
-                            inside.told() if inside else None,
+                            inside.text() if inside else None,
                             told.replace("c:22", "c:24") if told else None,
                         )
                 # (before the second check, which is nearer than the first one's call)
                 near = landmarks.near(places["asserts_twice"][0] + 90)
-                self.assertEqual(near.told(), "near an assertion at src/list.c:24 in asserts_twice")
+                self.assertEqual(near.text(), "near an assertion at src/list.c:24 in asserts_twice")
                 self.assertEqual([landmarks.near(it) for it in (0, 1 << 40)], [None, None])
 
     def test_calls_that_did_not_run(self):
@@ -261,19 +263,21 @@ class Ways(Built):
         low, caller, jumper = places["low_of_two"], places["says"], places["asserts"]
 
         def told(at, *ran):
-            near = Landmarks(path, [it for own in ran for it in range(*own)]).near(at)
-            return near.told() if near else None
+            near = LandmarkFinder(path, [it for own in ran for it in range(*own)]).near(at)
+            return near.text() if near else None
 
         self.assertIsNone(told(low[0]))
         self.assertIsNone(told(low[0], low))
         self.assertIsNone(told(low[0], caller))
         self.assertEqual(told(low[0], low, caller), 'called near the text "the list is broken"')
         # (a call in what no function is known to be is one more)
-        landmarks = Landmarks(path, [it for own in (low, caller, jumper) for it in range(*own)])
+        landmarks = LandmarkFinder(
+            path, [it for own in (low, caller, jumper) for it in range(*own)]
+        )
         usual = landmarks.functions.function
         landmarks.functions.function = lambda at: None if at in range(*jumper) else usual(at)
         self.assertEqual(
-            landmarks.near(low[0]).told(), 'called near the text "the list is broken" and 1 more'
+            landmarks.near(low[0]).text(), 'called near the text "the list is broken" and 1 more'
         )
         # (a jump writes nothing, so some of its function must have run)
         to = places["jumped_to"]
@@ -301,13 +305,13 @@ class Ways(Built):
         FUNCTION void last(int *it) { it[0]++; said = "what is last"; }
         """
         path, places = self.built(source, *flags, language="c")
-        landmarks = Landmarks(path)
+        landmarks = LandmarkFinder(path)
         for name, text in (
             ("shown", "what is exported"),
             ("hidden", "what is hidden"),
             ("last", "what is last"),
         ):
-            self.assertEqual(landmarks.near(places[name][0] + 4).told(), f'near the text "{text}"')
+            self.assertEqual(landmarks.near(places[name][0] + 4).text(), f'near the text "{text}"')
         self.assertIsNone(landmarks.near(places["last"][1] + 1))
 
     def test_classes_of_a_library(self):
@@ -324,9 +328,9 @@ class Ways(Built):
         path, places = self.built(
             source, "-O1", "-fPIC", "-shared", "-Wl,--unresolved-symbols=ignore-all"
         )
-        landmarks = Landmarks(path)
+        landmarks = LandmarkFinder(path)
         for name in ("_ZN5Shown5shownEPi", "_ZN5Shown6hiddenEPi"):
-            self.assertEqual(landmarks.near(places[name][0]).told(), "in a method of Shown")
+            self.assertEqual(landmarks.near(places[name][0]).text(), "in a method of Shown")
 
     def test_what_many_call(self):
         """What is called by more than a few is told by none of them."""
@@ -345,12 +349,12 @@ class Ways(Built):
             path, places = self.built(
                 source, "-O1", "-fPIE", "-pie", "-fno-optimize-sibling-calls", language="c"
             )
-            near = Landmarks(path, (at for it in places.values() for at in range(*it))).near(
+            near = LandmarkFinder(path, (at for it in places.values() for at in range(*it))).near(
                 places["called"][0]
             )
             texts = 'called near the text "text number 00 of some" and near the text "text number 01 of some"'
             self.assertEqual(
-                near.told() if near else None, f"{texts} and {more} more" if more else None
+                near.text() if near else None, f"{texts} and {more} more" if more else None
             )
 
     def test_where_nothing_is_called(self):
@@ -370,11 +374,11 @@ class Ways(Built):
         path, places = self.built(
             source, "-O2", "-fno-toplevel-reorder", *WAYS["bare"][:-1], language="c"
         )
-        landmarks = Landmarks(path)
+        landmarks = LandmarkFinder(path)
         for at in range(*places["chooses"]):
-            self.assertEqual(landmarks.near(at).told(), 'near the text "what is chosen"')
+            self.assertEqual(landmarks.near(at).text(), 'near the text "what is chosen"')
         self.assertEqual({landmarks.near(at) for at in range(*places["unused"])}, {None})
-        self.assertEqual(landmarks.near(places["says"][0]).told(), 'near the text "what is said"')
+        self.assertEqual(landmarks.near(places["says"][0]).text(), 'near the text "what is said"')
 
     def test_functions_without_gaps(self):
         """Functions that nothing stands between: one whose address is taken, one of a table, and one that is jumped to on a condition."""
@@ -406,7 +410,7 @@ class Ways(Built):
                 *WAYS[way],
             )
             path, places = self.built(text, *flags, language="c")
-            landmarks = Landmarks(path)
+            landmarks = LandmarkFinder(path)
             said = 'near the text "what is said"'
             wants = {
                 "says": said,
@@ -418,7 +422,7 @@ class Ways(Built):
             }
             for name, told in wants.items():
                 near = landmarks.near(places[name][0] + 1)
-                self.assertEqual(near.told() if near else None, told, (name, way))
+                self.assertEqual(near.text() if near else None, told, (name, way))
 
     def test_parts_that_stand_apart(self):
         source = r"""
@@ -431,9 +435,9 @@ class Ways(Built):
         """
         path, places = self.built(source, "-O2", "-fPIE", "-pie", language="c")
         self.assertIn("apart.cold", places)
-        landmarks = Landmarks(path)
+        landmarks = LandmarkFinder(path)
         self.assertEqual(
-            landmarks.near(places["apart"][0]).told(), 'near the text "what stands apart"'
+            landmarks.near(places["apart"][0]).text(), 'near the text "what stands apart"'
         )
         self.assertIsNone(landmarks.near(places["beside"][0]))
 
@@ -479,7 +483,7 @@ class Tables(Built):
             path, places = self.built(
                 TABLES, "-O1", "-w", "-fno-toplevel-reorder", *words, language="c"
             )
-            landmarks = Landmarks(path)
+            landmarks = LandmarkFinder(path)
             for name, told in (
                 ("own", "in a method of First"),
                 # (of unrelated classes the first by name, and of more than a few none)
@@ -494,7 +498,7 @@ class Tables(Built):
             ):
                 near = landmarks.near(places[name][0])
                 self.assertTrue(
-                    near and near.told().startswith(told) if told else near is None, (name, near)
+                    near and near.text().startswith(told) if told else near is None, (name, near)
                 )
             self.assertFalse(landmarks.near(places["of_library"][0]).names_source())
 
@@ -505,7 +509,7 @@ class Tables(Built):
         before = os.environ["PATH"]
         try:
             os.environ["PATH"] = self.folder
-            self.assertIsNone(Landmarks(path).near(places["own"][0]))
+            self.assertIsNone(LandmarkFinder(path).near(places["own"][0]))
         finally:
             os.environ["PATH"] = before
 
@@ -531,12 +535,12 @@ class Strange(Built):
             program = self.program(path, table)
             for at in addrs:
                 near = program.near(at)
-                self.assertIsInstance(near.told() if near else "", str)
+                self.assertIsInstance(near.text() if near else "", str)
         self.assertLess(time.time() - began, 30)
 
     def program(self, path, table):
         program = NativeProgram.__new__(NativeProgram)
-        program.back, program.panics, program.landmarks = table, {}, {}
+        program.map, program.panics, program.landmarks = table, {}, {}
         program.files = [
             type("File", (), {"path": path, "bias": 0, "has": lambda self, addr: True})()
         ]
@@ -545,16 +549,16 @@ class Strange(Built):
     def test_who_is_asked(self):
         """Panics are asked first, a program in Rust nothing else, and what goes wrong tells nothing."""
         path, places = self.built(SOURCE, *CODE, *WAYS["pie"])
-        at, own = places["says"][0], Near((Panic("src/a.rs", 7),))
+        at, own = places["says"][0], NearPanics((Panic("src/a.rs", 7),))
 
         def told(**panics):
             program = self.program(path, self.table(path))
             program.panics[path] = type("Panics", (), {"places": {}, **panics})()
             near = program.near(at)
-            return near.told() if near else None
+            return near.text() if near else None
 
         self.assertEqual(told(near=lambda self, addr: None), 'near the text "the list is broken"')
-        self.assertEqual(told(near=lambda self, addr: own), own.told())
+        self.assertEqual(told(near=lambda self, addr: own), own.text())
         self.assertIsNone(told(near=lambda self, addr: None, places={1: own.places[0]}))
         self.assertEqual(
             told(near=lambda self, addr: [][addr]), 'near the text "the list is broken"'
@@ -567,20 +571,20 @@ class Strange(Built):
                 f"program {path}\n"
                 + "".join(f"{it:#x} {it:#x}\n" for it in range(0, 1 << 17, 4096))
             )
-        return Back(table)
+        return AddressMap(table)
 
     def test_others_have_none(self):
         self.assertIsNone(
-            Landmarks(os.path.join(TOP, "guest", "built", "counters.elf")).near(0x10000)
+            LandmarkFinder(os.path.join(TOP, "guest", "built", "counters.elf")).near(0x10000)
         )
         path, places = self.built(SOURCE, *CODE, *WAYS["pie"])
         with open(path, "r+b") as file:
             file.seek(18)
             file.write(b"\xb7\x00")
-        self.assertEqual({Landmarks(path).near(it[0]) for it in places.values()}, {None})
+        self.assertEqual({LandmarkFinder(path).near(it[0]) for it in places.values()}, {None})
         path, places = self.built(SOURCE, *CODE, *WAYS["pie"])
         subprocess.run(["objcopy", "--add-section", ".go.buildinfo=/dev/null", path], check=True)
-        self.assertEqual({Landmarks(path).near(it[0]) for it in places.values()}, {None})
+        self.assertEqual({LandmarkFinder(path).near(it[0]) for it in places.values()}, {None})
 
     def test_a_large_file(self):
         """All texts, calls and tables of sixteen megabytes of code are looked through in a second or two."""
@@ -588,9 +592,9 @@ class Strange(Built):
             SOURCE + '__asm__(".fill 600000, 28, 0x2400008d48\\n");', *CODE, *WAYS["bare"]
         )
         began = time.process_time()
-        landmarks = Landmarks(path, range(*places["low"]))
+        landmarks = LandmarkFinder(path, range(*places["low"]))
         self.assertEqual(
-            landmarks.near(places["says"][0]).told(), 'near the text "the list is broken"'
+            landmarks.near(places["says"][0]).text(), 'near the text "the list is broken"'
         )
         landmarks.near(places["low"][0])
         self.assertLess(time.process_time() - began, 4)

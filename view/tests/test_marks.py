@@ -10,9 +10,9 @@ sys.path.insert(0, TOP)
 from view.names import cpp_assertions  # noqa: E402
 from view.names import cpp_classes  # noqa: E402
 from view.output import exports  # noqa: E402
-from view.names.cpp import ASSERTION, CLASS, TEXT, Landmark, Marks, text_shown  # noqa: E402
+from view.names.cpp import ASSERTION, CLASS, TEXT, Landmark, Landmarks, shorten_text  # noqa: E402
 from view.names.naming import Naming  # noqa: E402
-from view.names.rust import Near, Panic  # noqa: E402
+from view.names.rust import NearPanics, Panic  # noqa: E402
 from view.reading.reports import Site  # noqa: E402
 
 sys.path.insert(0, os.path.join(TOP, "native", "others"))
@@ -37,7 +37,7 @@ class Texts(unittest.TestCase):
             ),
             ("a::get(T) const [with T = b<c>; U = int]::<lambda(int)>", None),
         ):
-            found = cpp_assertions.function_named(whole)
+            found = cpp_assertions.short_function_name(whole)
             self.assertEqual(found, told or found)
 
     def test_files_from_their_package_on(self):
@@ -49,14 +49,14 @@ class Texts(unittest.TestCase):
             ("/build/reproducible-path/zstd-1.5.4/lib/a.c", "lib/a.c"),
             ("/home/me/own/a.c", "/home/me/own/a.c"),
         ):
-            self.assertEqual(cpp_assertions.built(file), told)
+            self.assertEqual(cpp_assertions.path_in_package(file), told)
         header = cpp_assertions.Assertion(
             0, 0, "/usr/include/eigen3/Eigen/src/Core/Block.h", 7, "", ()
         )
         self.assertTrue(header.is_library() and header.is_header())
         own = cpp_assertions.Assertion(0, 0, "src/h.c", 7, "", ())
         self.assertFalse(own.is_library() or own.is_header())
-        self.assertEqual(own.told(), "near an assertion at src/h.c:7")
+        self.assertEqual(own.text(), "near an assertion at src/h.c:7")
 
     def test_classes(self):
         normal = "__gnu_cxx::__normal_iterator<x::File**,std::vector<x::File*,std::allocator<x::File*> > >"
@@ -85,7 +85,7 @@ class Texts(unittest.TestCase):
             ("std::ctype<char>", "std::ctype<char>"),
             ("x::all(int)::Local", "x::all::Local"),
         ):
-            self.assertEqual(cpp_classes.told(whole), told)
+            self.assertEqual(cpp_classes.short_class_name(whole), told)
         for whole, is_library in (
             ("std::ctype<char>", True),
             (
@@ -120,18 +120,18 @@ class Texts(unittest.TestCase):
             ("virtual memory exhausted", ""),
             ("out of memory for the list", "out of memory for the list"),
         ):
-            self.assertEqual(text_shown(text), shown)
+            self.assertEqual(shorten_text(text), shown)
 
     def test_what_is_said(self):
         own, other = Landmark(TEXT, 'near the text "one"'), Landmark(
             CLASS, "in a method of std::ctype<char>", 1, True
         )
-        self.assertEqual(Marks((own,)).told(), 'near the text "one"')
+        self.assertEqual(Landmarks((own,)).text(), 'near the text "one"')
         self.assertEqual(
-            Marks((own, other), True, 3).told(),
+            Landmarks((own, other), True, 3).text(),
             'called near the text "one" and in a method of std::ctype<char> and 3 more',
         )
-        self.assertEqual([Marks((it,)).names_source() for it in (own, other)], [True, False])
+        self.assertEqual([Landmarks((it,)).names_source() for it in (own, other)], [True, False])
 
 
 class Stripped:
@@ -140,25 +140,25 @@ class Stripped:
     def __init__(self, **near):
         self.found = {int(it[1:], 16): own for it, own in near.items()}
 
-    def library(self, addr):
+    def library_place(self, addr):
         return f"x264+{addr:#x}"
 
-    def near(self, addr):
+    def landmark(self, addr):
         return self.found.get(addr)
 
 
 class Names(unittest.TestCase):
     def test_instructions_and_blocks(self):
-        own = Marks((Landmark(ASSERTION, "near an assertion at src/a.c:7 in work"),))
-        called = Marks((Landmark(TEXT, 'near the text "one"'),), True)
-        library = Marks((Landmark(CLASS, "in a method of std::ctype<char>", 1, True),))
+        own = Landmarks((Landmark(ASSERTION, "near an assertion at src/a.c:7 in work"),))
+        called = Landmarks((Landmark(TEXT, 'near the text "one"'),), True)
+        library = Landmarks((Landmark(CLASS, "in a method of std::ctype<char>", 1, True),))
         naming = Naming(None, Stripped(x10=own, x20=called, x40=library))
         self.assertEqual(
-            naming.instruction(0x10), "x264+0x10 (near an assertion at src/a.c:7 in work)"
+            naming.instruction_name(0x10), "x264+0x10 (near an assertion at src/a.c:7 in work)"
         )
 
         def block(*sites):
-            return naming.block([Site(it, "-") for it in sites])
+            return naming.block_name([Site(it, "-") for it in sites])
 
         self.assertEqual(
             block(0x30, 0x10),
@@ -169,11 +169,13 @@ class Names(unittest.TestCase):
         )
         self.assertEqual(block(0x20, 0x30), "block made in x264+0x20 < x264+0x30")
         self.assertEqual(block(0x40, 0x30), "block made in x264+0x40 < x264+0x30")
-        self.assertEqual(naming.instruction(0x40), "x264+0x40 (in a method of std::ctype<char>)")
+        self.assertEqual(
+            naming.instruction_name(0x40), "x264+0x40 (in a method of std::ctype<char>)"
+        )
 
     def test_what_machines_read(self):
-        own = Marks((Landmark(ASSERTION, "near an assertion at src/a.c:7 in work"),), False, 3)
-        panic = Near((Panic("src/a.rs", 7),))
+        own = Landmarks((Landmark(ASSERTION, "near an assertion at src/a.c:7 in work"),), False, 3)
+        panic = NearPanics((Panic("src/a.rs", 7),))
         view = type("View", (), {"naming": Naming(None, Stripped(x10=own, x20=panic))})
         found = [exports.instruction(view, it) for it in (0x10, 0x20, 0x30)]
         told = {"called": False, "texts": ["near an assertion at src/a.c:7 in work"], "more": 3}

@@ -15,18 +15,30 @@ from view.model import foreign_objects  # noqa: E402
 from calling import built  # noqa: E402
 from view.reading.calls import Call  # noqa: E402
 from view.names.fields import Program  # noqa: E402
-from view.model.view import Seen, View  # noqa: E402
+from view.model.view import ObjectDetails, View  # noqa: E402
 from judge_report import Access, Case, Ending, trace_of  # noqa: E402
-from view.model.object_keys import OfSymbol  # noqa: E402
-from view.names.demangling import Names, short  # noqa: E402
+from view.model.object_keys import SymbolKey  # noqa: E402
+from view.names.demangling import SymbolNames, short_name  # noqa: E402
 from view.names.naming import Memory, Naming, WordKind  # noqa: E402
-from view.model.objects import Spot, Thing, Told, holder  # noqa: E402
-from view.model.stack_overflow import overflow  # noqa: E402
-from view.model.predicted_lines import can_lie, judged, together  # noqa: E402
-from view.reading.reports import Block, Line, Misses, Pair, Report, Site, Symbol  # noqa: E402
+from view.model.objects import ObjectLine, DataObject, WordUse, word_holder  # noqa: E402
+from view.model.stack_overflow import find_overflow  # noqa: E402
+from view.model.predicted_lines import (  # noqa: E402
+    can_begin_there,
+    judge_predicted_lines,
+    group_predicted_lines,
+)
+from view.reading.reports import (  # noqa: E402
+    Block,
+    Line,
+    Misses,
+    InstructionPair,
+    Report,
+    Site,
+    Symbol,
+)
 from view.output.screen import Paint, prediction, screen  # noqa: E402
-from view.names.source_lines import Place  # noqa: E402
-from view.names.unnamed_memory import HEAP, name  # noqa: E402
+from view.names.source_lines import SourceLine  # noqa: E402
+from view.names.unnamed_memory import HEAP, name_by_users  # noqa: E402
 
 HEAD = (
     "predator report 1\noutcome exit 0\nsteps 9\naccesses 900\nlayout 64 0\nthresholds 16 64 100\n"
@@ -43,9 +55,9 @@ def view_of(rows, misses=None, memory=None, each=None, by_word=None, program=Non
     report = report_of(rows)
     view = View(Call(["r"]), report, Naming(report, program, memory=memory))
     view.misses = Misses(misses) if misses else None
-    view.each = report_of(each) if each else None
-    view.by_word = Misses(by_word) if by_word else None
-    view.arrange()
+    view.every_line = report_of(each) if each else None
+    view.word_misses = Misses(by_word) if by_word else None
+    view.group_by_objects()
     return view
 
 
@@ -82,7 +94,7 @@ class Compared(unittest.TestCase):
     def pairs(self, old, new):
         return sorted(
             (a and a["false_sharing"] or 0, b and b["false_sharing"] or 0)
-            for a, b in comparison.pairs(old, new)
+            for a, b in comparison.pair_objects(old, new)
         )
 
     def test_blocks_whose_lines_have_moved(self):
@@ -133,7 +145,7 @@ class Compared(unittest.TestCase):
         total = {"true_sharing": 1, "false_sharing": 300}
         before = comparison.Before([made(300, 9, useful=1)], "exit 0", total)
         self.assertEqual(
-            list(comparison.compared(view, before, "old")),
+            list(comparison.compare_views(view, before, "old")),
             [
                 "",
                 "against old:",
@@ -144,7 +156,7 @@ class Compared(unittest.TestCase):
         )
         nothing = comparison.Before([made(0, 9)], "budget", {"true_sharing": 0, "false_sharing": 0})
         self.assertEqual(
-            list(comparison.compared(view, nothing, "old"))[2:],
+            list(comparison.compare_views(view, nothing, "old"))[2:],
             [
                 "the outcome was budget and is exit 0",
                 "  false before  now  true before  now  object",
@@ -153,7 +165,7 @@ class Compared(unittest.TestCase):
         )
 
 
-LOCK = OfSymbol("symbol", "lock", 0x1000)
+LOCK = SymbolKey("symbol", "lock", 0x1000)
 ALIGNED = "`__attribute__((aligned(64)))`"
 
 
@@ -161,14 +173,16 @@ def used(name, at, useful, kind=WordKind(True, False), hart="many"):
     """A word of the object `lock` that threads use."""
     owner = "several threads" if hart == "many" else f"hart {hart}"
     own = (name, "", name, LOCK, 0x1000, 100, 100, hart, useful, kind, owner)
-    return Told(0x1000 + at, 0x1000, *own)
+    return WordUse(0x1000 + at, 0x1000, *own)
 
 
 class Advised(unittest.TestCase):
     def thing(self, useless, useful):
-        thing = Thing(LOCK, Symbol("lock", 0x1000, 64))
+        thing = DataObject(LOCK, Symbol("lock", 0x1000, 64))
         thing.name, thing.useless, thing.useful = "lock", useless, useful
-        thing.spots.append(Spot(0x1000, None, SimpleNamespace(useless=useless, useful=useful)))
+        thing.lines.append(
+            ObjectLine(0x1000, None, SimpleNamespace(useless=useless, useful=useful))
+        )
         return thing
 
     def todo(self, *words, useless=0, useful=300, turns=100):
@@ -213,9 +227,9 @@ class Advised(unittest.TestCase):
             "lock.sum: true sharing (300 of 300 misses): write less", self.todo(*words[:2])
         )
         # (each load brings both of its words)
-        self.assertNotIn("misses more", self.todo(*words[:2], useful=90))
+        self.assertNotIn("more misses", self.todo(*words[:2], useful=90))
         self.assertIn(
-            "its own line for each word would cost 90 misses more",
+            "a separate line per word would cost 90 more misses",
             self.todo(words[0], used("lock.other", 8, 90), useful=90),
         )
 
@@ -230,7 +244,7 @@ class Advised(unittest.TestCase):
             (0x2000, ["near"]),
         ):
             self.assertEqual(
-                [it.name for it in view_of([head, near, word(at, 5, 50, "hart 1")]).things], names
+                [it.name for it in view_of([head, near, word(at, 5, 50, "hart 1")]).objects], names
             )
         # (it is on the line before too, and there it is touched)
         other = "line observed 0x00001fc0 64 start 0 count 900 verdict false"
@@ -242,9 +256,11 @@ class Advised(unittest.TestCase):
             near,
             word(0x2008, 5, 50, "hart 1"),
         ]
-        self.assertEqual([it.name for it in view_of(rows).things], ["near", "memory at 0x00002000"])
+        self.assertEqual(
+            [it.name for it in view_of(rows).objects], ["near", "memory at 0x00002000"]
+        )
         # (a line whose words aren't told is what it lies on)
-        self.assertEqual([it.name for it in view_of([head, near]).things], ["near"])
+        self.assertEqual([it.name for it in view_of([head, near]).objects], ["near"])
 
     def test_words_of_a_stack(self):
         rows = [
@@ -254,12 +270,12 @@ class Advised(unittest.TestCase):
         # (without debug information and with it)
         for program in (None, Program(built("odd.elf"))):
             view = view_of(rows, memory=Memory((0xF90000, 0x1010000), 8), program=program)
-            (told,) = view.seen(view.things[0]).words
+            (told,) = view.details(view.objects[0]).words
             self.assertEqual(
                 (told.name, told.kind),
                 ("0x0100ffc0, 64 bytes below its top", WordKind(False, False)),
             )
-            self.assertNotIn("several fields", view.seen(view.things[0]).fix)
+            self.assertNotIn("several fields", view.details(view.objects[0]).fix)
 
     def test_all_groups_are_told(self):
         shared = [used(f"lock.{it}", 4 * at, 90) for at, it in enumerate("abcdefg")]
@@ -289,7 +305,7 @@ class Advised(unittest.TestCase):
         words = [
             used("lock.a", 0, 90),
             used("lock.b", 4, 90),
-            used("near", 8, 0, hart="1")._replace(key=OfSymbol("symbol", "near", 8)),
+            used("near", 8, 0, hart="1")._replace(key=SymbolKey("symbol", "near", 8)),
         ]
         thing = self.thing(200, 90)
         told = advice.sentence(thing, words, {words[2].key: "near"}, 64, True, lambda _: "")
@@ -312,13 +328,13 @@ class Objects(unittest.TestCase):
             "object symbol tail 0x00001004 4",
         ]
         view = view_of([*rows, word(0x1000, 1, 50, "hart 0"), word(0x1004, 9, 80, "hart 1")])
-        (thing,) = view.things
+        (thing,) = view.objects
         self.assertEqual(
-            (thing.name, thing.count, [view.name_of(it) for it in thing.beside]),
+            (thing.name, thing.count, [view.name_of(it) for it in thing.neighbours]),
             ("tail", 200, ["head"]),
         )
         self.assertEqual(
-            view.seen(thing).fix,
+            view.details(thing).fix,
             f"tail and head share lines: put {ALIGNED} after each name",
         )
         self.assertIn("head", view.names_of(thing))
@@ -334,7 +350,7 @@ class Objects(unittest.TestCase):
         counted += "line 0x00001000 cold 2 useful 0 useless 300\nobject symbol a 0x00001000 64\n"
         view = view_of(rows, counted + "total cold 4 useful 1 useless 800\nend\n")
         self.assertEqual(
-            [(it.name, it.useless, it.useful, it.count) for it in view.things],
+            [(it.name, it.useless, it.useful, it.count) for it in view.objects],
             [("b", 500, 1, 0), ("a", 300, 0, 200)],
         )
 
@@ -349,10 +365,10 @@ class Objects(unittest.TestCase):
         words += "total cold 3 useful 501 useless 0\nend\n"
         view = view_of([], counted, by_word=words)
         self.assertEqual(
-            [(it.name, it.saves, it.useless) for it in view.things],
+            [(it.name, it.savable_misses, it.useless) for it in view.objects],
             [("b", 300, 300), ("a", 9, 500)],
         )
-        self.assertEqual([it.name for it in view_of([], counted).things], ["a", "b"])
+        self.assertEqual([it.name for it in view_of([], counted).objects], ["a", "b"])
 
     def test_what_the_c_library_has_is_one_row(self):
         rows = []
@@ -364,19 +380,19 @@ class Objects(unittest.TestCase):
             ]
             rows += [word(base, 5, 50, "many")]
         view = view_of(rows)
-        self.assertEqual(view.folded(), [])
+        self.assertEqual(view.folded_objects(), [])
         view.naming.program = SimpleNamespace(
-            dwarf=1, variable=lambda _: None, declared=lambda _: None
+            dwarf=1, variable=lambda _: None, declaration=lambda _: None
         )
-        view.rank()
-        self.assertEqual([it.name for it in view.listed()], ["_mine", "queue"])
+        view.rank_objects()
+        self.assertEqual([it.name for it in view.listed_objects()], ["_mine", "queue"])
         (shown,) = [it for it in screen(view, Paint(io.StringIO())) if "library" in it]
         self.assertEqual(
             shown.split(), "602 2 2 objects of the C library (--library shows them)".split()
         )
         for option in ({"library": ""}, {"object": "__malloc_lock"}):
             view.call.options.update(option)
-            self.assertEqual(view.folded(), [])
+            self.assertEqual(view.folded_objects(), [])
             view.call.options = {"type": []}
 
     def test_files_of_the_c_library(self):
@@ -393,16 +409,21 @@ class Objects(unittest.TestCase):
         self.assertFalse(foreign_objects.KIT.search("guest/examples/queue.c"))
 
     def test_the_pair_that_takes_most_for_nothing_is_first(self):
-        pairs = [Pair(1, 2, 90, 90), Pair(3, 4, 50, 10), Pair(5, 6, 45, 4), Pair(7, 8, 40, 10)]
-        seen = Seen(None, [], SimpleNamespace(pairs=pairs), "", "", None)
-        self.assertEqual([it.victim for it in seen.fights()], [5, 3, 7, 1])
-        self.assertEqual(seen.fight().victim, 5)
-        self.assertIsNone(Seen(None, [], None, "", "", None).fight())
+        pairs = [
+            InstructionPair(1, 2, 90, 90),
+            InstructionPair(3, 4, 50, 10),
+            InstructionPair(5, 6, 45, 4),
+            InstructionPair(7, 8, 40, 10),
+        ]
+        seen = ObjectDetails(None, [], SimpleNamespace(pairs=pairs), "", "", None)
+        self.assertEqual([it.victim for it in seen.conflicts()], [5, 3, 7, 1])
+        self.assertEqual(seen.worst_conflict().victim, 5)
+        self.assertIsNone(ObjectDetails(None, [], None, "", "", None).worst_conflict())
 
     def test_words_of_lines_that_are_not_listed(self):
         counted = "misses 64 0\naccesses 900\nlines 1\nline 0x00001000 cold 2 useful 1 useless 500\nobject symbol a 0x00001000 8\n"
         counted += "object symbol b 0x00001008 8\ntotal cold 2 useful 1 useless 500\nend\n"
-        self.assertEqual(view_of([], counted).seen(view_of([], counted).things[0]).words, [])
+        self.assertEqual(view_of([], counted).details(view_of([], counted).objects[0]).words, [])
         words = [word(0x1000, 9, 1, "hart 0"), word(0x1008, 30, 40, "hart 1")]
         each = [
             "line observed 0x00001000 64 start 3 count 40 verdict false",
@@ -411,14 +432,14 @@ class Objects(unittest.TestCase):
             *words,
         ]
         view = view_of([], counted, each=each)
-        (thing,) = view.things
+        (thing,) = view.objects
         self.assertEqual((thing.name, thing.count, thing.useless), ("b", 0, 500))
         self.assertEqual(
-            [(it.name, it.reads, it.writes, it.hart) for it in view.seen(thing).words],
+            [(it.name, it.reads, it.writes, it.hart) for it in view.details(thing).words],
             [("a", 9, 1, "0"), ("b", 30, 40, "1")],
         )
         told = f"b and a share lines: put {ALIGNED} after each name; saves up to 500 of 501 misses"
-        self.assertEqual(view.seen(thing).fix, told)
+        self.assertEqual(view.details(thing).fix, told)
         self.assertEqual((view.invalidations(thing), thing.count), (40, 0))
 
     def test_one_row_for_a_call_site_that_makes_and_frees(self):
@@ -435,9 +456,9 @@ class Objects(unittest.TestCase):
                 ]
             rows += [word(0x2000 + 64 * at, 5, 50, "many")]
         view = view_of(rows)
-        (thing,) = view.things
+        (thing,) = view.objects
         self.assertEqual(
-            (thing.name, len(thing.spots), len(thing.lives), thing.count),
+            (thing.name, len(thing.lines), len(thing.block_ids), thing.count),
             ("block made in make", 40, 1200, 40 * 300 - 780),
         )
         (shown,) = [it for it in screen(view, Paint(io.StringIO())) if "blocks)" in it]
@@ -453,14 +474,14 @@ class Objects(unittest.TestCase):
             ]
         view = view_of(rows)
         self.assertEqual(
-            [view.label(it) for it in view.things], ["lock, at 0x00001000", "lock, at 0x00002000"]
+            [view.label(it) for it in view.objects], ["lock, at 0x00001000", "lock, at 0x00002000"]
         )
-        self.assertEqual({it.name for it in view.things}, {"lock"})
+        self.assertEqual({it.name for it in view.objects}, {"lock"})
 
     def test_blocks_of_one_name_are_told_apart_by_their_callers_lines(self):
         names = {0x100: ("give", 3), 0x200: ("stream", 10), 0x300: ("stream", 20)}
         places = {
-            at: [Place(function, f"/src/{function}.c", line)]
+            at: [SourceLine(function, f"/src/{function}.c", line)]
             for at, (function, line) in names.items()
         }
         rows = []
@@ -475,23 +496,23 @@ class Objects(unittest.TestCase):
             frames=lambda at: places[at], place=lambda at: places[at][0], find=lambda _: None
         )
         view = View(Call(["r"]), report, Naming(report, sources=sources))
-        view.arrange()
+        view.group_by_objects()
         name = "block made at give.c:3 < stream"
         self.assertEqual(
-            [view.label(it) for it in view.things],
+            [view.label(it) for it in view.objects],
             [f"{name}, by stream.c:10", f"{name}, by stream.c:20"],
         )
 
     def test_callers_that_lie_in_no_code(self):
         sites = [Site(0x100, "-"), Site(0x200, "-"), Site(0x300, "-")]
         naming = Naming(view_of([]).report)
-        self.assertEqual(naming.in_code(sites), sites)
+        self.assertEqual(naming.sites_in_code(sites), sites)
         naming.program = SimpleNamespace(
-            library=lambda at: "mold+0x100" if at != 0x200 else "", dwarf=None
+            library_place=lambda at: "mold+0x100" if at != 0x200 else "", dwarf=None
         )
-        self.assertEqual(naming.in_code(sites), sites[:1])
-        self.assertEqual(naming.block(sites), "block made in mold+0x100")
-        self.assertEqual(naming.in_code(sites[1:]), sites[1:2])
+        self.assertEqual(naming.sites_in_code(sites), sites[:1])
+        self.assertEqual(naming.block_name(sites), "block made in mold+0x100")
+        self.assertEqual(naming.sites_in_code(sites[1:]), sites[1:2])
 
     def test_what_the_allocator_keeps(self):
         for file, wanted in (
@@ -505,12 +526,12 @@ class Objects(unittest.TestCase):
                 ]
             )
             view.naming.sources = SimpleNamespace(
-                frames=lambda _, file=file: [Place("give", file, 9)]
+                frames=lambda _, file=file: [SourceLine("give", file, 9)]
             )
-            name(view.things[0], [0x100, 0x104], view.naming)
-            self.assertEqual(view.things[0].name, wanted)
+            name_by_users(view.objects[0], [0x100, 0x104], view.naming)
+            self.assertEqual(view.objects[0].name, wanted)
             self.assertEqual(
-                "link another allocator" in view.advised(view.things[0], []), wanted == HEAP
+                "link another allocator" in view.choose_fix(view.objects[0], []), wanted == HEAP
             )
 
     def test_what_is_folded_is_found_once(self):
@@ -519,10 +540,10 @@ class Objects(unittest.TestCase):
             for it in range(0x1000, 0x9000, 0x1000)
         ]
         view, calls = view_of(rows), []
-        view.runtime, folded = {view.things[1].key, view.things[4].key}, view.folded
-        view.folded = lambda: calls.append(1) or folded()
+        view.runtime_keys, folded = {view.objects[1].key, view.objects[4].key}, view.folded_objects
+        view.folded_objects = lambda: calls.append(1) or folded()
         self.assertEqual(
-            view.listed(), [it for at, it in enumerate(view.things) if at not in (1, 4)]
+            view.listed_objects(), [it for at, it in enumerate(view.objects) if at not in (1, 4)]
         )
         self.assertEqual(len(calls), 1)
 
@@ -574,14 +595,15 @@ class Objects(unittest.TestCase):
             view.misses = Misses(
                 f"misses 64 0\naccesses {accesses}\nlines 1\n{line}total cold 2 useful 0 useless 9\nend\n"
             )
-            view.arrange()
+            view.group_by_objects()
             self.assertEqual(
                 "no change is worth it: fewer than one in 10,000 accesses is a sharing miss"
                 in "\n".join(screen(view, Paint(io.StringIO()))),
                 is_clean,
             )
             self.assertEqual(
-                view.seen(view.things[0]).fix == "not worth a change: 9 of all 9 sharing misses",
+                view.details(view.objects[0]).fix
+                == "not worth a change: 9 of all 9 sharing misses",
                 is_clean,
             )
 
@@ -603,8 +625,8 @@ class Objects(unittest.TestCase):
                 "site 0x00000300 _start",
             ]
         rows += [word(at, 5, 50, f"hart {at // 16 % 4}") for at in range(0x2000, 0x2040, 16)]
-        (thing,) = view_of(rows).things
-        self.assertEqual((thing.name, len(thing.lives)), ("block made in make", 4))
+        (thing,) = view_of(rows).objects
+        self.assertEqual((thing.name, len(thing.block_ids)), ("block made in make", 4))
 
     def test_a_call_site_is_known_by_its_name_on_the_screen(self):
         rows = [
@@ -617,13 +639,13 @@ class Objects(unittest.TestCase):
             word(0x2000, 5, 50, "hart 1"),
         ]
         view = view_of(rows)
-        names = view.naming.names_of_site(view.things[0].example)
+        names = view.naming.names_of_site(view.objects[0].example)
         self.assertEqual(
             names, {"pool::give", "pool::give(unsigned long)", "_ZN4pool4giveEm", "0x00000100"}
         )
         self.assertIn(" block made in pool::give", "\n".join(screen(view, Paint(io.StringIO()))))
         view.naming.types = [("pool::take", "node")]
-        view.note_idle()
+        view.note_unmatched_options()
         self.assertEqual(
             view.notes,
             [
@@ -633,16 +655,11 @@ class Objects(unittest.TestCase):
 
     def test_the_small_and_the_long_lived_block_has_the_word(self):
         arena, node = Block(0x1000, 4096, 0, None, ()), Block(0x1010, 16, 5, 900, ())
-        self.assertEqual(holder([arena, node], 0x1014), node)
-        self.assertEqual(holder([arena, node], 0x1020), arena)
+        self.assertEqual(word_holder([arena, node], 0x1014), node)
+        self.assertEqual(word_holder([arena, node], 0x1020), arena)
         short = Block(0x1010, 16, 1, 4, ())
-        self.assertEqual(holder([Symbol("heap", 0x1000, 4096), short, node], 0x1010), node)
-        self.assertIsNone(holder([node], 0x2000))
-
-    def test_of_blocks_at_one_place_the_one_that_lives_longest_has_the_word(self):
-        dead, alive = Block(0x1000, 1000, 0, 1000, ()), Block(0x1000, 1000, 1000, None, ())
-        self.assertEqual(holder([dead, alive], 0x1040, 160000), alive)
-        self.assertEqual(holder([dead, alive], 0x1040, 1500), dead)
+        self.assertEqual(word_holder([Symbol("heap", 0x1000, 4096), short, node], 0x1010), node)
+        self.assertIsNone(word_holder([node], 0x2000))
 
     def test_stacks_have_names(self):
         memory = Memory((0xF90000, 0x1010000), 8)
@@ -655,7 +672,7 @@ class Objects(unittest.TestCase):
             "line observed 0x0100ffc0 64 start 0 count 300 verdict true",
             word(0x100FFC0, 5, 50, "many"),
         ]
-        self.assertEqual(view_of(rows, memory=memory).things[0].name, "stack of hart 0")
+        self.assertEqual(view_of(rows, memory=memory).objects[0].name, "stack of hart 0")
 
     def test_a_misaligned_access_has_advice(self):
         view = view_of(
@@ -702,8 +719,8 @@ class Objects(unittest.TestCase):
             64,
             None,
         )
-        found = overflow(trace_of(case), Memory((0xF90000, 0x1010000), 8))
-        return found and found.told()
+        found = find_overflow(trace_of(case), Memory((0xF90000, 0x1010000), 8))
+        return found and found.sentence()
 
     def test_a_stack_that_is_too_small(self):
         down = [(1, True, at) for at in range(0xFFFFF0, 0xFFFFF0 - 0x18000, -32)]
@@ -733,7 +750,7 @@ class Objects(unittest.TestCase):
             word(0x100FFE0, 5, 50, "many"),
         ]
         memory = Memory((0xF90000, 0x1010000), 8)
-        self.assertEqual(view_of(rows, memory=memory).things[0].name, "thread-local variables")
+        self.assertEqual(view_of(rows, memory=memory).objects[0].name, "thread-local variables")
 
     def test_keys_have_no_addresses(self):
         rows = []
@@ -745,7 +762,9 @@ class Objects(unittest.TestCase):
             ]
             rows += [f"site 0x{site:08x} {name}", word(base, 5, 50, "many")]
         view = view_of(rows)
-        self.assertEqual(sorted(view.keys.values()), ["block make", "block make #2", "block other"])
+        self.assertEqual(
+            sorted(view.lasting_keys.values()), ["block make", "block make #2", "block other"]
+        )
 
     def test_predictions(self):
         rows = [
@@ -762,13 +781,15 @@ class Objects(unittest.TestCase):
         )
         text = "misses 64 32\naccesses 9\nlines 2\nline 0x00001020 cold 2 useful 0 useless 10\nline 0x00001060 cold 2 useful 0 useless 9\n"
         own = Misses(text + "total cold 4 useful 0 useless 19\nend\n")
-        found = judged(view.report, native, {(64, 32): own}, view.naming)
+        found = judge_predicted_lines(view.report, native, {(64, 32): own}, view.naming)
         self.assertEqual(
-            [(it.line.base, it.useless, it.inside, it.is_shown) for it in found],
+            [(it.line.base, it.useless, it.observed_useless, it.is_shown) for it in found],
             [(0x1020, 10, 9, True), (0x1060, 9, 9, False)],
         )
-        self.assertEqual(len(together(found)), 2)
-        view.misses, view.all = native, {it: SimpleNamespace(name=f"o{it}") for it in range(5)}
+        self.assertEqual(len(group_predicted_lines(found)), 2)
+        view.misses, view.objects_by_key = native, {
+            it: SimpleNamespace(name=f"o{it}") for it in range(5)
+        }
         self.assertIn(
             "o0, o1, o2 and 2 more: with lines starting at 0x00001020, 10 false-sharing misses instead of 9; ",
             prediction(view, [found[0]._replace(keys=tuple(range(5)))]),
@@ -784,10 +805,10 @@ class Objects(unittest.TestCase):
         )
         text = f"misses {size} {base % size}\naccesses 9\nlines 1\nline 0x{base:08x} cold 2 useful 0 useless {own}\n"
         text += f"total cold 2 useful 0 useless {own}\nend\n"
-        (found,) = judged(
+        (found,) = judge_predicted_lines(
             view.report, observed, {(size, base % size): Misses(text)}, naming or view.naming
         )
-        return found.is_shown, found.why
+        return found.is_shown, found.reason
 
     def test_what_says_nothing_new_is_folded(self):
         no_more = (False, "it adds no false sharing to that of the observed lines")
@@ -830,14 +851,14 @@ class Objects(unittest.TestCase):
                 len(block),
                 ("shifted", hex(base), 64, 0, 100, "false", block),
             )
-            self.assertEqual(can_lie(line, view_of([]).naming), wanted)
+            self.assertEqual(can_begin_there(line, view_of([]).naming), wanted)
 
     def test_names_in_a_sentence(self):
         self.assertEqual(advice.listing(["a[0]", "a[1]", "a[2]", "b"]), "a[..] and b")
         self.assertEqual(advice.listing("abcdef"), "a, b, c, d and 2 more")
         self.assertEqual(advice.arrays(["s[0].x[1]", "s[0].x[2]"]), "s[0].x")
         self.assertIsNone(advice.arrays(["s.x[1]", "s.y[2]"]))
-        self.assertEqual(Naming(view_of([]).report).readable("_ZN4ring5firstE"), "ring::first")
+        self.assertEqual(Naming(view_of([]).report).readable_name("_ZN4ring5firstE"), "ring::first")
 
     def test_short_names(self):
         for whole, wanted in {
@@ -854,28 +875,30 @@ class Objects(unittest.TestCase):
             "github.com/org/repo/pkg.counts": "pkg.counts",
             "main.main": "main.main",
         }.items():
-            self.assertEqual(short(whole), wanted)
+            self.assertEqual(short_name(whole), wanted)
 
     def test_names_of_symbols(self):
-        names = Names()
-        names.learn(
+        names = SymbolNames()
+        names.learn_symbols(
             "object symbol _ZN2ru5SLOTS17h014a019cd835f220E 0x00001000 64\nsite 0x00002000 _RNvCs4mUmuLXSNC_2ru4main"
         )
-        self.assertEqual(names.readable("_ZN2ru5SLOTS17h014a019cd835f220E"), "ru::SLOTS")
-        self.assertEqual(names.readable("_RNvCs4mUmuLXSNC_2ru4main"), "ru::main")
-        self.assertEqual(names.readable("gopkg.in/yaml%2ev2.counts"), "gopkg.in/yaml.v2.counts")
-        self.assertEqual(names.readable("plain"), "plain")
+        self.assertEqual(names.readable_name("_ZN2ru5SLOTS17h014a019cd835f220E"), "ru::SLOTS")
+        self.assertEqual(names.readable_name("_RNvCs4mUmuLXSNC_2ru4main"), "ru::main")
         self.assertEqual(
-            [names.readable(it) for it in ("join@@GLIBC_2.34", "copy@GLIBC_2.2.5")],
+            names.readable_name("gopkg.in/yaml%2ev2.counts"), "gopkg.in/yaml.v2.counts"
+        )
+        self.assertEqual(names.readable_name("plain"), "plain")
+        self.assertEqual(
+            [names.readable_name(it) for it in ("join@@GLIBC_2.34", "copy@GLIBC_2.2.5")],
             ["join", "copy"],
         )
-        names.note("f(int)")
+        names.remember("f(int)")
         self.assertEqual(
-            names.shortened("block made in f(int) < gopkg.in/yaml.v2.counts"),
+            names.shorten("block made in f(int) < gopkg.in/yaml.v2.counts"),
             "block made in f < yaml.v2.counts",
         )
-        self.assertEqual(names.lasting("_ZN2ru5SLOTS17h014a019cd835f220E"), "ru::SLOTS")
-        self.assertEqual(names.lasting("_ZN4ring5firstE"), "_ZN4ring5firstE")
+        self.assertEqual(names.lasting_name("_ZN2ru5SLOTS17h014a019cd835f220E"), "ru::SLOTS")
+        self.assertEqual(names.lasting_name("_ZN4ring5firstE"), "_ZN4ring5firstE")
 
 
 if __name__ == "__main__":

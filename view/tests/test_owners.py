@@ -6,23 +6,23 @@ import unittest
 from types import SimpleNamespace
 
 HERE = os.path.dirname(os.path.abspath(__file__))
-sys.path[:0] = [os.path.dirname(HERE)]
+sys.path[:0] = [os.path.join(HERE, "..", "..")]
 
-from keys import OfSymbol  # noqa: E402
-from naming import Memory, Naming, WordKind  # noqa: E402
-from objects import Spot, Thing, Told  # noqa: E402
-from owners import joined, who  # noqa: E402
-from reports import Symbol  # noqa: E402
-from spelled import Use  # noqa: E402
+from view.model.object_keys import SymbolKey  # noqa: E402
+from view.model.objects import DataObject, ObjectLine, WordUse  # noqa: E402
+from view.model.word_owners import describe_owners, join_names  # noqa: E402
+from view.names.naming import Memory, Naming, WordKind  # noqa: E402
+from view.reading.reports import Symbol  # noqa: E402
+from view.reading.trace_files import HartUse  # noqa: E402
 
-KEY = OfSymbol("symbol", "own", 0x1000)
+KEY = SymbolKey("symbol", "own", 0x1000)
 
 
 def word(at, name, reads, writes, hart="many", useful=None, key=KEY):
     """A word of the object `own`."""
     owner = "several threads" if hart == "many" else f"hart {hart}"
     kind = WordKind("." in name or "[" in name, False)
-    return Told(
+    return WordUse(
         0x1000 + at, 0x1000, name, "", name, key, 0x1000, reads, writes, hart, useful, kind, owner
     )
 
@@ -30,24 +30,26 @@ def word(at, name, reads, writes, hart="many", useful=None, key=KEY):
 class Who(unittest.TestCase):
     def who(self, *words, uses=None, beside=()):
         """The row of an object that has some words; `uses` has of each word its reads and writes by its threads."""
-        thing = Thing(KEY, Symbol("own", 0x1000, 64))
+        thing = DataObject(KEY, Symbol("own", 0x1000, 64))
         thing.name = "own"
-        thing.spots.append(Spot(0x1000, None, None))
-        thing.beside.update(beside)
+        thing.lines.append(ObjectLine(0x1000, None, None))
+        thing.neighbours.update(beside)
         view = SimpleNamespace(
-            tried=None,
-            seen=lambda _: SimpleNamespace(words=words),
+            trials=None,
+            details=lambda _: SimpleNamespace(words=words),
             naming=Naming(None, memory=Memory()),
-            all={it: it for it in beside},
+            objects_by_key={it: it for it in beside},
             label=str,
         )
         if uses is not None:
             own = {
-                0x1000 + at: {hart: Use(*it, 15) for hart, it in of.items()}
+                0x1000 + at: {hart: HartUse(*it, 15) for hart, it in of.items()}
                 for at, of in uses.items()
             }
-            view.tried = {KEY: SimpleNamespace(uses=SimpleNamespace(of=lambda it: own.get(it, {})))}
-        return who(view, thing)
+            view.trials = {
+                KEY: SimpleNamespace(uses=SimpleNamespace(of=lambda it: own.get(it, {})))
+            }
+        return describe_owners(view, thing)
 
     def test_words_of_one_thread_each(self):
         words = [word(4 * it, f"own+{4 * it}" if it else "own", 3, 9, str(it)) for it in range(8)]
@@ -127,9 +129,11 @@ class Who(unittest.TestCase):
         )
 
     def test_names_of_threads(self):
-        self.assertEqual(joined(["hart 1"]), "hart 1")
-        self.assertEqual(joined(["hart 1", "hart 2", "hart 3"]), "harts 1, 2 and 3")
-        self.assertEqual(joined(["thread 1", "threads 2 and 3"]), "thread 1 and threads 2 and 3")
+        self.assertEqual(join_names(["hart 1"]), "hart 1")
+        self.assertEqual(join_names(["hart 1", "hart 2", "hart 3"]), "harts 1, 2 and 3")
+        self.assertEqual(
+            join_names(["thread 1", "threads 2 and 3"]), "thread 1 and threads 2 and 3"
+        )
 
 
 if __name__ == "__main__":

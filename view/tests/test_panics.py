@@ -14,11 +14,11 @@ sys.path.insert(0, TOP)
 from elftools.elf.elffile import ELFFile  # noqa: E402
 
 from view.names import unnamed_memory  # noqa: E402
-from view.names.x86_image import packed  # noqa: E402
-from view.model.object_keys import OfBlocks  # noqa: E402
+from view.names.x86_image import unpack_relocations  # noqa: E402
+from view.model.object_keys import BlocksKey  # noqa: E402
 from view.names.naming import Naming  # noqa: E402
-from view.model.objects import Thing  # noqa: E402
-from view.names.rust import Near, Panic, Panics  # noqa: E402
+from view.model.objects import DataObject  # noqa: E402
+from view.names.rust import NearPanics, Panic, Panics  # noqa: E402
 from view.reading.reports import Block, Site  # noqa: E402
 
 sys.path.insert(0, os.path.join(TOP, "native", "others"))
@@ -150,10 +150,10 @@ class Ways(unittest.TestCase):
         def near(name, at=0):
             return panics.near(places[name][0] + at)
 
-        self.assertEqual(near("one_file"), Near((Panic(LIST, 7),)))
-        self.assertEqual(near("one_file", 80), Near((Panic(LIST, 70),)))
-        self.assertEqual(near("two_files"), Near((Panic(LIST, 7), Panic(NODE, 8))))
-        self.assertEqual(near("library"), Near((Panic(SLICE, 3),)))
+        self.assertEqual(near("one_file"), NearPanics((Panic(LIST, 7),)))
+        self.assertEqual(near("one_file", 80), NearPanics((Panic(LIST, 70),)))
+        self.assertEqual(near("two_files"), NearPanics((Panic(LIST, 7), Panic(NODE, 8))))
+        self.assertEqual(near("library"), NearPanics((Panic(SLICE, 3),)))
         # (where code has addresses as numbers, it isn't looked for who takes one)
         for name in ("called", "called_through"):
             if way in ("fixed", "static"):
@@ -257,15 +257,20 @@ class Texts(unittest.TestCase):
             Panic("src/b.rs", 2),
             Panic("library/core/src/str/mod.rs", 3),
         )
-        self.assertEqual(Near((own,)).told(), "near a panic at src/a.rs:1")
-        self.assertEqual(Near((own, other)).told(), "near panics at src/a.rs:1 and src/b.rs:2")
-        self.assertEqual(Near((own,), True).told(), "called near a panic at src/a.rs:1")
-        self.assertEqual([Near((it,)).names_source() for it in (own, library)], [True, False])
+        self.assertEqual(NearPanics((own,)).text(), "near a panic at src/a.rs:1")
+        self.assertEqual(
+            NearPanics((own, other)).text(), "near panics at src/a.rs:1 and src/b.rs:2"
+        )
+        self.assertEqual(NearPanics((own,), True).text(), "called near a panic at src/a.rs:1")
+        self.assertEqual([NearPanics((it,)).names_source() for it in (own, library)], [True, False])
 
     def test_packed_relocations(self):
-        self.assertEqual(list(packed([0x1000, 0b1011, 0x3000])), [0x1000, 0x1008, 0x1018, 0x3000])
         self.assertEqual(
-            list(packed([0x1000, 1 << 63 | 1, 0b11])), [0x1000, 0x1008 + 8 * 62, 0x1008 + 8 * 63]
+            list(unpack_relocations([0x1000, 0b1011, 0x3000])), [0x1000, 0x1008, 0x1018, 0x3000]
+        )
+        self.assertEqual(
+            list(unpack_relocations([0x1000, 1 << 63 | 1, 0b11])),
+            [0x1000, 0x1008 + 8 * 62, 0x1008 + 8 * 63],
         )
 
 
@@ -275,10 +280,10 @@ class Stripped:
     def __init__(self, **near):
         self.found = {int(it[1:], 16): own for it, own in near.items()}
 
-    def library(self, addr):
+    def library_place(self, addr):
         return f"fd+{addr:#x}"
 
-    def near(self, addr):
+    def landmark(self, addr):
         return self.found.get(addr)
 
 
@@ -287,27 +292,27 @@ class Names(unittest.TestCase):
         naming = Naming(
             None,
             Stripped(
-                x10=Near((Panic("src/a.rs", 7),)),
-                x20=Near((Panic("/rustc/0a/library/core/src/str/mod.rs", 8),)),
+                x10=NearPanics((Panic("src/a.rs", 7),)),
+                x20=NearPanics((Panic("/rustc/0a/library/core/src/str/mod.rs", 8),)),
             ),
         )
-        self.assertEqual(naming.instruction(0x10), "fd+0x10 (near a panic at src/a.rs:7)")
+        self.assertEqual(naming.instruction_name(0x10), "fd+0x10 (near a panic at src/a.rs:7)")
         self.assertEqual(
-            naming.instruction(0x20), "fd+0x20 (near a panic at library/core/src/str/mod.rs:8)"
+            naming.instruction_name(0x20), "fd+0x20 (near a panic at library/core/src/str/mod.rs:8)"
         )
-        self.assertEqual(naming.instruction(0x30), "fd+0x30")
-        self.assertEqual(Naming(None).instruction(0x10), "0x00000010")
+        self.assertEqual(naming.instruction_name(0x30), "fd+0x30")
+        self.assertEqual(Naming(None).instruction_name(0x10), "0x00000010")
 
     def test_blocks(self):
         own, called, library = (
-            Near((Panic("src/a.rs", 7),)),
-            Near((Panic("src/b.rs", 8),), True),
-            Near((Panic("library/std/src/a.rs", 9),)),
+            NearPanics((Panic("src/a.rs", 7),)),
+            NearPanics((Panic("src/b.rs", 8),), True),
+            NearPanics((Panic("library/std/src/a.rs", 9),)),
         )
         naming = Naming(None, Stripped(x10=own, x20=called, x30=library))
 
         def block(*sites):
-            return naming.block([Site(at, name) for at, name in sites])
+            return naming.block_name([Site(at, name) for at, name in sites])
 
         told, tells = " (near a panic at src/a.rs:7)", " (called near a panic at src/b.rs:8)"
         for chain, wanted in (
@@ -332,7 +337,8 @@ class Names(unittest.TestCase):
         naming = Naming(
             None,
             Stripped(
-                x10=Near((Panic("src/a.rs", 7),)), x30=Near((Panic("library/std/src/a.rs", 9),))
+                x10=NearPanics((Panic("src/a.rs", 7),)),
+                x30=NearPanics((Panic("library/std/src/a.rs", 9),)),
             ),
         )
         for sites, is_told in (
@@ -343,8 +349,8 @@ class Names(unittest.TestCase):
             ([], False),
         ):
             block = Block(0x1000, 64, 0, None, tuple(Site(*it) for it in sites))
-            thing = Thing(OfBlocks("block", ("0x40",)), block)
-            thing.name = naming.block(block.sites)
+            thing = DataObject(BlocksKey("block", ("0x40",)), block)
+            thing.name = naming.block_name(block.sites)
             own = (
                 "block used at"
                 if not sites
@@ -353,10 +359,10 @@ class Names(unittest.TestCase):
                 else f"{thing.name}, used at"
             )
             self.assertEqual(
-                (naming.is_told(block.sites), unnamed_memory.is_unnamed(thing, naming)),
+                (naming.is_identified(block.sites), unnamed_memory.is_unnamed(thing, naming)),
                 (is_told, not is_told),
             )
-            unnamed_memory.name(thing, [0x70, 0x10], naming)
+            unnamed_memory.name_by_users(thing, [0x70, 0x10], naming)
             used = "" if is_told else " fd+0x70 and fd+0x10 (near a panic at src/a.rs:7)"
             self.assertEqual(thing.name, own + used)
 

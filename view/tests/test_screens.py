@@ -456,8 +456,9 @@ class Pipes(Shown):
                 stdout=subprocess.DEVNULL,
             )
             os.mkfifo(fifo)
+            # (but for the name of what is read)
             texts = {
-                self.call(it, trace)
+                self.call(it, trace).partition(": ")[2]
                 for it in (
                     'cat "$1" | $view replay -',
                     '$view replay - <"$1"',

@@ -11,14 +11,14 @@ from calling import PROGRAM, STAND_IN, TOP, has, view
 
 sys.path[:0] = [TOP, os.path.join(TOP, "tools")]
 
-from view.model.line_borders import Under, ordered  # noqa: E402
+from view.model.line_borders import ShiftedLines, order_crossings  # noqa: E402
 from view.output.drawings import curve  # noqa: E402
 from view.faults import Fault  # noqa: E402
 from judge_report import Access, Case, Ending, trace_of  # noqa: E402
 from view.output.sweep import Sweep, page  # noqa: E402
 from traces import Symbol  # noqa: E402
 
-TITLE = "8-byte lines: 39 invalidations as placed; the least are 0 at shift 4; most of the difference is in memory at 0x00001000"
+TITLE = "8-byte lines: 39 invalidations as placed, 0 at best (shift 4); most of the difference is in memory at 0x00001000"
 TEXT = "sweep 8\naccesses 9\nshift 0 total {} lines 1\nshift 4 total {} lines 1\nleast {} total {}\nend\n"
 
 
@@ -77,7 +77,7 @@ class Sweeps(unittest.TestCase):
             rows[3:5],
             [
                 "       0       39      1  as placed, most",
-                "       4        0      0  least",
+                "       4        0      0  fewest",
             ],
         )
         self.assertEqual(rows[1:3], ["", "   shift    inval  lines"])
@@ -96,7 +96,7 @@ class Sweeps(unittest.TestCase):
             self.assertNotRegex(text, it)
         self.assertIn(f"<h1>&lt;i&gt;t: {TITLE}</h1>", text)
         told = re.findall(r"<rect .*?</svg> (.*?); <svg .*?<circle .*?</svg> (.*?)</p>", text)
-        self.assertEqual(told, [("as placed: 39", "least, shift 4: 0")])
+        self.assertEqual(told, [("as placed: 39", "fewest, shift 4: 0")])
         # Each mark is beside its text, and in the picture on the line.
         self.assertEqual(re.findall(r'<rect x="(\S+)" y="(\S+)"', text), [("-5", "-5"), ("7", "7")])
         self.assertEqual(
@@ -105,7 +105,7 @@ class Sweeps(unittest.TestCase):
         self.assertIn('points="12,12 628,188"', text)
         self.assertEqual(cells_of(text)[0], ["memory at 0x00001000", "39", "0", "0x00001000"])
         self.assertIn(
-            '<th class="n">shift 0 (as placed, most)</th><th class="n">shift 4 (least)</th>',
+            '<th class="n">shift 0 (as placed, most)</th><th class="n">shift 4 (fewest)</th>',
             text,
         )
         # Each shift has a tick with its name, and a row with what `sweep` prints of it.
@@ -148,7 +148,7 @@ class Sweeps(unittest.TestCase):
         rows = self.told().split("\n")
         self.assertTrue(
             rows[0].endswith(
-                "the most are 78 at shift 4; most of the difference is in <b>near (80 accesses)"
+                "39 invalidations as placed, the fewest; 78 at worst (shift 4); most of the difference is in <b>near (80 accesses)"
             ),
             rows[0],
         )
@@ -237,7 +237,7 @@ class Texts(unittest.TestCase):
         told = Sweep(TEXT.format(7, 9, 0, 7)).title()
         self.assertTrue(
             told.endswith(
-                "8-byte lines: 7 invalidations as placed, the least; the most are 9 at shift 4"
+                "8-byte lines: 7 invalidations as placed, the fewest; 9 at worst (shift 4)"
             ),
             told,
         )
@@ -245,7 +245,7 @@ class Texts(unittest.TestCase):
         self.assertEqual(
             (own.count("<rect"), own.count("<circle"), own.count("l-6 -11z")), (2, 0, 2)
         )
-        self.assertIn("as placed, least", own)
+        self.assertIn("as placed, fewest", own)
         same = page(Sweep(TEXT.format(7, 7, 0, 7)), "t")
         self.assertEqual(
             (same.count("<rect"), same.count("<circle"), same.count("l-6 -11z")), (2, 0, 0)
@@ -261,10 +261,10 @@ class Texts(unittest.TestCase):
                 Sweep(bad)
 
     def test_which_object_differs_most(self):
-        one, two = Under({1: 5, 2: 90}, {1: "a", 2: "b"}, {1: "x"}), Under(
+        one, two = ShiftedLines({1: 5, 2: 90}, {1: "a", 2: "b"}, {1: "x"}), ShiftedLines(
             {1: 1, 2: 89, 3: 4}, {1: "a", 2: "b", 3: "c"}, {}
         )
-        told = [(it.name, it.counts, it.border) for it in ordered([one, two], 0, 1)]
+        told = [(it.name, it.counts, it.border) for it in order_crossings([one, two], 0, 1)]
         self.assertEqual(told, [("a", [5, 1], "x"), ("b", [90, 89], ""), ("c", [0, 4], "")])
 
     def test_a_curve_is_drawn_from_zero_up(self):

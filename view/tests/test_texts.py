@@ -13,8 +13,8 @@ from view.reading.calls import Call  # noqa: E402
 from view.output.drawings import visible  # noqa: E402
 from view.faults import Fault, plain  # noqa: E402
 from view.output.page import PLACE  # noqa: E402
-from view.reading.recording import parted  # noqa: E402
-from view.reading.reports import Explained, Misses, Report  # noqa: E402
+from view.reading.recording import split_words  # noqa: E402
+from view.reading.reports import Explanation, Misses, Report  # noqa: E402
 
 HEAD = "predator report 1\noutcome exit 0\nsteps 3\naccesses 3\nlayout 64 0\nthresholds 1 64 1\n"
 ROWS = """line observed 0x00001000 64 start 0 count 2 verdict false
@@ -74,7 +74,7 @@ class Texts(unittest.TestCase):
 
     def test_report_behind_which_sites_are_told(self):
         self.assertEqual(
-            Report(WHOLE + "where 0x000100b0 /home/me/kinds.c:59\n").where,
+            Report(WHOLE + "where 0x000100b0 /home/me/kinds.c:59\n").site_places,
             {0x100B0: "/home/me/kinds.c:59"},
         )
 
@@ -158,13 +158,13 @@ class Texts(unittest.TestCase):
                 Misses(bad)
 
     def test_explained(self):
-        found = Explained(EXPLAINED)
+        found = Explanation(EXPLAINED)
         self.assertEqual((found.base, found.count, found.accesses), (0x11000, 9, 19))
         self.assertEqual(tuple(found.pairs[0]), (0x10044, 0x10044, 5, 2))
         self.assertEqual(found.harts, {(0, 1): 1, (0, 2): 8})
         self.assertEqual(found.sites[0x10004], (0, 1, "hart 0", "-"))
         with self.assertRaises(Fault):
-            Explained(EXPLAINED[:-4])
+            Explanation(EXPLAINED[:-4])
 
     def test_names_on_a_terminal(self):
         self.assertEqual(plain("a\x1b[31mb\nc"), "a\\x1b[31mb\\nc")
@@ -192,33 +192,33 @@ class Words(unittest.TestCase):
                 "--words",
             ]
         )
-        self.assertEqual((call.how, call.subject, call.program), ("run", "p.elf", "p.elf"))
+        self.assertEqual((call.action, call.subject, call.program), ("run", "p.elf", "p.elf"))
         self.assertEqual(
             call.words, ["p.elf", "--settings", "s", "--trace=t", "--set", "quantum=1"]
         )
         self.assertEqual(call.settings_words(), ["--settings", "s", "--set", "quantum=1"])
         self.assertEqual(
-            call.words_to_run(), ["run", "p.elf", "--settings", "s", "--set", "quantum=1"]
+            call.rerun_words(), ["run", "p.elf", "--settings", "s", "--set", "quantum=1"]
         )
         self.assertEqual(
-            (call.number("top", 10), call.value_of("--trace"), "words" in call.options),
+            (call.number_option("top", 10), call.option_value("--trace"), "words" in call.options),
             (3, "t", True),
         )
 
     def test_words_of_the_guest(self):
         call = Call(["run", "--top=3", "p.elf", "--settings", "s", "--", "--words", "a"])
         self.assertEqual(
-            (call.subject, call.words, call.own),
+            (call.subject, call.words, call.guest_words),
             ("p.elf", ["p.elf", "--settings", "s"], ["--", "--words", "a"]),
         )
         self.assertEqual(
-            (call.words_to_run(), "words" in call.options),
+            (call.rerun_words(), "words" in call.options),
             (["run", "p.elf", "--settings", "s"], False),
         )
 
     def test_others(self):
         self.assertEqual(Call(["replay", "t", "--program", "p"]).program, "p")
-        self.assertEqual(Call(["r.report"]).how, "file")
+        self.assertEqual(Call(["r.report"]).action, "file")
         self.assertEqual(Call(["run", "--", "-p.elf"]).subject, "-p.elf")
         self.assertEqual(
             Call(["run", "p", "--type", "a.c:7=node", "--type=b=c"]).options["type"],
@@ -228,7 +228,7 @@ class Words(unittest.TestCase):
     def test_sweeps(self):
         call = Call(["sweep", "t", "--size", "64", "--html=f"])
         self.assertEqual(
-            (call.how, call.subject, call.words), ("sweep", "t", ["t", "--size", "64"])
+            (call.action, call.subject, call.words), ("sweep", "t", ["t", "--size", "64"])
         )
         self.assertEqual(
             "`view sweep` needs a line size, such as '--size 64'", self.refused("sweep", "t")
@@ -251,20 +251,23 @@ class Words(unittest.TestCase):
                     file.write(head)
             call = Call([at("guest"), "--set", "quantum=3", "--top", "2", "--", "--words"])
             self.assertEqual(
-                (call.how, call.program, call.own, call.options["top"]),
+                (call.action, call.program, call.guest_words, call.options["top"]),
                 ("run", at("guest"), ["--", "--words"], "2"),
             )
             self.assertEqual(call.words, [at("guest"), "--set", "quantum=3"])
-            self.assertEqual(Call([at("trace"), "--size=32"]).how, "replay")
+            self.assertEqual(Call([at("trace"), "--size=32"]).action, "replay")
             call = Call(["--quantum", "10", "--all", at("own"), "--size", "32", "--", "a"])
             self.assertEqual(
-                (call.how, call.named, call.own, call.marks),
+                (call.action, call.named, call.guest_words, call.recorder_flags),
                 ("native", at("own"), ["--", "a"], ["--all"]),
             )
-            self.assertEqual(parted(call.words, at("own")), (["--quantum", "10"], ["--size", "32"]))
+            self.assertEqual(
+                split_words(call.words, at("own")), (["--quantum", "10"], ["--size", "32"])
+            )
             call = Call(["native", "--all", "--", at("own"), "a", "--b"])
             self.assertEqual(
-                (call.subject, call.own, call.marks), (at("own"), ["--", "a", "--b"], ["--all"])
+                (call.subject, call.guest_words, call.recorder_flags),
+                (at("own"), ["--", "a", "--b"], ["--all"]),
             )
             strange = (
                 ("run", "trace", "a trace"),

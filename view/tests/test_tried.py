@@ -18,26 +18,26 @@ sys.path[:0] = [os.path.join(HERE, "..", ".."), os.path.join(HERE, "..", "..", "
 
 from view import main  # noqa: E402
 from view.repairs import patches  # noqa: E402
-from view.reading.trace_prefix import accesses_of, cut  # noqa: E402
+from view.reading.trace_prefix import trace_accesses, write_prefix  # noqa: E402
 from view.names.fields import Program  # noqa: E402
 from judge_report import Access, Case, Ending, trace_of  # noqa: E402
 from view.repairs.layouts import (  # noqa: E402
-    Change,
-    Part,
+    LayoutChange,
+    MovedRange,
     Shape,
     Unmovable,
     arrays_in,
-    in_words,
-    laid,
-    members_of,
+    to_whole_words,
+    lay_out,
+    record_members,
 )
-from view.repairs.candidates import Repair, groupings  # noqa: E402
-from view.reading.trace_files import Uses  # noqa: E402
-from view.repairs.subjects import UNUSED, Whose, whose  # noqa: E402
+from view.repairs.candidates import Repair, field_groupings  # noqa: E402
+from view.reading.trace_files import WordUses  # noqa: E402
+from view.repairs.subjects import UNUSED, Sharing, sharing_of  # noqa: E402
 from traces import Access as Accessed  # noqa: E402
 from traces import Alloc, Symbol, placed, records, with_pcs  # noqa: E402
-from view.repairs.trial_results import Counted, Tried  # noqa: E402
-from view.repairs.trials import free, table, together_of  # noqa: E402
+from view.repairs.trial_results import TrialCount, Trial  # noqa: E402
+from view.repairs.trials import free_places, move_table, join_repairs  # noqa: E402
 
 
 class Folder(unittest.TestCase):
@@ -64,7 +64,7 @@ class Folder(unittest.TestCase):
             64,
             None,
         )
-        return Uses(self.path("trace", trace_of(case)))
+        return WordUses(self.path("trace", trace_of(case)))
 
 
 W, R = True, False
@@ -81,10 +81,12 @@ class Used(Folder):
             (1, W, 0x1000, 4),
             *after,
         )
-        self.assertEqual({hart: tuple(it) for hart, it in uses.of(0x1000).items()}, {1: (1, 2, 15)})
-        self.assertEqual(list(uses.of(0x2000)), [0])
-        self.assertEqual(whose(uses, 0x1000, 4), Whose("own", frozenset({1})))
-        self.assertEqual(whose(uses, 0x3000, 64), UNUSED)
+        self.assertEqual(
+            {hart: tuple(it) for hart, it in uses.users_of(0x1000).items()}, {1: (1, 2, 15)}
+        )
+        self.assertEqual(list(uses.users_of(0x2000)), [0])
+        self.assertEqual(sharing_of(uses, 0x1000, 4), Sharing("own", frozenset({1})))
+        self.assertEqual(sharing_of(uses, 0x3000, 64), UNUSED)
 
     def test_one_hart_alone_is_no_thread(self):
         self.assertEqual(self.uses(*[(0, W, 0x1000, 4)] * 9).words, {})
@@ -97,13 +99,15 @@ class Used(Folder):
             (70, Alloc(0x3000, 16, sites)),
         ]
         uses = self.uses(*([(0, W, 0x1000, 4), (1, R, 0x1004, 4)] * 100), others=others)
-        self.assertEqual((uses.of(0x1000)[0].writes, uses.of(0x1004)[1].reads), (99, 100))
+        self.assertEqual(
+            (uses.users_of(0x1000)[0].writes, uses.users_of(0x1004)[1].reads), (99, 100)
+        )
 
     def test_a_look_is_no_use(self):
         uses = self.uses((1, W, 0x1000, 4), *[(2, R, 0x1000, 4)] * 300, *[(3, R, 0x1000, 4)] * 300)
-        self.assertEqual(whose(uses, 0x1000, 4), Whose("read", frozenset()))
+        self.assertEqual(sharing_of(uses, 0x1000, 4), Sharing("read", frozenset()))
         uses = self.uses(*[(1, W, 0x1000, 4), (2, R, 0x1000, 4)] * 40)
-        self.assertEqual(whose(uses, 0x1000, 4), Whose("shared", frozenset({1})))
+        self.assertEqual(sharing_of(uses, 0x1000, 4), Sharing("shared", frozenset({1})))
 
     def test_the_front_of_a_long_trace(self):
         accesses = [(0, W, 0x2000, 4)] * 9 + [(1, W, 0x1000, 4), (2, W, 0x1004, 4)] * 200
@@ -128,15 +132,17 @@ class Used(Folder):
 
     def test_free_places(self):
         self.assertEqual(
-            list(free([0x1000, 0x12FFC], 64)), [0xC0000000, 0x80000000, 0x40000000, 0x13000, 0]
+            list(free_places([0x1000, 0x12FFC], 64)),
+            [0xC0000000, 0x80000000, 0x40000000, 0x13000, 0],
         )
         self.assertEqual(
-            list(free([0, 0x5000, 0x40000FFC, 0x80000000, 0xC0001000, 0xFFFFFFFC], 0x4000)),
+            list(free_places([0, 0x5000, 0x40000FFC, 0x80000000, 0xC0001000, 0xFFFFFFFC], 0x4000)),
             [0x1000],
         )
-        self.assertEqual(list(free(range(0, 1 << 32, 4096), 4096)), [])
+        self.assertEqual(list(free_places(range(0, 1 << 32, 4096), 4096)), [])
         self.assertEqual(
-            table([Part(8, 4, 64), Part(4, 4, 0)], 0x1000), "0x4 4 0x1000\n0x8 4 0x1040\n"
+            move_table([MovedRange(8, 4, 64), MovedRange(4, 4, 0)], 0x1000),
+            "0x4 4 0x1000\n0x8 4 0x1040\n",
         )
 
 
@@ -155,9 +161,9 @@ class Cut(Folder):
         third = with_pcs(first, lambda access, before: (before * 5 + access.addr) % 2**32)
         for trace in (first, third):
             path, out = self.path("whole", trace), self.path("part")
-            self.assertEqual(accesses_of(path), 5000)
+            self.assertEqual(trace_accesses(path), 5000)
             for most in (1, 1024, 2000, 9999):
-                found = cut(path, most, out)
+                found = write_prefix(path, most, out)
                 self.assertTrue(min(most, 5000) <= found <= min(most + 1024, 5000))
                 with open(out, "rb") as file:
                     own = file.read()
@@ -165,8 +171,8 @@ class Cut(Folder):
                 self.assertEqual(told, whole[: len(told)])
                 self.assertEqual(sum(isinstance(it, Accessed) for *_, it in told), found)
                 self.assertEqual(own[-25:-8], b"\6\4" + bytes(15))
-                self.assertEqual(accesses_of(out), found)
-        self.assertEqual(accesses_of(self.path("none", b"PRDTRC01")), 0)
+                self.assertEqual(trace_accesses(out), found)
+        self.assertEqual(trace_accesses(self.path("none", b"PRDTRC01")), 0)
 
     @unittest.skipUnless(has(PROGRAM, "misses", "move"), "the program isn't built, or has no move")
     def test_a_screen_of_a_long_trace(self):
@@ -187,8 +193,8 @@ class Cut(Folder):
             os.path.join(HERE, "programs"),
         ]
         own = {"PREDATOR_PROGRAM": PROGRAM, "PREDATOR_BUILD": "no"}
-        with mock.patch("view.reading.passes.LONG", 1000), mock.patch.multiple(
-            "view.repairs.trials", PART=900, FRONT=500
+        with mock.patch("view.reading.passes.LONG_TRACE_ACCESSES", 1000), mock.patch.multiple(
+            "view.repairs.trials", PART_ACCESSES=900, FRONT_ACCESSES=500
         ), mock.patch.dict(os.environ, own):
             with contextlib.redirect_stdout(text):
                 self.assertEqual(main.main(words), 0)
@@ -198,7 +204,7 @@ class Cut(Folder):
             shown,
         )
         useless, after, useful, accesses = (int(it.replace(",", "")) for it in found.groups())
-        self.assertEqual(cut(trace, accesses, part), accesses)
+        self.assertEqual(write_prefix(trace, accesses, part), accesses)
         total = subprocess.run(
             [PROGRAM, "misses", part], capture_output=True, text=True, check=True
         ).stdout
@@ -242,31 +248,31 @@ class LaidOut(Folder):
     def test_as_the_compiler_lays_it_out(self):
         shape = Shape(self.program(SOURCE).type_named("struct all"))
         record = shape.record()
-        members = {it.name: it for it in members_of(record)}
+        members = {it.name: it for it in record_members(record)}
         # (a number of eight bytes is one field, and so is a union)
         self.assertEqual([*members], ["first", "value", "sum", "inner", "next", "marks", "last"])
         groups = [
             [members[it] for it in own]
             for own in (("sum", "first"), ("inner", "value", "marks"), ("next", "last"))
         ]
-        change = Change(64)
-        change.parted[record.offset] = groups
-        found = laid(shape, change)
+        change = LayoutChange(64)
+        change.grouped_fields[record.offset] = groups
+        found = lay_out(shape, change)
         place = SimpleNamespace(file=self.path("all.c"), line=4)
         edits = [patches.OrderFields(place, "all", groups, 64)]
-        ((_, (_, text)),) = patches.applied(edits, patches.text_of).items()
+        ((_, (_, text)),) = patches.apply_edits(edits, patches.read_source).items()
         after = Shape(self.program(text).type_named("struct all"))
         self.assertEqual(found.size, after.size())
-        wanted = {members[it.name].begin: it.begin for it in members_of(after.record())}
+        wanted = {members[it.name].begin: it.begin for it in record_members(after.record())}
         self.assertEqual({it.begin: it.to for it in found.parts if it.begin in wanted}, wanted)
         self.assertIn("/* a number */\n    uint64_t sum;\n", text)
 
     def test_elements_that_fill_lines(self):
         program = self.program(SOURCE)
         variable = next(it for it in self.variables(program) if it.name == "all")
-        change = Change(64)
-        change.aligned.add(Shape(program.type_named("struct all")).record().offset)
-        found = laid(Shape(variable.type), change)
+        change = LayoutChange(64)
+        change.aligned_records.add(Shape(program.type_named("struct all")).record().offset)
+        found = lay_out(Shape(variable.type), change)
         text = SOURCE.replace("struct all {", "struct __attribute__((aligned(64))) all {")
         self.assertEqual(
             found.size,
@@ -276,7 +282,7 @@ class LaidOut(Folder):
         )
 
     def variables(self, program):
-        program.scan()
+        program.scan_variables()
         return program.variables.values()
 
     def test_rows(self):
@@ -286,36 +292,36 @@ class LaidOut(Folder):
         self.assertEqual(
             (first.path, first.shape.size(), first.begins[:3]), ("[]", 84, [0, 84, 168])
         )
-        change = Change(64)
-        change.wrapped.add("[]")
-        self.assertEqual(laid(grid, change).size, 6 * 128)
-        self.assertIsNone(members_of(Shape(program.type_named("struct odd")).record()))
+        change = LayoutChange(64)
+        change.wrapped_arrays.add("[]")
+        self.assertEqual(lay_out(grid, change).size, 6 * 128)
+        self.assertIsNone(record_members(Shape(program.type_named("struct odd")).record()))
 
     def test_words(self):
         self.assertEqual(
-            in_words([Part(0, 4, 64), Part(4, 2, 68), Part(8, 4, 0)]),
-            [Part(0, 8, 64), Part(8, 4, 0)],
+            to_whole_words([MovedRange(0, 4, 64), MovedRange(4, 2, 68), MovedRange(8, 4, 0)]),
+            [MovedRange(0, 8, 64), MovedRange(8, 4, 0)],
         )
         for parts in (
-            [Part(0, 1, 0), Part(1, 1, 64)],
-            [Part(0, 4, 2)],
-            [Part(0, 2, 0), Part(2, 2, 66)],
+            [MovedRange(0, 1, 0), MovedRange(1, 1, 64)],
+            [MovedRange(0, 4, 2)],
+            [MovedRange(0, 2, 0), MovedRange(2, 2, 66)],
         ):
-            self.assertRaises(Unmovable, in_words, parts)
+            self.assertRaises(Unmovable, to_whole_words, parts)
 
     def test_several_repairs(self):
-        first, second = Repair([], [Part(8, 8, 0), Part(32, 4, 64)], 128, None), Repair(
-            [], [Part(0, 36, 0), Part(40, 4, 64)], 128, None
+        first, second = Repair([], [MovedRange(8, 8, 0), MovedRange(32, 4, 64)], 128, None), Repair(
+            [], [MovedRange(0, 36, 0), MovedRange(40, 4, 64)], 128, None
         )
         parts = [
-            Part(0, 8, 128),
-            Part(8, 8, 0),
-            Part(16, 16, 144),
-            Part(32, 4, 64),
-            Part(40, 4, 192),
+            MovedRange(0, 8, 128),
+            MovedRange(8, 8, 0),
+            MovedRange(16, 16, 144),
+            MovedRange(32, 4, 64),
+            MovedRange(40, 4, 192),
         ]
-        self.assertEqual(together_of([first, second], 64), Repair([], parts, 256, None))
-        self.assertEqual(together_of([first, first], 64).parts, first.parts)
+        self.assertEqual(join_repairs([first, second], 64), Repair([], parts, 256, None))
+        self.assertEqual(join_repairs([first, first], 64).parts, first.parts)
 
 
 class Grouped(unittest.TestCase):
@@ -323,17 +329,17 @@ class Grouped(unittest.TestCase):
         members = [SimpleNamespace(name=it) for it in found]
         return [
             [[it.name for it in own] for own in way]
-            for way in groupings(members, {it: (own,) for it, own in found.items()})
+            for way in field_groupings(members, {it: (own,) for it, own in found.items()})
         ]
 
     def test_groups_of_fields(self):
         def shared(*harts):
-            return Whose("shared", frozenset(harts))
+            return Sharing("shared", frozenset(harts))
 
         own, other, read = (
-            Whose("own", frozenset({1})),
-            Whose("own", frozenset({2})),
-            Whose("read", frozenset()),
+            Sharing("own", frozenset({1})),
+            Sharing("own", frozenset({2})),
+            Sharing("read", frozenset()),
         )
         ways = self.ways(
             head=shared(1), tail=shared(2), seen_tail=own, seen_head=other, room=read, name=UNUSED
@@ -350,9 +356,9 @@ class Grouped(unittest.TestCase):
 class Patched(Folder):
     def patch(self, text, *edits):
         path = self.path("a.c", text)
-        return patches.applied(
+        return patches.apply_edits(
             [it._replace(place=SimpleNamespace(file=path, line=it.place)) for it in edits],
-            patches.text_of,
+            patches.read_source,
         )[path][1]
 
     def test_records(self):
@@ -398,7 +404,9 @@ class Patched(Folder):
             ("struct a *f(int b);\nstruct c x = {1};", False),
         ):
             self.assertEqual(
-                patches.OrderFields(None, "a", [], 64).by_position(text.split("\n")), wanted, text
+                patches.OrderFields(None, "a", [], 64).has_positional_values(text.split("\n")),
+                wanted,
+                text,
             )
 
     def test_the_last_line_may_have_no_end(self):
@@ -428,14 +436,17 @@ class Patched(Folder):
 
 class Sentences(unittest.TestCase):
     def tried(self, useless, useful, accesses, after=None, many=1, own_there=None, quantum=0):
-        before = Counted({"useless": useless, "useful": useful}, 9)
-        found = Tried(
-            SimpleNamespace(useless=useless, useful=useful), before, accesses, own_there=own_there
+        before = TrialCount({"useless": useless, "useful": useful}, 9)
+        found = Trial(
+            SimpleNamespace(useless=useless, useful=useful),
+            before,
+            accesses,
+            own_misses_in_part=own_there,
         )
         if after:
-            found.repair, found.many = Repair(["do it"], [], 64, None), many
-            found.after = Counted(dict(zip(("useless", "useful"), after)), 2)
-        return (found.fix([], quantum), found.outcome(False)) if found.knows() else None
+            found.repair, found.tried_repairs = Repair(["do it"], [], 64, None), many
+            found.after = TrialCount(dict(zip(("useless", "useful"), after)), 2)
+        return (found.fix([], quantum), found.outcome(False)) if found.is_decisive() else None
 
     def test_what_was_counted(self):
         told = "misses false 2,188 → 23, true 2,457 → 2,458, invalidations 9 → 2"
@@ -449,26 +460,26 @@ class Sentences(unittest.TestCase):
         self.assertEqual(self.tried(2188, 2457, 90000, (2185, 2457), own_there=4000), (none, told))
 
     def test_the_other_way(self):
-        before = Counted({"useless": 900, "useful": 10}, 9)
-        found = Tried(SimpleNamespace(useless=900, useful=10), before, 9000)
+        before = TrialCount({"useless": 900, "useful": 10}, 9)
+        found = Trial(SimpleNamespace(useless=900, useful=10), before, 9000)
         other = Repair(["do that"], [], 64, None)
         found.repair = Repair(["do it"], [], 64, None, None, (), (16, 1024), other)
-        found.after = Counted({"useless": 0, "useful": 10}, 2)
+        found.after = TrialCount({"useless": 0, "useful": 10}, 2)
         told = "misses false 900 → 0, true 10 → 10, invalidations 9 → 2"
         self.assertEqual(found.fix([]), "do it, 16 → 1,024 bytes in all")
         self.assertEqual(found.outcome(False), told)
-        found.other = Counted({"useless": 3, "useful": 10}, 2)
+        found.other = TrialCount({"useless": 3, "useful": 10}, 2)
         other = "misses false 900 → 3, true 10 → 10, invalidations 9 → 2"
         self.assertEqual(found.outcome(False), f"{told}; or do that: {other}")
 
     def test_bytes_of_words(self):
-        before = Counted({"useless": 0, "useful": 900}, 9)
-        found = Tried(SimpleNamespace(useless=0, useful=900), before, 9000)
+        before = TrialCount({"useless": 0, "useful": 900}, 9)
+        found = Trial(SimpleNamespace(useless=0, useful=900), before, 9000)
         found.instead = "pad it"
         told = "pad it, then run again, because threads use different bytes of a, b and misses are counted per 4-byte word"
         self.assertEqual((found.fix(["a", "b"]), found.outcome(True)), (told, ""))
         found.repair = Repair(["do it"], [], 64, None)
-        found.after = Counted({"useless": 0, "useful": 10}, 2)
+        found.after = TrialCount({"useless": 0, "useful": 10}, 2)
         self.assertEqual(found.fix(["a", "b"]), f"do it; for the rest {told}")
 
     def test_nothing_to_do(self):
@@ -487,7 +498,7 @@ class Sentences(unittest.TestCase):
             self.tried(0, 900, 9000, (0, 990), 4),
             (
                 f"{none} on this trace; write shared data less often",
-                "4 layouts, the best saves 0 of 900 misses",
+                "4 layouts; the best saves 0 of 900 misses",
             ),
         )
         self.assertIsNone(self.tried(900, 0, 9000))

@@ -13,7 +13,12 @@ sys.path[:0] = [os.path.join(HERE, "..", ".."), os.path.join(HERE, "..", "..", "
 
 import traces  # noqa: E402
 from judge_report import Access, Case, Ending, trace_of  # noqa: E402
-from view.model.waiting_harts import ENDS, instructions, last_ones, named  # noqa: E402
+from view.model.waiting_harts import (  # noqa: E402
+    END_FUNCTIONS,
+    decode_instructions,
+    last_positions,
+    name_harts,
+)
 
 LACKS = [it for it in ("clang", "ld.lld", "llvm-symbolizer") if shutil.which(it) is None]
 # Two threads lock two mutexes in two orders, and one ends; with SPINS one spins for ever.
@@ -68,23 +73,23 @@ class Last(unittest.TestCase):
         )
         own = traces.with_pcs(trace, lambda access, before: (before * 5 + access.addr) % 2**32)
         wanted = [(it.hart, it.pc) for it in traces.sited(own)]
-        self.assertEqual(list(instructions(own)), wanted)
+        self.assertEqual(list(decode_instructions(own)), wanted)
         # (as far as a piece goes that was cut)
-        self.assertEqual(list(instructions(own[:-25])), wanted)
+        self.assertEqual(list(decode_instructions(own[:-25])), wanted)
         path = os.path.join(self.folder, "trace")
         with open(path, "wb") as file:
             file.write(trace)
-        self.assertEqual(last_ones(path), {0: 96, 1: 97, 2: 98})
+        self.assertEqual(last_positions(path), {0: 96, 1: 97, 2: 98})
 
     def test_names(self):
         self.assertEqual(
-            [named([1]), named([1, 2]), named([0, 4, 7])],
+            [name_harts([1]), name_harts([1, 2]), name_harts([0, 4, 7])],
             ["hart 1", "harts 1 and 2", "harts 0, 4 and 7"],
         )
 
     def test_the_kit_has_its_ends(self):
         with open(os.path.join(TOP, "guest", "pthread.c"), encoding="utf-8") as file:
-            self.assertIn(f"{ENDS[0]}(run(argument))", file.read())
+            self.assertIn(f"{END_FUNCTIONS[0]}(run(argument))", file.read())
 
     @unittest.skipIf(LACKS, f"{' '.join(LACKS)} missing")
     @unittest.skipUnless(has(PROGRAM, "blame"), "the program isn't built, or has no blame")

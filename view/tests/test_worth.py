@@ -23,14 +23,20 @@ from view.model.instruction_pairs import (  # noqa: E402
     LOAD,
     STORE,
     UNKNOWN,
-    all_that_do,
-    kind_of,
-    kinds_of,
-    told,
+    parse_effects,
+    pair_kind,
+    count_kinds,
+    describe_kinds,
 )
 from view.model.view import View  # noqa: E402
 from view.names.naming import Naming  # noqa: E402
-from view.reading.reports import Misses, Pair, Report, Takings, Word  # noqa: E402
+from view.reading.reports import (  # noqa: E402
+    Misses,
+    InstructionPair,
+    Report,
+    LineInvalidations,
+    Word,
+)
 
 REPORT = "predator report 1\noutcome exit 0\nsteps {}\naccesses 2000\nlayout 64 0\nthresholds 16 64 100\nlines 0\nend\n"
 LINE = "line 0x0001{} cold 2 useful {} useless {}\nobject symbol {} 0x0001{} 64\n"
@@ -87,7 +93,7 @@ def view_of(*lines, steps=1000, words=("run", "p"), alternating=None):
     report = Report(REPORT.format(steps))
     made = View(SimpleNamespace(**vars_of(words)), report, Naming(report))
     made.misses = misses_of(*lines)
-    made.arrange()
+    made.group_by_objects()
     made.worth = miss_rates.Worth(made, None)
     if alternating:
         made.worth.known, made.worth.alternating = True, miss_rates.Alternating(
@@ -100,7 +106,14 @@ def view_of(*lines, steps=1000, words=("run", "p"), alternating=None):
 def vars_of(words):
     """A call without its file."""
     call = Call.__new__(Call)
-    call.how, call.options, call.own, call.marks, call.given, call.spare = (
+    (
+        call.action,
+        call.options,
+        call.guest_words,
+        call.recorder_flags,
+        call.engine_options,
+        call.run_trace,
+    ) = (
         words[0],
         {"type": [], "shape": []},
         [],
@@ -111,11 +124,27 @@ def vars_of(words):
     call.words, call.subject, call.named, call.program = [*words[1:]], words[1], words[1], None
     own = {
         it: getattr(call, it)
-        for it in ("how", "options", "own", "words", "subject", "named", "program", "spare")
+        for it in (
+            "action",
+            "options",
+            "guest_words",
+            "words",
+            "subject",
+            "named",
+            "program",
+            "run_trace",
+        )
     }
     return own | {
         it: getattr(call, it)
-        for it in ("number", "settings_words", "value_of", "words_to_run", "trace", "reads_once")
+        for it in (
+            "number_option",
+            "settings_words",
+            "option_value",
+            "rerun_words",
+            "trace_file",
+            "reads_trace_once",
+        )
     }
 
 
@@ -154,7 +183,7 @@ class InTime(unittest.TestCase):
         self.assertEqual((own.worth.rate(9), own.worth.unit()), (9.0, "instructions"))
         self.assertEqual(own.worth.total(), f"9.00 false per 1,000 instructions ({SEVERE})")
         self.assertEqual(own.worth.at_most(), at_most(100 / 4, 140, 0.4))
-        many, few = own.things
+        many, few = own.objects
         self.assertEqual(
             [own.worth.band(it.useless).severity for it in (many, few)], ["high", "moderate"]
         )
@@ -166,7 +195,7 @@ class InTime(unittest.TestCase):
         )
         self.assertEqual(own.worth.warning(many, []), "")
         self.assertTrue(
-            own.seen(few).fix.endswith(
+            own.details(few).fix.endswith(
                 "may not pay: most misses on its worst line are true sharing"
             )
         )
@@ -190,7 +219,7 @@ class InTime(unittest.TestCase):
 
     def test_the_words_of_a_run_in_turns_of_one_step(self):
         def words_of(*words):
-            return miss_rates.in_turns_of_one(SimpleNamespace(**vars_of(("run", *words))))
+            return miss_rates.count_at_quantum_one(SimpleNamespace(**vars_of(("run", *words))))
 
         self.assertEqual(words_of("p"), ["run", "--set", "quantum=1,seed=0", "p"])
         self.assertEqual(
@@ -274,8 +303,10 @@ class OnTheScreen(unittest.TestCase):
             ({"json": "f", "latency": "0"}, False),
         ):
             own.call.options.update(options)
-            with mock.patch("worth.counted", lambda *_: "a count"):
-                found = miss_rates.begin(own.call, SimpleNamespace(has=lambda _: True), (64, 0))
+            with mock.patch("view.model.miss_rates.read_count", lambda *_: "a count"):
+                found = miss_rates.begin_count(
+                    own.call, SimpleNamespace(has_command=lambda _: True), (64, 0)
+                )
             self.assertEqual(found is not None and found.result(), is_begun and "a count")
 
 
@@ -286,7 +317,7 @@ class OnTheScreenOfTheProgram(OnTheScreen):
 
 class Kinds(unittest.TestCase):
     def test_riscv(self):
-        found = all_that_do(RISCV, range(0x10340, 0x10368, 4))
+        found = parse_effects(RISCV, range(0x10340, 0x10368, 4))
         self.assertNotIn(0x10340, found)
         self.assertNotIn(0x10358, found)
         self.assertEqual([at for at, it in found.items() if it.is_atomic], [0x1034C, 0x10354])
@@ -297,7 +328,7 @@ class Kinds(unittest.TestCase):
         self.assertEqual([at for at, it in found.items() if not it.reads], [0x10344, 0x1035C])
 
     def test_x86(self):
-        found = all_that_do(X86, range(0x1129, 0x1170))
+        found = parse_effects(X86, range(0x1129, 0x1170))
         self.assertEqual(
             [at for at, it in found.items() if it.is_atomic],
             [0x1129, 0x1144, *range(0x115E, 0x1163)],
@@ -312,7 +343,7 @@ class Kinds(unittest.TestCase):
         self.assertEqual(stores, [0x1136, 0x1150, 0x1151, *range(0x1154, 0x1159)])
 
     def test_pairs(self):
-        known = all_that_do(RISCV, range(0x10340, 0x10368, 4))
+        known = parse_effects(RISCV, range(0x10340, 0x10368, 4))
         store, load, amo = 0x10344, 0x10348, 0x1034C
         for victim, taker, kind in (
             *(
@@ -324,47 +355,66 @@ class Kinds(unittest.TestCase):
             ),
             *((0, amo, ATOMIC), (0, store, UNKNOWN), (store, 0, UNKNOWN), (0x10350, store, LOAD)),
         ):
-            self.assertEqual(kind_of(Pair(victim, taker, 1, 0), known), kind, (victim, taker))
-        own = kinds_of([Pair(store, store, 5, 0), Pair(load, store, 2, 0), Pair(0, 0, 1, 0)], known)
-        self.assertEqual(own, {ATOMIC: 0, LOAD: 2, STORE: 5, UNKNOWN: 1})
-        self.assertEqual(told(own), "2 read → write, 5 write → write, 1 by unknown instructions")
-        self.assertIn(
-            "; the line is hardly read, so store buffers hide most", told(own, is_read=False)
+            self.assertEqual(
+                pair_kind(InstructionPair(victim, taker, 1, 0), known), kind, (victim, taker)
+            )
+        own = count_kinds(
+            [
+                InstructionPair(store, store, 5, 0),
+                InstructionPair(load, store, 2, 0),
+                InstructionPair(0, 0, 1, 0),
+            ],
+            known,
         )
-        self.assertEqual((told({}), told(kinds_of([Pair(0, 0, 1, 0)], known))), ("", ""))
+        self.assertEqual(own, {ATOMIC: 0, LOAD: 2, STORE: 5, UNKNOWN: 1})
+        self.assertEqual(
+            describe_kinds(own), "2 read → write, 5 write → write, 1 by unknown instructions"
+        )
+        self.assertIn(
+            "; the line is hardly read, so store buffers hide most",
+            describe_kinds(own, is_read=False),
+        )
+        self.assertEqual(
+            (describe_kinds({}), describe_kinds(count_kinds([InstructionPair(0, 0, 1, 0)], known))),
+            ("", ""),
+        )
         # (an instruction that loads and stores waits for the line itself)
         self.assertEqual(
-            kind_of(Pair(0x1136, 0x1163, 1, 0), all_that_do(X86, range(0x1129, 0x1170))), LOAD
+            pair_kind(
+                InstructionPair(0x1136, 0x1163, 1, 0), parse_effects(X86, range(0x1129, 0x1170))
+            ),
+            LOAD,
         )
 
     def test_the_order_of_objects(self):
         own = view_of(("1000", 0, 9, "stored"), ("1040", 0, 7, "loaded"), ("1080", 0, 1, "other"))
-        own.does = all_that_do(RISCV, range(0x10340, 0x10368, 4))
-        for it in own.things:
-            it.saves = it.useless
+        own.effects = parse_effects(RISCV, range(0x10340, 0x10368, 4))
+        for it in own.objects:
+            it.savable_misses = it.useless
         own.is_read = lambda thing: thing.name != "stored"
         takings = {
-            "stored": [Pair(0x10344, 0x10344, 9, 0)],
-            "loaded": [Pair(0x10348, 0x10344, 9, 0)],
+            "stored": [InstructionPair(0x10344, 0x10344, 9, 0)],
+            "loaded": [InstructionPair(0x10348, 0x10344, 9, 0)],
         }
-        own.explained = {
-            it.worst().base: Takings(it.worst().base, takings[it.name], {})
-            for it in own.things
+        own.invalidations_by_line = {
+            it.worst_line().base: LineInvalidations(it.worst_line().base, takings[it.name], {})
+            for it in own.objects
             if it.name in takings
         }
-        own.put_dear_first()
-        self.assertEqual([it.name for it in own.things], ["loaded", "stored", "other"])
+        own.rank_by_cost()
+        self.assertEqual([it.name for it in own.objects], ["loaded", "stored", "other"])
         self.assertTrue(instruction_pairs.is_read([Word(0, 2, 10, "1")]))
         self.assertFalse(instruction_pairs.is_read([Word(0, 1, 10, "1"), Word(4, 0, 9, "2")]))
 
     @unittest.skipUnless(shutil.which("llvm-objdump"), "llvm-objdump isn't installed")
     def test_a_guest(self):
-        found = instruction_pairs.of_file(
+        found = instruction_pairs.file_effects(
             built("shards.elf"), built("shards.elf"), range(0x10000, 0x10400, 4)
         )
         self.assertTrue(any(it.is_atomic for it in found.values()))
         self.assertEqual(
-            instruction_pairs.of_file(built("missing.elf"), built("missing.elf"), [0x10000]), {}
+            instruction_pairs.file_effects(built("missing.elf"), built("missing.elf"), [0x10000]),
+            {},
         )
         words = ["explain", built("shards.elf"), "0x00011000", "64", "0"]
         text = subprocess.run([STAND_IN, *words], capture_output=True, text=True, check=True).stdout
@@ -389,7 +439,7 @@ class Kinds(unittest.TestCase):
                 ).stdout.partition(" T f\n")[0][-16:],
                 16,
             )
-            found = instruction_pairs.of_file(path, path, range(begin, begin + 32))
+            found = instruction_pairs.file_effects(path, path, range(begin, begin + 32))
         if os.uname().machine == "x86_64":
             self.assertEqual(
                 (
