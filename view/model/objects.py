@@ -115,21 +115,24 @@ def object_key(thing: Holder, naming: Naming, addr: int) -> Key:
     return naming.memory.key(addr)
 
 
-def word_holders(things: Sequence[Symbol | Block], addr: int) -> list[tuple[Symbol | Block, float]]:
-    """The objects that a word lies in, each with its share of it: blocks before symbols, short and long-lived ones first."""
+def word_holders(
+    things: Sequence[Symbol | Block], addr: int, accesses: int = 0
+) -> list[tuple[Symbol | Block, float]]:
+    """The objects that a word lies in, each with its share of it: blocks before symbols, short and long-lived ones first. A trace has so
+    many accesses, up to whose end a block lives on."""
     found = [it for it in things if it.addr < addr + 4 and addr < it.addr + it.size]
     blocks = [it for it in found if isinstance(it, Block)]
     if not blocks:
         return [(it, 1 / len(found)) for it in found]
     # (one that lives on does so beyond all that is told of the others)
-    end = max(max(it.born, it.died or 0) for it in blocks) + 1
+    end = max(accesses, *(max(it.born, it.died or 0) + 1 for it in blocks))
     shares = [max((end if it.died is None else it.died) - it.born, 1) / it.size for it in blocks]
     return [(it, share / sum(shares)) for it, share in zip(blocks, shares)]
 
 
-def word_holder(things: Sequence[Symbol | Block], addr: int) -> Holder:
-    """The object that a word is told under, or none."""
-    found = word_holders(things, addr) if things else []
+def word_holder(things: Sequence[Symbol | Block], addr: int, accesses: int = 0) -> Holder:
+    """The object that a word is reported under, or none."""
+    found = word_holders(things, addr, accesses) if things else []
     return max(found, key=lambda share: share[1])[0] if found else None
 
 
@@ -152,7 +155,7 @@ def access_shares(
             if len(blocks) != 1:
                 own = [
                     (keys[things.index(thing)], thing, share)
-                    for thing, share in word_holders(things, addr)
+                    for thing, share in word_holders(things, addr, naming.accesses)
                 ]
             met = blocks
         if own is None:
@@ -314,7 +317,7 @@ def word_uses(spot: ObjectLine, naming: Naming, by_word: Misses | None = None) -
     things = spot.objects()
     found: list[WordUse] = []
     for word in told.words():
-        thing = word_holder(things, word.addr)
+        thing = word_holder(things, word.addr, naming.accesses)
         name, element, field = naming.word_names(word.addr, thing)
         useful = None
         if by_word is not None:

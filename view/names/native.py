@@ -18,7 +18,8 @@ from view.names.cpp import LandmarkFinder, Landmarks
 from view.names.demangling import demangle
 from view.names.naming import Memory
 from view.names.rust import NearPanics, Panics
-from view.reading.reports import Report
+from view.reading.reports import Block, Report, Symbol, name_bytes
+from view.reading.reports import Site as CallSite
 from view.names.source_lines import MAX_INSTRUCTIONS_BACK, SourceLine, Sources, parse_frames
 
 from elftools.elf.elffile import ELFFile
@@ -42,6 +43,11 @@ class Site(NamedTuple):
     line: str
 
 
+def plain_name(name: str) -> str:
+    """A name of a report without the version of its library."""
+    return name_bytes(name).decode("utf-8", "surrogateescape").partition("@")[0]
+
+
 def known_word(word: str) -> str:
     return "" if word == "-" else word
 
@@ -60,6 +66,8 @@ class AddressMap:
         self.mapped_files: list[tuple[int, int, str]] = []
         self.sites: dict[int, list[Site]] = {}
         self.frames: dict[int, list[Site]] = {}
+        # How many accesses the trace has, and why it ends; none where the recorder was killed.
+        self.end: tuple[int, str] | None = None
         try:
             with open(path, encoding="utf-8", errors="surrogateescape") as file:
                 for row in file:
@@ -95,6 +103,9 @@ class AddressMap:
             self.frames.setdefault(int(addr, 16), []).append(
                 Site(known_word(function), known_word(line))
             )
+        elif kind == "end":
+            count, word = rest.split(" ")
+            self.end = None if word == "none" else (int(count), word)
         elif kind:
             self.pages[int(kind, 16)] = int(rest, 16)
 
@@ -113,6 +124,8 @@ class NativeFile:
         self.variables: dict[int, NativeVariable | None] = {}
         self.ranges: list[tuple[int, int]] = []
         self.names: dict[int, str] = {}
+        # Where the file has data of a name, each place with its size.
+        self.extents: dict[str, list[tuple[int, int]]] = {}
         self.is_stripped = False
         with contextlib.suppress(Exception), open(path, "rb") as file:
             elf = ELFFile(file)
@@ -135,7 +148,9 @@ class NativeFile:
                 for symbol in table.iter_symbols()
                 if symbol["st_info"]["type"] == "STT_OBJECT"
             ):
-                self.names.setdefault(symbol["st_value"], symbol.name.partition("@")[0])
+                name = symbol.name.partition("@")[0]
+                self.names.setdefault(symbol["st_value"], name)
+                self.extents.setdefault(name, []).append((symbol["st_value"], symbol["st_size"]))
 
     def debug_of(self, elf: ELFFile) -> str:
         note = elf.get_section_by_name(".note.gnu.build-id")
@@ -325,13 +340,48 @@ class NativeProgram:
         )
 
     def mismatch(self, report: Report) -> str | None:
-        """What of a report isn't in the table, or none."""
+        """What of a report isn't in the address map, or none."""
+        if self.map.end:
+            count, is_whole = self.map.end[0], report.outcome.startswith("exit")
+            # (a trace that was cut has fewer)
+            if count < report.accesses or is_whole and count != report.accesses:
+                return f"it is of a trace of {count:,} accesses, and the report counts {report.accesses:,}"
         for line in report.lines[:1000]:
             if line.kind == "observed" and all(
                 self.map.native_address(addr) is None
                 for addr in range(max(line.base, 0), line.base + line.size, 4)
             ):
                 return f"it has no page of {line.base:#010x}"
+            found = next(filter(None, map(self.object_mismatch, line.objects())), None)
+            if found:
+                return found
+        return None
+
+    def object_mismatch(self, thing: Symbol | Block) -> str | None:
+        """What of a symbol or a block of a report isn't in the address map, or none."""
+        if isinstance(thing, Block):
+            return next(filter(None, map(self.site_mismatch, thing.sites)), None)
+        name, found = plain_name(thing.name), self.file(thing.addr)
+        if found is None:
+            # (a file that is gone has no ranges, and a page that nothing touched isn't in the map)
+            is_there = all(it.ranges for it in self.files)
+            has_page = self.map.native_address(thing.addr) is not None
+            return f"it has no file with {thing.name}" if is_there and has_page else None
+        own, at = found
+        # (a symbol may be longer than a region of the trace, and begin in one before)
+        lies = any(low <= at < low + max(size, 1) for low, size in own.extents.get(name, ()))
+        if lies or not own.extents:
+            return None
+        return f"{own.path} has no symbol {thing.name} at {at:#x}"
+
+    def site_mismatch(self, site: CallSite) -> str | None:
+        """What of a call site isn't in the address map, or none."""
+        own = self.map.sites.get(site.addr)
+        if not own:
+            return f"it has no call site {site.addr:#010x}"
+        name = known_word(plain_name(site.name))
+        if name and own[0].function and name != own[0].function.partition("@")[0]:
+            return f"its call site {site.addr:#010x} is in {own[0].function}, and not in {name}"
         return None
 
 
