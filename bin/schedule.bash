@@ -13,7 +13,7 @@ declare -A running=() began=() try_numbers=()
 # Parts that failed at first, to be tried once more.
 again=()
 # A part may take so many seconds.
-part_seconds_most=${PART_SECONDS:-1200}
+part_seconds_most=${PART_SECONDS:-1800}
 
 # Makes the folder for what this run writes. Descriptor 9 holds a lock where the caller has one, and no part gets it.
 begin_run() {
@@ -31,17 +31,20 @@ begin_run() {
 # The processes that a part, or any part of this run, has left: they have its folder in their environment.
 processes_of() { grep -l -s -z -E -e "^PREDATOR_PART=$work/$1\$" /proc/[0-9]*/environ | sed 's|/proc/||; s|/.*||'; }
 
-# end_processes NAME: ends what is left of a part, or of all with `.*`; its status is 0 if there was anything.
+# end_processes NAME: ends what is left of a part, or of all with `.*`; its status is 0 if there was anything. A part gets five seconds to clean up.
 end_processes() {
-    local left signal found=1
-    for signal in TERM TERM KILL; do
+    local left count
+    mapfile -t left < <(processes_of "$1")
+    ((${#left[@]} > 0)) || return 1
+    kill -TERM "${left[@]}" 2>/dev/null
+    for count in {1..50}; do
+        sleep 0.1
         mapfile -t left < <(processes_of "$1")
-        ((${#left[@]} > 0)) || return "$found"
-        found=0
-        kill -"$signal" "${left[@]}" 2>/dev/null
-        sleep 0.3
+        ((${#left[@]} > 0)) || return 0
     done
-    return "$found"
+    echo "note: killed after $((count / 10)) s: ${left[*]}"
+    kill -KILL "${left[@]}" 2>/dev/null
+    sleep 0.1
 }
 
 remove_folder() {
@@ -60,7 +63,7 @@ end_run() {
 stop_run() { # STATUS WHY
     local pid
     trap '' INT TERM HUP
-    # (each is `timeout`, which passes the signal on to its group, and kills that ten seconds later)
+    # (`timeout` passes the signal on to the group of its part)
     for pid in "${!running[@]}"; do kill -TERM "$pid" 2>/dev/null; done
     end_processes '.*'
     wait
@@ -104,9 +107,11 @@ start_part() {
     shift 2
     mkdir -p "$work/$name"
     # (bash has a job in the background ignore Ctrl-C, and parts try what a program does then)
-    PREDATOR_PART=$work/$name TMPDIR=$work/$name XDG_CACHE_HOME=$work/$name/cache PYTHONDONTWRITEBYTECODE=1 \
-        env --default-signal=INT,QUIT timeout -k 10 "$seconds" "$@" \
-        >"$work/$name.log" 2>&1 </dev/null 9<&- &
+    {
+        TIMEFORMAT='%U %S'
+        time PREDATOR_PART=$work/$name TMPDIR=$work/$name XDG_CACHE_HOME=$work/$name/cache PYTHONDONTWRITEBYTECODE=1 \
+            env --default-signal=INT,QUIT timeout -k 10 "$seconds" "$@" >"$work/$name.log" 2>&1 </dev/null
+    } 2>"$work/$name.time" 9<&- &
     running[$!]=$name began[$name]=$SECONDS
 }
 
@@ -140,28 +145,37 @@ tell_skips() {
     for it in ${skip_reasons[@]+"${skip_reasons[@]}"}; do echo "    ${skipped_for[$it]}: $it"; done
 }
 
+# The seconds that a part took, and how many of processors that were, which says more on a busy machine.
+time_of() { # NAME
+    local user='' system=''
+    read -r user system <"$work/$1.time"
+    user=${user%.*} system=${system%.*}
+    echo "$((SECONDS - began[$1])) s; processor $((${user:-0} + ${system:-0})) s"
+}
+
 # finish_part NAME STATUS: counts a part that has ended, and tells of it.
 finish_part() {
-    local name=$1 status=$2 log=$work/$1.log took=$((SECONDS - began[$1])) number=${try_numbers[$1]:-1} it
+    local name=$1 status=$2 log=$work/$1.log took number=${try_numbers[$1]:-1} it
+    took=$(time_of "$name")
     if end_processes "$name"; then echo "note: $name left processes behind, which were ended"; fi
     case $status in
         0)
             passed=$((passed + 1))
-            echo "passed: $name ($took s$([ "$number" = 1 ] || echo ", at the second try"))"
+            echo "passed: $name ($took$([ "$number" = 1 ] || echo ", at the second try"))"
             # (of what a part skipped by itself)
-            while IFS= read -r it; do note_skip "$name (in part)" "$it"; done < <(sed -n -E 's/^skipped[,:]? *//p' "$log" | grep -v '^$' | sort -u)
+            while IFS= read -r it; do note_skip "$name (in part)" "$it"; done < <(sed -n -E 's/^skipped[,:]? *([0-9]+: )?//p' "$log" | grep -v '^$' | sort -u)
             ;;
         77) skip_part "$name" "$(tail -n 1 "$log")" ;;
         *)
             tail -n 40 "$log"
-            if [ "$status" = 124 ] || [ "$status" = 137 ]; then echo "it took more than $took s"; fi
+            if [ "$status" = 124 ] || [ "$status" = 137 ]; then echo "it took too long: $took"; fi
             if [ "$number" -lt "${part_tries[$name]}" ]; then
-                echo "failed at first (status $status, $took s), and is tried once more: $name"
+                echo "failed at first (status $status, $took), and is tried once more: $name"
                 try_numbers[$name]=$((number + 1))
                 again+=("$name")
             else
                 failed=$((failed + 1))
-                echo "FAILED: $name (status $status, $took s): ${part_commands[$name]}"
+                echo "FAILED: $name (status $status, $took): ${part_commands[$name]}"
             fi
             ;;
     esac

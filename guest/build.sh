@@ -1,7 +1,7 @@
 #!/usr/bin/env bash
-# Builds C programs for predator, with symbols and full debug information.
+# Builds C and C++ programs for predator, with symbols and full debug information.
 #
-#     build.sh OUT.elf SOURCE.c .. [-- FLAGS ..]   one program, with flags for the compiler behind --
+#     build.sh OUT.elf SOURCE .. [-- FLAGS ..]     one program, with flags for the compiler behind --
 #     build.sh examples                            the examples, into built/, with line tables
 #     build.sh threads                             the tests of threads/, into threads/out/
 #     build.sh studies [FOLDER]                    what studies/builds.txt lists, into built/studies/, without line tables; or into a
@@ -76,6 +76,21 @@ want_kit() {
     [ -d "$work/kit" ] || make_kit "$work/kit" "${debug[@]}" "${tells[@]}"
 }
 
+# OUT: a program that has C++ among its `sources`, with its `flags`: C by cc, C++ and the whole by c++.
+build_cxx() {
+    local out=$1 it of=() made
+    made=$(mktemp -d -p "$work")
+    for it in "${sources[@]}"; do
+        if [[ $it == *.c ]]; then
+            of+=("$made/${#of[@]}.o")
+            "$here/cc" ${flags[@]+"${flags[@]}"} -c "$it" -o "${of[-1]}"
+        else
+            of+=("$it")
+        fi
+    done
+    "$here/c++" ${flags[@]+"${flags[@]}"} "${of[@]}" -o "$out"
+}
+
 # OUT, then sources, then -- and flags.
 build() {
     local out=$1 sources=() flags=() objects own kit count=0 made common tail=() it
@@ -85,10 +100,13 @@ build() {
         shift
     done
     (($# > 0)) && shift
-    for it in "${sources[@]}"; do
-        [[ $it != *.@(cpp|cc|cxx|c++|C) ]] || fail "$it is C++: $here/c++ ${sources[*]} -o $out builds it"
-    done
     flags=("$@")
+    for it in "${sources[@]}"; do
+        if [[ $it == *.@(cpp|cc|cxx|c++|C) ]]; then
+            build_cxx "$out"
+            return
+        fi
+    done
     flags_of_all
     kit=$(kit_of)
     made=$(mktemp -d -p "$work")
@@ -211,7 +229,7 @@ elif (($# == 1)) && [ "$1" = studies ]; then
     build_studies
 elif (($# == 2)) && [ "$1" = studies ] && [ -d "$2" ]; then
     build_studies "$2"
-elif (($# >= 2)) && [[ $1 != *.c && $1 != -* && $2 != -- ]]; then
+elif (($# >= 2)) && [[ $1 != *.@(c|cpp|cc|cxx) && $1 != -* && $2 != -- ]]; then
     build "$@"
 else
     usage

@@ -118,6 +118,35 @@ make_kit() {
     done
 }
 
+# The headers of LLVM's C++ library: those of the compiler's own version, else the newest that is installed; none where there is none.
+# LIBCXX names another folder, or `none`.
+cxx_headers() {
+    local version it found=""
+    if [ -n "${LIBCXX:-}" ]; then
+        [ "$LIBCXX" = none ] || echo "$LIBCXX"
+        return
+    fi
+    version=$(clang -dumpversion 2>/dev/null)
+    for it in "/usr/lib/llvm-${version%%.*}" $(printf '%s\n' /usr/lib/llvm-* | sort -V -r); do
+        if [ -e "$it/include/c++/v1/__config" ]; then
+            found=$it/include/c++/v1
+            break
+        fi
+    done
+    echo "$found"
+}
+
+# FOLDER HEADERS FLAG ..: compiles what LLVM's headers leave to a library, into the folder of a kit.
+make_cxx() {
+    local into=$1 headers=$2 it
+    shift 2
+    for it in "$here"/cxx/*.cpp; do
+        clang --driver-mode=g++ "${machine[@]}" -O2 "${sections[@]}" "${named[@]}" -std=c++20 -fno-exceptions -fno-rtti \
+            -fno-asynchronous-unwind-tables -nostdinc++ -isystem "$here/cxx/include" -isystem "$headers" "${over_c[@]}" "${careful[@]}" "$@" \
+            -c "$it" -o "$into/parts/cxx-$(basename "${it%.*}").o"
+    done
+}
+
 # SOURCE OBJECT FLAG ..: one part, with those words of main's that `words` has.
 make_part() {
     local source=$1 made=$2

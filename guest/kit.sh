@@ -331,7 +331,10 @@ refuses "a shared library" "there are no shared libraries" "$cc" -shared main.c 
 refuses "another machine's object" "incompatible" bash -c 'clang -c add.c -o x86.o && "$0" main.c x86.o' "$cc"
 refuses "no place to write" "nowhere/x.elf" "$cc" main.c add.c -o nowhere/x.elf
 refuses "no place to keep the kit" "can't be written" env XDG_CACHE_HOME=/dev/null "$cc" main.c add.c
-expect_success "one kit is kept" test "$(find "$XDG_CACHE_HOME/predator/guest" -mindepth 1 -maxdepth 1 | wc -l)" = 1
+# (and another for C++, where LLVM's headers of its library are installed)
+kits=1
+! compgen -G "/usr/lib/llvm-*/include/c++/v1/__config" >/dev/null || kits=2
+expect_equal "kits that are kept" $kits "$(find "$XDG_CACHE_HOME/predator/guest" -mindepth 1 -maxdepth 1 | wc -l)"
 ln -s "$cc" linked-cc
 ln -s "$cxx" linked-c++
 builds "through a link" ./linked-cc main.c add.c -o link.elf
@@ -409,8 +412,6 @@ refuses "an exception that is insisted on" "can't be had: C++ has no exceptions 
 printf 'struct a { virtual ~a() {} }; struct b : a {};\nint main() { a *it = new b; return dynamic_cast<b *>(it) == nullptr; }\n' >casts.cc
 refuses "type information" "-frtti" "$cxx" casts.cc -o x.elf
 refuses "type information that is insisted on" "can't be had: C++ has no type information here" "$cxx" -frtti casts.cc -o x.elf
-printf 'struct a { int x; ~a() { x = 1; } }; thread_local a it;\nint main() { return it.x; }\n' >local.cc
-refuses "a thread's variable with a destructor" "can't be had: a thread_local variable" "$cxx" local.cc -o x.elf
 cat >place.cc <<'C'
 #include <new>
 struct a { int x; a(int x) : x(x) {} };
@@ -422,7 +423,17 @@ for it in c++98 c++11 c++17; do
     builds "new at a place, $it" "$cxx" -std=$it -Wall -Wextra -Werror place2.cc -o place.elf
 done
 echo '#include <vector>' >vector.cc
-refuses "C++'s library" "'vector' file not found" "$cxx" -c vector.cc
+refuses "C++'s library, where it isn't installed" "Debian: libc++-14-dev" env LIBCXX=none "$cxx" -c vector.cc
+builds "C++ without its library" env LIBCXX=none "$cxx" -std=c++17 -Wall -Wextra -Werror plus.cc -o bare.elf
+printf '#include <iostream>\nint main() { std::cout << 1; }\n' >streams.cc
+refuses "streams" "use printf" "$cxx" -c streams.cc
+echo 'int main() { try { return 1; } catch (...) { return 2; } }' >tries.cc
+refuses "a handler of exceptions" "exceptions disabled" "$cxx" -c tries.cc
+printf '#include <vector>\nint main() { return std::vector<int>(3).size() - 3; }\n' >sized.cpp
+builds "C++ by build.sh" "$build" sized.elf sized.cpp
+echo 'int twice(int x) { return 2 * x; }' >half.c
+printf 'extern "C" int twice(int);\nint main() { return twice(2) - 4; }\n' >other.cpp
+builds "C and C++ together" "$build" mixed.elf other.cpp half.c
 
 # ---- CMake
 

@@ -1,5 +1,6 @@
 #!/usr/bin/env bash
-# Tries the tool and its launcher on good and bad input (Debian: gcc, valgrind, python3; no part of the gate).
+# Tries the tool and its launcher on good and bad input (Debian: gcc, valgrind, python3). With --short it tries what is recorded, and how
+# programs end; without, also what is refused, what a full disk or a signal does, and the reports, for some minutes.
 # Its last line is `N passed, M failed, K skipped`.
 set -u
 here=$(dirname "$(readlink -f "$0")")
@@ -175,6 +176,10 @@ else
     skip_checks 1 "a static program: it can't be linked here"
 fi
 rm -f t t3 w same* whole part
+if [ "${1:-}" = --short ]; then
+    finish_checks
+    exit
+fi
 
 # What is refused before the program runs.
 refused() { # NAME STATUS PART WORDS ..
@@ -248,11 +253,17 @@ expect_part "a limit" "t: File too large" "$said"
 expect_part "a limit: the program goes on" "closed" "$said"
 expect_equal "a limit: end" part "$("$judge" end t)"
 mkdir disk
-if mount -t tmpfs -o size=1500k tmpfs disk 2>/dev/null; then
+if mount -t tmpfs -o size=3m tmpfs disk 2>/dev/null; then
     said=$("$run" --trace disk/t -- ./odd close 2>&1)
-    expect_equal "a full disk: status" 6 "$?"
-    expect_part "a full disk" "disk/t: No space left on device" "$said"
-    expect_equal "a full disk: end" part "$("$judge" end disk/t)"
+    expect_equal "a small disk: status" 6 "$?"
+    expect_part "a small disk" "half of what was free on their disk: the trace ends here" "$said"
+    expect_equal "a small disk: end" "part disk" "$("$judge" end disk/t) $(awk '$1 == "end" { print $3 }' disk/t.table)"
+    expect_between "a small disk: half of it is left" $((3 << 19)) $((3 << 20)) $(($(stat -f -c '%a * %S' disk)))
+    rm disk/t disk/t.table
+    head -c 3100000 /dev/zero >disk/full 2>/dev/null
+    said=$("$run" --trace disk/t -- ./odd close 2>&1)
+    expect_equal "a full disk: status" 125 "$?"
+    expect_part "a full disk" "half of what was free on their disk" "$said"
     umount disk
 else
     skip_checks 1 "a full disk: no file system can be mounted"
@@ -269,7 +280,7 @@ wait
 "$run" --trace file -- ./counters >/dev/null 2>&1
 expect_equal "through a pipe" same "$(cmp -s from-pipe file && echo same)"
 rm -f t
-"$run" --trace t -- ./odd endless >/dev/null 2>&1 &
+"$run" --trace t -- "$work/odd" endless >/dev/null 2>&1 &
 pid=$!
 longer() { # FILE BYTES: waits until it is longer, two minutes at most
     for _ in $(seq 1 600); do
@@ -280,6 +291,12 @@ longer() { # FILE BYTES: waits until it is longer, two minutes at most
 longer t 3000000
 kill -9 $pid
 wait $pid 2>/dev/null
+# (the recorder ends with its launcher, in a moment)
+for _ in $(seq 1 100); do
+    if ! pgrep -f "$work/odd endless" >/dev/null; then break; fi
+    sleep 0.1
+done
+expect_equal "killed: nothing is left" "" "$(pgrep -f "$work/odd endless")"
 # (where the kill came while a piece was written, the file ends in it, and is mended)
 "$judge" end t >ended 2>/dev/null || "$run" --mend t >/dev/null
 expect_equal "killed: end" part "$("$judge" end t)"
@@ -398,6 +415,7 @@ expect_between "pipe: killed: accesses" 300000 1000000000 "$("$judge" accesses f
 . "$here/tries/nameless.sh"
 . "$here/tries/ends.sh"
 . "$here/tries/child.sh"
+. "$here/tries/core.sh"
 . "$here/tries/again.sh"
 . "$here/tries/others.sh"
 
@@ -464,9 +482,18 @@ if /usr/bin/python3 -c 'import elftools, jinja2' 2>/dev/null && command -v llvm-
     "$run" --built --trace b -- ./heap.tsan
     expect_part "view: a block, built" "block made at heap.c:13 < main" "$(view replay b --explain 0)"
     expect_part "view: a block's fields" ".sum" "$(view replay h --explain 0 --type heap.c:13=tally --words)"
-    # (another program's map may have the report's pages by chance)
-    grep -v "^0x" b.table >pageless.table
-    expect_part "view: another table" "pageless.table isn't the address map of this report and isn't used" "$(view replay h --map pageless.table --explain 0)"
+    # (another program's may have the report's pages by chance)
+    for other in b t u; do
+        expect_part "view: the address map of another trace, $other" "isn't the address map of this report" "$(view replay h --map $other.table --explain 0)"
+    done
+    # (that of a recorder which doesn't say how many accesses its trace has)
+    grep -v "^end " h.table >same.table
+    expect_equal "view: an address map without its end" "" "$(view replay h --map same.table --explain 0 | grep "isn't the address map")"
+    for other in b t; do
+        grep -v "^end " $other.table >other.table
+        sed -n '/^0x/p' h.table >>other.table
+        expect_part "view: an address map of the report's pages, $other" "isn't the address map of this report" "$(view replay h --map other.table --explain 0)"
+    done
     said=$(view replay t --map few)
     expect_equal "view: no table: status" 2 "$?"
     expect_part "view: no table" "few isn't an address map" "$said"
@@ -490,6 +517,7 @@ if /usr/bin/python3 -c 'import elftools, jinja2' 2>/dev/null && command -v llvm-
         expect_equal "view: $number: nothing is left" "" "$(left_over "$work/forever"; ls view-$number)"
     done
     . "$here/tries/names.sh"
+    . "$here/tries/stages.sh"
 else
     skip_checks 1 "view: its packages aren't installed (Debian: python3-pyelftools python3-jinja2 llvm)"
 fi

@@ -1,5 +1,6 @@
-// What C++ without exceptions calls by itself: new and delete, which end the run where there is no memory, and the first use of a
-// variable of a function.
+// What C++ without exceptions calls by itself: new and delete, which end the run where there is no memory, the first use of a variable of
+// a function, and what is destroyed at an end.
+#include <pthread.h>
 #include <stdatomic.h>
 #include <stddef.h>
 #include <stdint.h>
@@ -171,4 +172,76 @@ _Noreturn void __cxa_pure_virtual(void)
 _Noreturn void __cxa_deleted_virtual(void)
 {
     END("a deleted virtual function was called\n");
+}
+
+// ---- what is destroyed where the program ends, or a thread: the last first
+
+struct ending {
+    void (*destroy)(void *object);
+    void *object;
+    struct ending *before;
+};
+
+static _Atomic(struct ending *) of_program;
+static _Thread_local struct ending *of_thread;
+static pthread_key_t of_threads;
+
+int __cxa_atexit(void (*destroy)(void *), void *object, void *unused);
+int __cxa_thread_atexit(void (*destroy)(void *), void *object, void *unused);
+
+static struct ending *ending(void (*destroy)(void *), void *object, struct ending *before)
+{
+    struct ending *made = had(malloc(sizeof *made));
+    *made = (struct ending){destroy, object, before};
+    return made;
+}
+
+static void end_program(void)
+{
+    struct ending *last;
+    while ((last = of_program) != NULL) {
+        of_program = last->before;
+        last->destroy(last->object);
+        free(last);
+    }
+}
+
+int __cxa_atexit(void (*destroy)(void *), void *object, void *unused)
+{
+    struct ending *before = of_program, *made = ending(destroy, object, before);
+    (void)unused;
+    while (!atomic_compare_exchange_weak(&of_program, &before, made))
+        made->before = before;
+    return before == NULL ? atexit(end_program) : 0;
+}
+
+static void end_thread(void *unused)
+{
+    struct ending *last;
+    (void)unused;
+    while ((last = of_thread) != NULL) {
+        of_thread = last->before;
+        last->destroy(last->object);
+        free(last);
+    }
+}
+
+static void end_first_thread(void)
+{
+    end_thread(NULL);
+}
+
+static void make_key(void)
+{
+    pthread_key_create(&of_threads, end_thread);
+    atexit(end_first_thread);
+}
+
+int __cxa_thread_atexit(void (*destroy)(void *), void *object, void *unused)
+{
+    static pthread_once_t once = PTHREAD_ONCE_INIT;
+    (void)unused;
+    pthread_once(&once, make_key);
+    of_thread = ending(destroy, object, of_thread);
+    return pthread_setspecific(of_threads, &of_thread);
 }

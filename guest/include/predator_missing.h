@@ -27,6 +27,5 @@
 #define PREDATOR_NO_REMAP PREDATOR_MISSING(remap, "a mapping can't be made larger or moved: map another one, and copy")
 #define PREDATOR_NO_EXCEPTION PREDATOR_MISSING(exception, "C++ has no exceptions here: build with -fno-exceptions")
 #define PREDATOR_NO_TYPEINFO PREDATOR_MISSING(typeinfo, "C++ has no type information here: build with -fno-rtti")
-#define PREDATOR_NO_DESTRUCTOR PREDATOR_MISSING(destructor, "a thread_local variable has no destructor here: free it where the thread ends")
 
 #endif

@@ -7,6 +7,7 @@
 #include <link.h>
 #include <sys/mman.h>
 #include <sys/stat.h>
+#include <sys/vfs.h>
 
 volatile int calls_of_trace;
 
@@ -34,6 +35,32 @@ void predator_printf(const HChar *format, ...)
     int count = vsnprintf(text, sizeof text, format, list);
     va_end(list);
     CALL(SYS_write, 2, text, count < (int)sizeof text ? count : (int)sizeof text - 1, 0);
+}
+
+ULong bytes_free(Int fd)
+{
+    struct stat about;
+    struct statfs disk;
+    int before = errno;
+    Bool is = fstat(fd, &about) == 0 && S_ISREG(about.st_mode) && fstatfs(fd, &disk) == 0 &&
+              disk.f_blocks > 0;
+    errno = before;
+    return is ? (ULong)disk.f_bavail * disk.f_bsize : NO_DISK;
+}
+
+Bool is_terminal(Int fd)
+{
+    int before = errno;
+    Bool is = isatty(fd);
+    errno = before;
+    return is;
+}
+
+UInt milliseconds(void)
+{
+    struct timespec now;
+    clock_gettime(CLOCK_MONOTONIC, &now);
+    return now.tv_sec * 1000UL + now.tv_nsec / 1000000;
 }
 
 Int predator_safe_fd(Int fd)

@@ -6,7 +6,7 @@
    The environment says what is done: PREDATOR_TRACE is the trace, PREDATOR_TABLE the table back,
    PREDATOR_QUANTUM the length of a turn, PREDATOR_ALL=1 records while one thread lives too,
    PREDATOR_PCS=1 tells each access's instruction, PREDATOR_MOST ends the trace after so many
-   accesses. native/predator-native sets them. */
+   accesses, PREDATOR_MAX_BYTES after so many bytes. native/predator-native sets them. */
 #include "runtime.h"
 
 Hart harts[MOST_PLACES + 1]; /* (the last is nobody's) */
@@ -424,6 +424,7 @@ void __attribute__((constructor)) begin(void)
     ALL(FIND)
     quantum = left = number_of("PREDATOR_QUANTUM", 1, 100000, 100);
     trace_most = number_of("PREDATOR_MOST", 1, 1L << 40, 0);
+    trace_max_bytes = number_of("PREDATOR_MAX_BYTES", 1, 1L << 62, 0);
     records_all = number_of("PREDATOR_ALL", 0, 1, 0);
     trace_pcs = number_of("PREDATOR_PCS", 0, 1, 0);
     first_thread();

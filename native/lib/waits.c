@@ -50,7 +50,7 @@ int create(pthread_t *thread, const pthread_attr_t *attributes, void *(*start)(v
     if (hart == MOST_PLACES)
         return EAGAIN;
     if (hart == MOST_HARTS)
-        trace_stop("more than 256 threads live at a time");
+        trace_stop("threads", "more than 256 threads live at a time");
     if (attributes)
         pthread_attr_getdetachstate(attributes, &state);
     enter();

@@ -4,6 +4,7 @@
 static UChar cpus[128]; /* the processors that the program may use, before it was put on one */
 static Int cpus_size;
 static Int pinned_to = -1, first_policy;
+Bool processor_has_priorities;
 
 static void set_policy(Int policy)
 {
@@ -81,4 +82,7 @@ void processor_after_call(UInt call, const UWord *words, SysRes result)
         *(UInt *)words[0] = first_cpu();
     if (call == __NR_sched_setaffinity)
         pin();
+    if (call == __NR_sched_setscheduler || call == __NR_sched_setparam ||
+        call == __NR_sched_setattr)
+        processor_has_priorities = True;
 }

@@ -137,7 +137,7 @@ static void on_start(ThreadId tid, ULong blocks)
         begin_turn();
     }
     if (tid > MOST_HARTS && trace_records)
-        trace_stop("more than 256 threads live at a time");
+        trace_stop("threads", "more than 256 threads live at a time");
     if (instruments && !trace_is_open()) { /* nothing is written any more: the program goes on as
                                               fast as valgrind can */
         translate_with_notes(False);
@@ -304,6 +304,7 @@ static IRSB *instrument(VgCallbackClosure *closure, IRSB *in, const VexGuestLayo
     Int it = 0;
     for (it = 0; it < in->stmts_used; it++)
         in->stmts[it] = ticks_instead(in->stmts[it]);
+    core_unknown_code(in);
     if (!instruments || is_own(closure->readdr))
         return in;
     it = 0;
@@ -442,15 +443,40 @@ static void on_fork_child(ThreadId tid)
 static void before_call(ThreadId tid, UInt call, UWord *words, UInt count)
 {
     calls_before(tid, call, words);
+    core_before_call(call, words);
     if (call == __NR_exit_group || (call == __NR_exit && live == 1))
         exit_code = words[0] & 0xff;
     /* Where it works, the program is another one, and the tool is gone. */
     if (call == __NR_execve || call == __NR_execveat) {
         write_noted();
         child_becomes(True);
-        if (!child_waits())
+        if (!child_waits()) {
+            trace_becomes(True);
             trace_flush();
+        }
         processor_leave();
+    }
+}
+
+static Int launcher; /* what has started this process */
+
+/* The process ends with its launcher, also where the program has become another user's, or has said
+ * otherwise. */
+static void stay_with_launcher(UInt call)
+{
+    switch (call) {
+    case __NR_prctl:
+    case __NR_setuid:
+    case __NR_setgid:
+    case __NR_setreuid:
+    case __NR_setregid:
+    case __NR_setresuid:
+    case __NR_setresgid:
+    case __NR_setfsuid:
+    case __NR_setfsgid:
+    case __NR_capset:
+        if (VG_(getppid)() == launcher)
+            CALL(__NR_prctl, PR_SET_PDEATHSIG, VKI_SIGKILL, 0, 0);
     }
 }
 
@@ -458,15 +484,22 @@ static void after_call(ThreadId tid, UInt call, UWord *words, UInt count, SysRes
 {
     calls_after(tid, call, words, result);
     ticks_pass(call);
-    if (call == __NR_execve || call == __NR_execveat)
-        child_becomes(False); /* it failed */
+    core_after_call(call, words, result);
+    stay_with_launcher(call);
+    if (call == __NR_execve || call == __NR_execveat) { /* it failed */
+        child_becomes(False);
+        if (!child_waits())
+            trace_becomes(False);
+    }
     processor_after_call(call, words, result);
 }
 
 static Bool on_option(const HChar *word)
 {
     Long number;
-    if (VG_BINT_CLO(word, "--quantum", number, 1, 100000))
+    if (VG_BINT_CLO(word, "--max-bytes", number, 1, 1L << 62))
+        trace_max_bytes = number;
+    else if (VG_BINT_CLO(word, "--quantum", number, 1, 100000))
         quantum = number;
     else if (VG_BINT_CLO(word, "--most", number, 1, 1L << 40))
         trace_most = number;
@@ -488,6 +521,7 @@ static void print_usage(void)
      "    --table=FILE        its address map is written there [FILE.table]\n"
      "    --quantum=N         a thread's turn is N accesses, from 1 to 100000 [100]\n"
      "    --most=N            the trace ends after N accesses\n"
+     "    --max-bytes=N       the trace ends after N bytes\n"
      "    --all=yes|no        accesses are recorded while one thread lives, too [no]\n"
      "    --marked=yes|no     only between PREDATOR_START and PREDATOR_STOP [no]\n"
      "    --pcs=yes|no        each access has its instruction [no]\n"
@@ -504,6 +538,7 @@ static void after_options(void)
     vex->iropt_unroll_thresh = 0;
     /* No load is left out because nothing is made of it. */
     vex->iropt_register_updates_default = VexRegUpdAllregsAtEachInsn;
+    launcher = VG_(getppid)();
     stride = trace_pcs ? 2 : 1;
     numbers = VG_(OSetGen_Create)(0, NULL, VG_(malloc), "predator.numbers", VG_(free));
     buffer = VG_(malloc)("predator.buffer", stride * (room + 2 * SLACK) * sizeof *buffer);

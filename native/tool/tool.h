@@ -44,6 +44,7 @@ typedef struct {
 extern ThreadHead *VG_(get_ThreadState)(ThreadId);
 extern ThreadId VG_(lwpid_to_vgtid)(Int lwp);
 extern Addr VG_(brk_base), VG_(brk_limit);
+extern const HChar *VG_(name_of_launcher);
 enum { STATUS_RUNS = 2, STATUS_IN_CALL = 3, STATUS_YIELDS = 4 };
 
 /* The mapping that an address lies in, if there is one: where it begins and ends, and the path of
@@ -67,7 +68,7 @@ static inline const HChar *mapped_file(Addr addr)
 #define MAPPED_FILE(addr) mapped_file(addr)
 
 /* Numbers of Linux that valgrind's headers don't name. */
-enum { SCHED_BATCH = 3, ETIMEDOUT = 110 };
+enum { SCHED_BATCH = 3, ETIMEDOUT = 110, PR_SET_PDEATHSIG = 1 };
 
 #define CALL(number, a, b, c, d)                                                                   \
     VG_(do_syscall)(number, (UWord)(a), (UWord)(b), (UWord)(c), (UWord)(d), 0, 0, 0, 0)
@@ -102,6 +103,13 @@ void processor_take(void);      /* from now on, if not already */
 void processor_leave(void);     /* the program may use all it had, until a call fails */
 void processor_give_back(void); /* the same for good, in a child that was forked */
 void processor_after_call(UInt call, const UWord *words, SysRes result);
+extern Bool processor_has_priorities; /* a thread may have a real-time priority */
+
+/* core.c: what valgrind itself can't do for the program, or does otherwise. */
+const HChar *program_path(void);
+void core_before_call(UInt call, const UWord *words);
+void core_after_call(UInt call, const UWord *words, SysRes result);
+void core_unknown_code(const IRSB *block); /* says where one ends in code that valgrind doesn't know */
 
 /* ticks.c: the processor's counter of time. */
 IRStmt *ticks_instead(

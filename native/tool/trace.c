@@ -20,10 +20,10 @@
 #define LET_SIGNALS()
 #endif
 #ifndef PROGRAM_PATH
-#define PROGRAM_PATH VG_(args_the_exename)
+#define PROGRAM_PATH program_path()
 #endif
 
-ULong trace_accesses, trace_most;
+ULong trace_accesses, trace_most, trace_max_bytes;
 Bool trace_records, trace_pcs;
 
 /* A file that is written from its front. What stands of the trace is a whole trace after each
@@ -40,6 +40,11 @@ typedef struct {
 } File;
 
 static File trace = {-1}, table = {-1};
+
+/* So much is gathered of the trace before it is written: less than a piece where the trace is to
+   end soon, for a lack of room. */
+#define LEAST_ROOM 8192
+static UInt room = PIECE;
 
 Bool trace_has(Int fd) { return fd >= 0 && (fd == trace.fd || fd == table.fd); }
 
@@ -103,6 +108,28 @@ static void eat(Int number)
     (__NR_rt_sigtimedwait, (UWord)&set, (UWord)&info, (UWord)&none, sizeof set, 0, 0, 0, 0);
 }
 
+#ifndef PREDATOR_RUNTIME /* (which has a C library for these) */
+ULong bytes_free(Int fd)
+{
+    struct {
+        UWord kind, block_size, blocks, blocks_free, blocks_available, rest[11];
+    } disk;
+    struct vki_stat about;
+    if (sr_isError(CALL(__NR_fstat, fd, &about, 0, 0)) || !VKI_S_ISREG(about.st_mode) ||
+        sr_isError(CALL(__NR_fstatfs, fd, &disk, 0, 0)) || disk.blocks == 0)
+        return NO_DISK;
+    return disk.blocks_available * disk.block_size;
+}
+
+Bool is_terminal(Int fd)
+{
+    UChar settings[64];
+    return !sr_isError(CALL(__NR_ioctl, fd, VKI_TCGETS, settings, 0));
+}
+
+UInt milliseconds(void) { return VG_(read_millisecond_timer)(); }
+#endif
+
 /* How many of the bytes were written, and why no more. */
 static UInt all_written(Int fd, const UChar *bytes, UInt count, UWord *error)
 {
@@ -157,6 +184,47 @@ static void file_flush(File *it)
 
 static ULong whole_accesses; /* how many of them stand in the file */
 
+/* What is written takes at most half of what is free on its disk, and no more than was asked for.
+ */
+static void judge_room(void)
+{
+    ULong own = trace.length + table.length + table.count, free = bytes_free(trace.fd),
+          most = free == NO_DISK ? NO_DISK : (own + free) / 2;
+    Bool by_call = trace_max_bytes > 0 && trace_max_bytes <= most;
+    if (by_call)
+        most = trace_max_bytes;
+    if (own + 2 * LEAST_ROOM > most) {
+        HChar why[128];
+        VG_(sprintf)
+        (why, by_call ? "%llu bytes were written, as many as --max-disk allows"
+                      : "%llu bytes were written, half of what was free on their disk",
+         own);
+        trace_stop(by_call ? "max-disk" : "disk", why);
+        return;
+    }
+    room = most - own - LEAST_ROOM < PIECE ? most - own - LEAST_ROOM : PIECE;
+}
+
+/* How far the recording is, on a terminal, from the second second on. */
+static UInt began, shown; /* in milliseconds; `shown` is when it was last */
+
+static void show_progress(void)
+{
+    UInt now = milliseconds();
+    if (!shown || now - began < 1000 || now - shown < 250)
+        return;
+    shown = now;
+    VG_(printf)
+    ("\rrecording: %llu accesses, %llu MB\033[K\r", trace_accesses, trace.length / 1000000);
+}
+
+static void end_progress(void)
+{
+    if (shown > began)
+        VG_(printf)("\r\033[K");
+    shown = 0;
+}
+
 /* Writes what was gathered, and behind it an end with this outcome and value. */
 static void trace_piece(Bool is_last, UInt outcome, UInt value)
 {
@@ -174,8 +242,14 @@ static void trace_piece(Bool is_last, UInt outcome, UInt value)
         trace.length += trace.count;
         trace.count = 0;
         whole_accesses = trace_accesses;
+        if (!is_last) {
+            show_progress();
+            if (trace.seeks)
+                judge_room();
+        }
         return;
     }
+    end_progress();
     VG_(printf)("predator native: %s: %s\n", trace.path, VG_(strerror)(error));
     if (!FILE_IS_KEPT(trace.fd)) { /* nothing was written, and what stands is whole */
         trace_accesses = whole_accesses;
@@ -201,11 +275,13 @@ static void trace_piece(Bool is_last, UInt outcome, UInt value)
     }
     file_drop(&trace);
     trace_records = False;
+    table_text("end %llu %s\n", trace_accesses, "error");
+    file_flush(&table);
 }
 
 void trace_put(const UChar *bytes, UInt count)
 {
-    if (trace.count + count > PIECE)
+    if (trace.count + count > room)
         trace_flush();
     if (trace.fd < 0)
         return;
@@ -267,7 +343,7 @@ Int region_of(Addr addr, Bool places)
         if (!places)
             return -1;
         if (region_count == MOST_REGIONS || place_of_region(region_count) + REGION > code_end) {
-            trace_stop("more than 4080 MiB of addresses were touched");
+            trace_stop("addresses", "more than 4080 MiB of addresses were touched");
             return -1;
         }
         Region *it = &regions[region_count];
@@ -297,7 +373,7 @@ UInt folded(UInt index, Addr addr)
 UInt code_number(void)
 {
     if (code_end - 1 < place_of_region(region_count)) {
-        trace_stop("more than 4080 MiB of addresses were touched");
+        trace_stop("addresses", "more than 4080 MiB of addresses were touched");
         return 0;
     }
     return --code_end;
@@ -324,6 +400,8 @@ Bool trace_begin(const HChar *path, const HChar *table_path)
     }
     if (table_path && !file_open(&table, table_path, False))
         return False;
+    began = milliseconds();
+    shown = is_terminal(2) ? began : 0;
     objects_begin();
     nameless_begin();
     table_text("program %s%s%s\n", own[0] == '/' ? "" : VG_(get_startup_wd)(),
@@ -351,10 +429,13 @@ void trace_flush(void)
     trace_piece(False, OUTCOME_PART, 0);
 }
 
-static void finish(UInt outcome, UInt value)
+/* What the table says last: how many accesses the trace has, and why it ends. */
+static void finish(UInt outcome, UInt value, const HChar *word)
 {
     if (trace.fd < 0)
         return;
+    end_progress();
+    table_text("end %llu %s\n", trace_accesses, word);
     file_flush(&table);
     trace_piece(True, outcome, value);
     trace_records = False;
@@ -365,19 +446,25 @@ static void finish(UInt outcome, UInt value)
 void trace_end(Bool by_exit, Int code)
 {
     if (by_exit)
-        finish(OUTCOME_EXIT, code);
+        finish(OUTCOME_EXIT, code, "exit");
     else
-        finish(OUTCOME_PART, 0);
+        finish(OUTCOME_PART, 0, "signal");
 }
 
-void trace_stop(const HChar *why)
+void trace_becomes(Bool another)
+{
+    table_text("end %llu %s\n", another ? trace_accesses : 0, another ? "exec" : "none");
+}
+
+void trace_stop(const HChar *word, const HChar *why)
 {
     if (trace.fd < 0)
         return;
+    end_progress();
     VG_(printf)
     ("predator native: %s: the trace ends here, after %llu accesses, and the program goes on\n",
      why, trace_accesses);
-    finish(OUTCOME_PART, 0);
+    finish(OUTCOME_PART, 0, word);
 }
 
 void trace_leave(void)
@@ -485,7 +572,7 @@ static __attribute__((noinline)) void put_pieces(UInt hart, Bool writes, Addr ad
         UInt place = place_of(addr);
         if (place == 0 || !trace_records)
             return;
-        if (trace.count + LONGEST_ACCESS > PIECE)
+        if (trace.count + LONGEST_ACCESS > room)
             trace_flush();
         if (trace.fd < 0)
             return;
@@ -494,7 +581,7 @@ static __attribute__((noinline)) void put_pieces(UInt hart, Bool writes, Addr ad
         else
             put_plain(hart, writes, place, piece);
         if (++trace_accesses == trace_most)
-            trace_stop("that many accesses were asked for");
+            trace_stop("most", "that many accesses were asked for");
         addr += piece;
         size -= piece;
     }
@@ -503,7 +590,7 @@ static __attribute__((noinline)) void put_pieces(UInt hart, Bool writes, Addr ad
 void trace_access(UInt hart, Bool writes, Addr addr, UInt size, UInt pc)
 {
     if (hart >= MOST_HARTS) {
-        trace_stop("more than 256 threads live at a time");
+        trace_stop("threads", "more than 256 threads live at a time");
         return;
     }
     if (libraries_came)
@@ -512,7 +599,7 @@ void trace_access(UInt hart, Bool writes, Addr addr, UInt size, UInt pc)
     Bool is_whole = size <= 8 && (size & (size - 1)) == 0 &&
                     (addr & ((size < 4 ? size : 4) - 1)) == 0 && addr % PAGE + size <= PAGE;
     Bool goes_on = trace_records && (trace_most == 0 || trace_accesses + 2 < trace_most) &&
-                   trace.count + 2 * LONGEST_ACCESS <= PIECE;
+                   trace.count + 2 * LONGEST_ACCESS <= room;
     if (is_whole && goes_on && near_pages[near].last == (addr | (PAGE - 1)))
         put_whole(hart, writes, near_pages[near].place + addr % PAGE, size, pc);
     else

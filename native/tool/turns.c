@@ -20,22 +20,39 @@ static ThreadId owner, top; /* who holds the turn, or 0; no place above `top` is
 static Int owner_lwp;
 static Bool held;
 static Int there, wanting;     /* places in use, and those of them that stand in the ring */
-static volatile Int busy, due; /* `due` threads were woken and aren't there yet */
+static volatile Int busy; /* 1 while a thread looks at the places, 2 where another one waits for it */
+static volatile Int due;  /* so many threads were woken and aren't there yet */
 static Int going; /* the thread, by the system's number, that gave the turn away to wait, or 0 */
 static Addr
     leaving; /* the word that the system clears once the last thread that ended is gone, or 0 */
 Call turn_calls[MOST_THREADS + 1];
 static Int waiting; /* threads whose call is CALL_WAITS */
 
-static void yield(void) { CALL(__NR_sched_yield, 0, 0, 0, 0); }
-
-static void enter(void)
+/* Lets the others run. A thread with a real-time priority has to sleep for those below it. */
+static void yield(void)
 {
-    while (__sync_lock_test_and_set(&busy, 1))
-        yield();
+    struct vki_timespec shortest = {0, 1000};
+    if (processor_has_priorities)
+        CALL(__NR_nanosleep, &shortest, 0, 0, 0);
+    else
+        CALL(__NR_sched_yield, 0, 0, 0, 0);
 }
 
-static void leave(void) { __sync_lock_release(&busy); }
+/* (who waits sleeps: a thread with a real-time priority would keep the one that it waits for from
+ * the processor) */
+static void enter(void)
+{
+    if (__sync_bool_compare_and_swap(&busy, 0, 1))
+        return;
+    while (__atomic_exchange_n(&busy, 2, __ATOMIC_ACQUIRE) != 0)
+        CALL(__NR_futex, &busy, VKI_FUTEX_WAIT | VKI_FUTEX_PRIVATE_FLAG, 2, 0);
+}
+
+static void leave(void)
+{
+    if (__atomic_exchange_n(&busy, 0, __ATOMIC_RELEASE) == 2)
+        CALL(__NR_futex, &busy, VKI_FUTEX_WAKE | VKI_FUTEX_PRIVATE_FLAG, 1, 0);
+}
 
 static void set_wants(Place *it, Bool wants)
 {

@@ -23,6 +23,8 @@ ATOMIC, LOAD, STORE, UNKNOWN = KINDS = ("atomic", "load", "store", "unknown")
 CHEAP = 10
 # A function is looked through from its start up to an instruction that lies so far in it; functions so near to each other in one call.
 FAR, NEAR = 1 << 16, 1 << 12
+# No instruction has more bytes. (Of one with a prefix llvm-objdump shows the prefix alone where it is to stop behind that.)
+LONGEST = 16
 ROW = re.compile(r"^ *([0-9a-f]+):\s+([a-z][a-z0-9._]*)\s*(.*)$")
 FORMAT = re.compile(r"file format (\S+)")
 RISCV = 243
@@ -194,7 +196,7 @@ def of_file(file: str, names: str, addresses: Iterable[int]) -> dict[int, Does]:
             "--no-show-raw-insn",
             *more,
             f"--start-address={begin:#x}",
-            f"--stop-address={end:#x}",
+            f"--stop-address={end + LONGEST:#x}",
             file,
         ]
         text = subprocess.run(

@@ -106,21 +106,24 @@ def key_of(thing: Found, naming: Naming, addr: int) -> Key:
     return naming.memory.key(addr)
 
 
-def holders(things: Sequence[Symbol | Block], addr: int) -> list[tuple[Symbol | Block, float]]:
-    """The objects that a word lies in, each with its share of it: blocks before symbols, short and long-lived ones first."""
+def holders(
+    things: Sequence[Symbol | Block], addr: int, accesses: int = 0
+) -> list[tuple[Symbol | Block, float]]:
+    """The objects that a word lies in, each with its share of it: blocks before symbols, short and long-lived ones first. A trace has so
+    many accesses, up to whose end a block lives on."""
     found = [it for it in things if it.addr < addr + 4 and addr < it.addr + it.size]
     blocks = [it for it in found if isinstance(it, Block)]
     if not blocks:
         return [(it, 1 / len(found)) for it in found]
     # (one that lives on does so beyond all that is told of the others)
-    end = max(max(it.born, it.died or 0) for it in blocks) + 1
+    end = max(accesses, *(max(it.born, it.died or 0) + 1 for it in blocks))
     shares = [max((end if it.died is None else it.died) - it.born, 1) / it.size for it in blocks]
     return [(it, share / sum(shares)) for it, share in zip(blocks, shares)]
 
 
-def holder(things: Sequence[Symbol | Block], addr: int) -> Found:
+def holder(things: Sequence[Symbol | Block], addr: int, accesses: int = 0) -> Found:
     """The object that a word is told under, or none."""
-    found = holders(things, addr) if things else []
+    found = holders(things, addr, accesses) if things else []
     return max(found, key=lambda share: share[1])[0] if found else None
 
 
@@ -143,7 +146,7 @@ def shares_of(
             if len(blocks) != 1:
                 own = [
                     (keys[things.index(thing)], thing, share)
-                    for thing, share in holders(things, addr)
+                    for thing, share in holders(things, addr, naming.accesses)
                 ]
             met = blocks
         if own is None:
@@ -300,7 +303,7 @@ def words_of(spot: Spot, naming: Naming, by_word: Misses | None = None) -> list[
     things = spot.rows()
     found: list[Told] = []
     for word in told.words():
-        thing = holder(things, word.addr)
+        thing = holder(things, word.addr, naming.accesses)
         name, element, field = naming.word(word.addr, thing)
         useful = None
         if by_word is not None:

@@ -143,6 +143,8 @@ class Naming:
             sources,
             memory or Memory(),
         )
+        # How many accesses the trace has: up to there lives a block that isn't freed.
+        self.accesses = report.accesses if report else 0
         self.names = Names()
         self.keys: dict[tuple[Site, ...], tuple[str, ...]] = {}
         self.types = [it.partition("=")[::2] for it in types]

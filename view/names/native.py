@@ -18,7 +18,8 @@ from view.names.cpp import Landmarks, Marks
 from view.names.demangling import demangled
 from view.names.naming import Memory
 from view.names.rust import Near, Panics
-from view.reading.reports import Report
+from view.reading.reports import Block, Report, Symbol, bytes_of
+from view.reading.reports import Site as CallSite
 from view.names.source_lines import NEAR, Place, Sources, places
 
 from elftools.elf.elffile import ELFFile
@@ -42,6 +43,11 @@ class Site(NamedTuple):
     line: str
 
 
+def spelled(name: str) -> str:
+    """A name of a report without the version of its library."""
+    return bytes_of(name).decode("utf-8", "surrogateescape").partition("@")[0]
+
+
 def known(word: str) -> str:
     return "" if word == "-" else word
 
@@ -60,6 +66,8 @@ class Back:
         self.mapped: list[tuple[int, int, str]] = []
         self.sites: dict[int, list[Site]] = {}
         self.frames: dict[int, list[Site]] = {}
+        # How many accesses the trace has, and why it ends; none where the recorder was killed.
+        self.end: tuple[int, str] | None = None
         try:
             with open(path, encoding="utf-8", errors="surrogateescape") as file:
                 for row in file:
@@ -93,6 +101,9 @@ class Back:
         elif kind == "frame":
             addr, line, function = FRAME.fullmatch(rest).groups()  # type: ignore[union-attr]
             self.frames.setdefault(int(addr, 16), []).append(Site(known(function), known(line)))
+        elif kind == "end":
+            count, word = rest.split(" ")
+            self.end = None if word == "none" else (int(count), word)
         elif kind:
             self.pages[int(kind, 16)] = int(rest, 16)
 
@@ -111,6 +122,8 @@ class File:
         self.found: dict[int, NativeVariable | None] = {}
         self.ranges: list[tuple[int, int]] = []
         self.names: dict[int, str] = {}
+        # Where the file has data of a name, each place with its size.
+        self.extents: dict[str, list[tuple[int, int]]] = {}
         self.is_stripped = False
         with contextlib.suppress(Exception), open(path, "rb") as file:
             elf = ELFFile(file)
@@ -133,7 +146,9 @@ class File:
                 for symbol in table.iter_symbols()
                 if symbol["st_info"]["type"] == "STT_OBJECT"
             ):
-                self.names.setdefault(symbol["st_value"], symbol.name.partition("@")[0])
+                name = symbol.name.partition("@")[0]
+                self.names.setdefault(symbol["st_value"], name)
+                self.extents.setdefault(name, []).append((symbol["st_value"], symbol["st_size"]))
 
     def debug_of(self, elf: ELFFile) -> str:
         note = elf.get_section_by_name(".note.gnu.build-id")
@@ -319,13 +334,48 @@ class NativeProgram:
         )
 
     def stranger(self, report: Report) -> str | None:
-        """What of a report isn't in the table, or none."""
+        """What of a report isn't in the address map, or none."""
+        if self.back.end:
+            count, is_whole = self.back.end[0], report.outcome.startswith("exit")
+            # (a trace that was cut has fewer)
+            if count < report.accesses or is_whole and count != report.accesses:
+                return f"it is of a trace of {count:,} accesses, and the report counts {report.accesses:,}"
         for line in report.lines[:1000]:
             if line.kind == "observed" and all(
                 self.back.was(addr) is None
                 for addr in range(max(line.base, 0), line.base + line.size, 4)
             ):
                 return f"it has no page of {line.base:#010x}"
+            found = next(filter(None, map(self.strange_object, line.objects())), None)
+            if found:
+                return found
+        return None
+
+    def strange_object(self, thing: Symbol | Block) -> str | None:
+        """What of a symbol or a block of a report isn't in the address map, or none."""
+        if isinstance(thing, Block):
+            return next(filter(None, map(self.strange_site, thing.sites)), None)
+        name, found = spelled(thing.name), self.file(thing.addr)
+        if found is None:
+            # (a file that is gone has no ranges, and a page that nothing touched isn't in the map)
+            is_there = all(it.ranges for it in self.files)
+            has_page = self.back.was(thing.addr) is not None
+            return f"it has no file with {thing.name}" if is_there and has_page else None
+        own, at = found
+        # (a symbol may be longer than a region of the trace, and begin in one before)
+        lies = any(low <= at < low + max(size, 1) for low, size in own.extents.get(name, ()))
+        if lies or not own.extents:
+            return None
+        return f"{own.path} has no symbol {thing.name} at {at:#x}"
+
+    def strange_site(self, site: CallSite) -> str | None:
+        """What of a call site isn't in the address map, or none."""
+        own = self.back.sites.get(site.addr)
+        if not own:
+            return f"it has no call site {site.addr:#010x}"
+        name = known(spelled(site.name))
+        if name and own[0].function and name != own[0].function.partition("@")[0]:
+            return f"its call site {site.addr:#010x} is in {own[0].function}, and not in {name}"
         return None
 
 

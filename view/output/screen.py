@@ -116,16 +116,22 @@ def totals(view: View) -> str:
 
 def outcome(view: View, paint: Paint, width: int) -> Iterator[str]:
     """The first lines: how the run ended, loudly where that isn't exit 0, and all its misses."""
+    is_part = view.report.outcome == "part"
     if not view.report.ended_well():
+        ended = (
+            "THE RECORDING IS INCOMPLETE"
+            if is_part
+            else f"THE RUN DID NOT END WITH EXIT 0: {outcome_of(view)}"
+        )
         yield from (
             paint(RED, row)
-            for text in (f"THE RUN DID NOT END WITH EXIT 0: {outcome_of(view)}", next_step(view))
+            for text in (ended, next_step(view))
             for row in fold(f"!! {text}", "", "   ", width)
         )
     yield from fold(summary(view), "", "  ", width)
     if view.misses:
         yield from fold(totals(view), "", "  ", width)
-        if view.is_clean():
+        if view.is_clean() and not is_part:
             yield from fold(
                 f"no change is worth it: fewer than one in {RARE:,} accesses is a sharing miss",
                 "",
@@ -159,9 +165,34 @@ def next_step(view: View) -> str:
     advice = {
         "budget": "the run used up its budget of instructions: raise the setting `budget`",
         "deadlock": "no thread could run any more",
-        "part": "a signal ended the program, or the trace was cut",
+        "part": end_of_recording(view),
     }
     return advice.get(outcome, "the report covers the run up to that point")
+
+
+# Why a recording ended before its program did, by the words of its address map, and what to do.
+ENDS_OF_RECORDING = {
+    "signal": "a signal ended the program",
+    "exec": "the program became another one (`exec`), which is not recorded: name that one in its place",
+    "most": "recording stopped after as many accesses as `--most` allows, and the program went on",
+    "max-disk": "recording stopped at `--max-disk` bytes of trace (2G where the call has none), and the program went on: raise `--max-disk`, "
+    "or record less with `--most` or `--marked`",
+    "disk": "recording stopped when its trace had half of what was free on the disk, and the program went on: set TMPDIR to a disk with "
+    "more room, or record less with `--most` or `--marked`",
+    "threads": "recording stopped at more than 256 threads at a time, and the program went on: run it with fewer threads",
+    "addresses": "recording stopped at 4,080 MiB of touched addresses, and the program went on: run it on a smaller input",
+    "error": "the trace could not be written further, and the program went on",
+}
+
+
+def end_of_recording(view: View) -> str:
+    """Why a trace ends before its program did, and what to do."""
+    from view.names.fields import Program
+
+    program = view.naming.program
+    end = None if program is None or isinstance(program, Program) else program.back.end
+    usual = "the program was killed, or the trace was cut"
+    return ENDS_OF_RECORDING.get(end[1], usual) if end else usual
 
 
 def type_and_place(view: View, thing: Thing, seen: Seen) -> str:

@@ -89,7 +89,7 @@ LISTS = ("type", "shape")
 ALONE = {"sweep": ("html", "top"), "caches": ("html", "shape", "top")}
 # Options of `predator native` that have no value, and those that have one.
 MARKS = ("all", "marked", "child", "built", "pcs", "no-pcs")
-RECORDS = ("--quantum", "--most")
+RECORDS = ("--quantum", "--most", "--max-disk", "--trace")
 # Options of a replay that goes on from another one, which a trace of a program of this machine doesn't.
 STATES = ("--save", "--resume")
 # What view writes.

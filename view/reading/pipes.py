@@ -10,6 +10,7 @@ from typing import BinaryIO, Iterator
 
 from view.reading.calls import Call
 from view.faults import Fault
+from view.reading import guard
 from view.reading.engine import PIECE
 from view.reading.settings import ASKED
 
@@ -46,7 +47,7 @@ def feed(source: BinaryIO, give: int) -> None:
 @contextlib.contextmanager
 def whole(path: str) -> Iterator[str]:
     """A copy of what can be read once, in a file that is gone afterwards."""
-    with tempfile.TemporaryDirectory(prefix="predator-view-") as folder:
+    with tempfile.TemporaryDirectory(prefix=guard.folder_prefix()) as folder:
         own = os.path.join(folder, "whole")
         with fed(path) as take, open(os.dup(take), "rb") as source, open(own, "wb") as file:
             shutil.copyfileobj(source, file, PIECE)
@@ -60,7 +61,7 @@ def is_pipe(path: str) -> bool:
 @contextlib.contextmanager
 def kept(call: Call) -> Iterator[None]:
     """Has the words of a call name copies of the settings and the schedule where these are pipes."""
-    with tempfile.TemporaryDirectory(prefix="predator-view-") as folder:
+    with tempfile.TemporaryDirectory(prefix=guard.folder_prefix()) as folder:
         for at, word in enumerate(call.words):
             name, has_value, value = word.partition("=")
             before = call.words[at - 1] if at else ""

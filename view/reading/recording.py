@@ -12,10 +12,13 @@ from typing import Iterator, Sequence
 
 from view.reading.calls import EXPLAIN, RECORDS, Call
 from view.faults import Fault
+from view.reading import guard
 from view.reading.engine import Predator, launcher
 
 # What the recorder ends with where it refuses words, files or programs.
 REFUSED = (125, 126, 127)
+# How much of a disk a trace takes that is kept for the call alone.
+MAX_DISK = "2G"
 # Signals that end a program: the first two are handed on to it, and the others come to it from the terminal.
 HANDED_ON, FROM_TERMINAL = (signal.SIGTERM, signal.SIGHUP), (signal.SIGINT, signal.SIGQUIT)
 
@@ -61,7 +64,7 @@ def traced(call: Call) -> Iterator[None]:
     if call.how != "run" or call.value_of("--trace") is not None or not Predator().has("move"):
         yield
         return
-    with tempfile.TemporaryDirectory(prefix="predator-view-") as folder:
+    with tempfile.TemporaryDirectory(prefix=guard.folder_prefix()) as folder:
         call.spare = os.path.join(folder, "trace")
         yield
 
@@ -96,6 +99,45 @@ def status_of(words: Sequence[str]) -> int:
             signal.signal(number, old)
 
 
+def value_in(words: Sequence[str], option: str) -> str | None:
+    """The value that words give for an option, or none."""
+    for at, word in enumerate(words):
+        name, has_value, value = word.partition("=")
+        if name == option:
+            return value if has_value else words[at + 1]
+    return None
+
+
+def stamp(path: str) -> tuple[int, int]:
+    """A file's size and the time of its last change; zeroes where it isn't there."""
+    with contextlib.suppress(OSError):
+        about = os.stat(path)
+        return about.st_size, about.st_mtime_ns
+    return 0, 0
+
+
+def check_trace(trace: str, old: tuple[int, int], status: int) -> None:
+    """Refuses to go on where nothing was recorded, and gives a trace an end that was cut by a kill."""
+    if stamp(trace) == old or stamp(trace)[0] == 0:
+        if status in REFUSED or 0 < status < 128:
+            raise Fault(
+                f"`predator native` failed with status {status}",
+                status if status in REFUSED[2:] else 2,
+            )
+        number = -status if status < 0 else status - 128
+        name = signal.Signals(number).name if number in set(signal.Signals) else "no signal"
+        raise Fault(
+            f"the recorder ended before it recorded anything: {name}", 128 + number if number else 2
+        )
+    if status in (-signal.SIGKILL, 128 + signal.SIGKILL) and os.path.isfile(trace):
+        subprocess.run(
+            [launcher(), "native", "--mend", trace],
+            stdin=subprocess.DEVNULL,
+            stdout=subprocess.DEVNULL,
+            stderr=subprocess.DEVNULL,
+        )
+
+
 @contextlib.contextmanager
 def recorded(call: Call) -> Iterator[None]:
     """Records the program of a call, where it is one of this machine, and has the call name its trace as long as that is there. What the
@@ -103,29 +145,23 @@ def recorded(call: Call) -> Iterator[None]:
     if call.how != "native":
         yield
         return
-    with tempfile.TemporaryDirectory(prefix="predator-view-") as folder:
-        trace, program = os.path.join(folder, "trace"), call.subject
+    guard.remove_abandoned()
+    guard.divide()
+    with guard.own_folder() as folder:
+        program = call.subject
         recorder, replay = parted(call.words, program)
+        trace = value_in(recorder, "--trace") or os.path.join(folder, "trace")
         # (as a shell has it, a name with a slash is a file, and another one is looked for)
         name = (
             program if "/" in program or not os.path.isfile(program) else os.path.join(".", program)
         )
-        words = [
-            launcher(),
-            "native",
-            *marks_of(call),
-            *recorder,
-            "--trace",
-            trace,
-            "--",
-            name,
-            *call.own[1:],
-        ]
-        status = status_of(words)
-        if not os.path.exists(trace):
-            raise Fault(
-                f"`predator native` failed with status {status}",
-                status if status in REFUSED[2:] else 2,
-            )
+        words = [launcher(), "native", *marks_of(call)]
+        if value_in(recorder, "--trace") is None:
+            words += ["--trace", trace]
+            if value_in(recorder, "--max-disk") is None:
+                words += ["--max-disk", MAX_DISK]
+        old = stamp(trace)
+        status = status_of([*words, *recorder, "--", name, *call.own[1:]])
+        check_trace(trace, old, status)
         call.how, call.subject, call.words, call.own = "replay", trace, [trace, *replay], []
         yield

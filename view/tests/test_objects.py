@@ -639,6 +639,11 @@ class Objects(unittest.TestCase):
         self.assertEqual(holder([Symbol("heap", 0x1000, 4096), short, node], 0x1010), node)
         self.assertIsNone(holder([node], 0x2000))
 
+    def test_of_blocks_at_one_place_the_one_that_lives_longest_has_the_word(self):
+        dead, alive = Block(0x1000, 1000, 0, 1000, ()), Block(0x1000, 1000, 1000, None, ())
+        self.assertEqual(holder([dead, alive], 0x1040, 160000), alive)
+        self.assertEqual(holder([dead, alive], 0x1040, 1500), dead)
+
     def test_stacks_have_names(self):
         memory = Memory((0xF90000, 0x1010000), 8)
         self.assertEqual(

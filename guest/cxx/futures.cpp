@@ -1,0 +1,106 @@
+// The shared state of futures, and futures without a value.
+#include <future>
+
+#include "ends.h"
+
+_LIBCPP_BEGIN_NAMESPACE_STD
+
+void __assoc_sub_state::__on_zero_shared() noexcept { delete this; }
+
+static void need_unset(bool has_value)
+{
+    if (has_value)
+        __throw_future_error(future_errc::promise_already_satisfied);
+}
+
+void __assoc_sub_state::__make_ready()
+{
+    unique_lock<mutex> guard(__mut_);
+    __state_ |= ready;
+    __cv_.notify_all();
+}
+void __assoc_sub_state::set_value()
+{
+    unique_lock<mutex> guard(__mut_);
+    need_unset(__has_value());
+    __state_ |= __constructed | ready;
+    __cv_.notify_all();
+}
+void __assoc_sub_state::set_value_at_thread_exit()
+{
+    unique_lock<mutex> guard(__mut_);
+    need_unset(__has_value());
+    __state_ |= __constructed;
+    __thread_local_data()->__make_ready_at_thread_exit(this);
+}
+void __assoc_sub_state::set_exception(exception_ptr) { predator_ends("promise::set_exception: there are no exceptions"); }
+void __assoc_sub_state::set_exception_at_thread_exit(exception_ptr error) { set_exception(error); }
+void __assoc_sub_state::copy()
+{
+    unique_lock<mutex> guard(__mut_);
+    __sub_wait(guard);
+}
+void __assoc_sub_state::wait() { copy(); }
+void __assoc_sub_state::__sub_wait(unique_lock<mutex> &guard)
+{
+    if (__is_ready())
+        return;
+    if (__state_ & deferred) {
+        __state_ &= ~static_cast<unsigned>(deferred);
+        guard.unlock();
+        __execute();
+        return;
+    }
+    while (!__is_ready())
+        __cv_.wait(guard);
+}
+void __assoc_sub_state::__execute() { __throw_future_error(future_errc::no_state); }
+
+future<void>::future(__assoc_sub_state *state) : __state_(state) { __state_->__attach_future(); }
+future<void>::~future()
+{
+    if (__state_)
+        __state_->__release_shared();
+}
+void future<void>::get()
+{
+    __assoc_sub_state *state = __state_;
+    __state_ = nullptr;
+    state->copy();
+    state->__release_shared();
+}
+
+promise<void>::promise() : __state_(new __assoc_sub_state) {}
+promise<void>::~promise()
+{
+    if (!__state_)
+        return;
+    if (!__state_->__has_value() && __state_->use_count() > 1)
+        predator_ends("broken promise: it ended without a value while a future waits for it");
+    __state_->__release_shared();
+}
+static __assoc_sub_state &state_of(__assoc_sub_state *state)
+{
+    if (state == nullptr)
+        __throw_future_error(future_errc::no_state);
+    return *state;
+}
+future<void> promise<void>::get_future() { return future<void>(&state_of(__state_)); }
+void promise<void>::set_value() { state_of(__state_).set_value(); }
+void promise<void>::set_exception(exception_ptr error) { state_of(__state_).set_exception(error); }
+void promise<void>::set_value_at_thread_exit() { state_of(__state_).set_value_at_thread_exit(); }
+void promise<void>::set_exception_at_thread_exit(exception_ptr error) { set_exception(error); }
+
+shared_future<void>::~shared_future()
+{
+    if (__state_)
+        __state_->__release_shared();
+}
+shared_future<void> &shared_future<void>::operator=(const shared_future &other)
+{
+    shared_future copy(other);
+    swap(copy);
+    return *this;
+}
+
+_LIBCPP_END_NAMESPACE_STD
