@@ -109,7 +109,8 @@ extern Bool processor_has_priorities; /* a thread may have a real-time priority 
 const HChar *program_path(void);
 void core_before_call(UInt call, const UWord *words);
 void core_after_call(UInt call, const UWord *words, SysRes result);
-void core_unknown_code(const IRSB *block); /* says where one ends in code that valgrind doesn't know */
+void core_unknown_code(
+    const IRSB *block); /* says where one ends in code that valgrind doesn't know */
 
 /* ticks.c: the processor's counter of time. */
 IRStmt *ticks_instead(

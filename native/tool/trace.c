@@ -196,8 +196,9 @@ static void judge_room(void)
     if (own + 2 * LEAST_ROOM > most) {
         HChar why[128];
         VG_(sprintf)
-        (why, by_call ? "%llu bytes were written, as many as --max-disk allows"
-                      : "%llu bytes were written, half of what was free on their disk",
+        (why,
+         by_call ? "%llu bytes were written, as many as --max-disk allows"
+                 : "%llu bytes were written, half of what was free on their disk",
          own);
         trace_stop(by_call ? "max-disk" : "disk", why);
         return;

@@ -21,9 +21,8 @@ void trace_thread(UInt hart, Addr stack, Addr own); /* a thread has begun, with 
 void trace_stack(UInt hart, Addr from, Addr to);    /* where a stack lies */
 void trace_flush(void);
 void trace_end(Bool by_exit, Int code);
-void trace_stop(const HChar *word,
-                const HChar *why); /* the trace ends here; the program goes on */
-void trace_becomes(Bool another);  /* the program is about to become another one, or did not */
+void trace_stop(const HChar *word, const HChar *why); /* the trace ends here; the program goes on */
+void trace_becomes(Bool another); /* the program is about to become another one, or did not */
 void trace_leave(void);   /* in a child that was forked: nothing is written there any more */
 void trace_library(void); /* a file was mapped that has symbols */
 void trace_resume(void);  /* recording goes on */
@@ -31,8 +30,8 @@ void trace_block(ThreadId tid, Addr addr, SizeT size);
 void trace_free(ThreadId tid, Addr addr);
 void trace_revive(ThreadId tid, Addr addr); /* the last block that this thread freed lives on */
 extern Bool trace_records;                  /* accesses are recorded now */
-extern Bool trace_pcs;   /* each with its instruction; said before the trace begins */
-extern ULong trace_most; /* the trace ends after so many, or 0 */
+extern Bool trace_pcs;        /* each with its instruction; said before the trace begins */
+extern ULong trace_most;      /* the trace ends after so many, or 0 */
 extern ULong trace_max_bytes; /* its file and the table's take no more than so much, or 0 */
 
 /* How much is free on the disk of a file, or NO_DISK where it is on none. */

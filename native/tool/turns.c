@@ -19,9 +19,10 @@ static Place places[MOST_THREADS + 1];
 static ThreadId owner, top; /* who holds the turn, or 0; no place above `top` is in use */
 static Int owner_lwp;
 static Bool held;
-static Int there, wanting;     /* places in use, and those of them that stand in the ring */
-static volatile Int busy; /* 1 while a thread looks at the places, 2 where another one waits for it */
-static volatile Int due;  /* so many threads were woken and aren't there yet */
+static Int there, wanting; /* places in use, and those of them that stand in the ring */
+static volatile Int
+    busy; /* 1 while a thread looks at the places, 2 where another one waits for it */
+static volatile Int due; /* so many threads were woken and aren't there yet */
 static Int going; /* the thread, by the system's number, that gave the turn away to wait, or 0 */
 static Addr
     leaving; /* the word that the system clears once the last thread that ended is gone, or 0 */
