@@ -21,7 +21,7 @@ from typing import Iterable, Iterator, NamedTuple
 TOP = os.path.join(os.path.dirname(os.path.abspath(__file__)), "..")
 sys.path.insert(0, os.path.join(TOP, "tools"))
 
-from traces import groups  # noqa: E402
+from traces import encode_distance  # noqa: E402
 
 BUILT = os.path.join(TOP, "crates/predator/out/predator")
 BENCHES = os.path.join(TOP, "crates/benches/out/benches")
@@ -69,7 +69,7 @@ def paired() -> Iterator[Touch]:
 
 def write(path: str, touches: Iterable[Touch]) -> str:
     """The touches as a trace of version 3, in a file."""
-    spelled = functools.lru_cache(1 << 16)(groups)
+    spelled = functools.lru_cache(1 << 16)(encode_distance)
     addr, pcs, count, piece = 0, [0] * HARTS, 0, bytearray()
     with open(path, "wb") as out:
         out.write(struct.pack("<8sQHH", b"PRDTRC03", 0, HARTS, 0))

@@ -15,8 +15,8 @@ import tempfile
 TOP = os.path.join(os.path.dirname(os.path.abspath(__file__)), "..")
 sys.path.insert(0, os.path.join(TOP, "tools"))
 
-from commands import call as call_of, known  # noqa: E402
-from traces import with_pcs  # noqa: E402
+from commands import example_call as call_of, read_commands  # noqa: E402
+from traces import add_pcs  # noqa: E402
 
 PROGRAM = os.path.abspath(
     os.environ.get("PREDATOR_PROGRAM") or os.path.join(TOP, "crates/predator/out/predator")
@@ -104,7 +104,11 @@ OWN_NAMES = {words[0] for words in OWN}
 CALLS = (
     OWN
     + REFUSED
-    + [tuple(call_of(it, **NAMES)) for it in known()["command"] if it["name"] not in OWN_NAMES]
+    + [
+        tuple(call_of(it, **NAMES))
+        for it in read_commands()["command"]
+        if it["name"] not in OWN_NAMES
+    ]
 )
 WRITTEN = ("t", "o", "f", "a", "b")
 
@@ -193,7 +197,7 @@ def main():
             # (so many instructions that lines of many pairs are there)
             trace = given.read()
             out.write(
-                with_pcs(
+                add_pcs(
                     trace, lambda access, before: 0x10000 + 4 * (access.hart + access.addr // 4 % 8)
                 )
             )

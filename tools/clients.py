@@ -51,7 +51,7 @@ def dns(key, value):
     yield len(asked).to_bytes(2, "big") + asked, len(told).to_bytes(2, "big") + told
 
 
-def connected(port, until):
+def connect(port, until):
     while True:
         try:
             return socket.create_connection(("127.0.0.1", port), timeout=600)
@@ -61,7 +61,7 @@ def connected(port, until):
             time.sleep(0.1)
 
 
-def answer(client, count):
+def receive(client, count):
     """So many bytes."""
     found = b""
     while len(found) < count:
@@ -72,29 +72,29 @@ def answer(client, count):
     return found
 
 
-def check(client, wanted):
-    if answer(client, len(wanted)) != wanted:
+def check_answer(client, wanted):
+    if receive(client, len(wanted)) != wanted:
         sys.exit("a wrong answer")
 
 
-def apart(client, own):
+def exchange_each(client, own):
     for asked, wanted in own:
         client.sendall(asked)
-        check(client, wanted)
+        check_answer(client, wanted)
 
 
-def again(port, until, own):
+def exchange_anew(port, until, own):
     for exchange in own:
-        with connected(port, until) as client:
-            apart(client, [exchange])
+        with connect(port, until) as client:
+            exchange_each(client, [exchange])
 
 
-def in_step(clients, asked):
+def exchange_in_step(clients, asked):
     for step in zip(*asked):
         for client, (text, _) in zip(clients, step):
             client.sendall(text)
         for client, (_, wanted) in zip(clients, step):
-            check(client, wanted)
+            check_answer(client, wanted)
 
 
 def main(words, options):
@@ -113,13 +113,13 @@ def main(words, options):
     ]
     with ThreadPoolExecutor(count) as pool:
         if "--again" in options:
-            list(pool.map(again, [port] * count, [until] * count, asked))
+            list(pool.map(exchange_anew, [port] * count, [until] * count, asked))
             return
-        clients = [connected(port, until) for _ in range(count)]
+        clients = [connect(port, until) for _ in range(count)]
         if "--in-step" in options:
-            in_step(clients, asked)
+            exchange_in_step(clients, asked)
         else:
-            list(pool.map(apart, clients, asked))
+            list(pool.map(exchange_each, clients, asked))
 
 
 KINDS = {"memcached": memcached, "redis": redis, "http": http, "dns": dns}

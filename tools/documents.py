@@ -29,7 +29,7 @@ def read(path):
         return file.read()
 
 
-def documents():
+def find_documents():
     for folder, folders, files in os.walk(TOP):
         folders[:] = [
             name
@@ -83,7 +83,7 @@ def has_path(path):
     return any(os.path.exists(full + it) for it in ("", ".rt", ".antt"))
 
 
-def words_of_sources():
+def source_words():
     """Every word of the files that aren't documents."""
     found = set()
     for folder, folders, files in os.walk(TOP):
@@ -117,14 +117,14 @@ def words_of_sources():
     return found
 
 
-def headings(text):
+def heading_anchors(text):
     return {
         re.sub(r"[^\w\- ]", "", heading.lower()).replace(" ", "-")
         for heading in re.findall(r"^#+ (.*)$", text, re.MULTILINE)
     }
 
 
-def links(name, line):
+def broken_links(name, line):
     for to in re.findall(r"\]\(([^)\s]+)\)", line):
         if "://" in to:
             continue
@@ -132,18 +132,18 @@ def links(name, line):
         full = os.path.normpath(os.path.join(os.path.dirname(name), path)) if path else name
         if not os.path.exists(os.path.join(TOP, full)):
             yield to
-        elif heading and heading not in headings(read(full)):
+        elif heading and heading not in heading_anchors(read(full)):
             yield to
 
 
-def relative(line, about):
+def broken_paths(line, about):
     """Paths of a line that none of some crates has."""
     found = re.findall(r"(?<![\w/.])((?:src|specs|proofs)/[A-Za-z_][\w/]*(?:\.rt|\.antt)?)", line)
     found += [f"src/{it}" for it in re.findall(r"(?<![\w/.])([a-z_]+\.rt)\b", line)]
     return [it for it in found if about and not any(has_path(f"{crate}/{it}") for crate in about)]
 
 
-def quoted(text, crates):
+def unknown_quotes(text, crates):
     """The lines at which the quotes of a document begin that no source has, whatever its spaces and comments."""
     sources = [
         " ".join(re.sub(r"(?m)^\s*//.*$", "", crate.texts["src"]).split())
@@ -160,7 +160,7 @@ def quoted(text, crates):
             quote = []
 
 
-def floors():
+def crate_layers():
     """How many crates the longest chain has that ends with a crate, by crates.txt."""
     below = {
         row.split(":")[0].split()[0]: row.split(":")[1].split()
@@ -174,15 +174,19 @@ def floors():
     return {it: floor(it) for it in below}
 
 
-def wrong_floors(text):
+def wrong_layers(text):
     told = {
         name: int(floor)
         for floor, name in re.findall(r"^\| (\d) \| `(\w+)` \|", text, re.MULTILINE)
     }
-    return [f"{name}: floor {floor}" for name, floor in floors().items() if told.get(name) != floor]
+    return [
+        f"{name}: floor {floor}"
+        for name, floor in crate_layers().items()
+        if told.get(name) != floor
+    ]
 
 
-def of_promises(line, crates, before):
+def check_promise(line, crates, before):
     """What a row of docs/PROMISES.md names in vain, and the crates that it is about."""
     cells = [it.strip() for it in line.strip().strip("|").split(" | ")]
     if len(cells) < 3 or cells[0] == "Promise":
@@ -196,7 +200,7 @@ def of_promises(line, crates, before):
     return wrong, about
 
 
-def words_twice(page):
+def repeated_words(page):
     """The words of the glossary that stand there more than once, each in bold type in the first cell of a row."""
     rows = re.findall(
         r"(?m)^\| (\*\*.*?) \|", page.split("\n## Words\n", 1)[1].split("\n## ", 1)[0]
@@ -205,7 +209,7 @@ def words_twice(page):
     return sorted({it for it in words if words.count(it) > 1})
 
 
-def wrong_names(name, crates, everywhere):
+def find_wrong_names(name, crates, everywhere):
     """The lines of a document, each with what it names in vain."""
     about, heading, paragraph, columns = [], [], [], ""
     for number, line in enumerate(read(name).split("\n"), 1):
@@ -213,7 +217,7 @@ def wrong_names(name, crates, everywhere):
         named = [it for it in crates if re.search(rf"(?<![\w]){it}(?![\w])", line)]
         heading = named if line.startswith("#") else heading
         paragraph = named if line.startswith(("|", "- ")) or not line.strip() else paragraph + named
-        found = [*links(name, line), *relative(line, paragraph or heading)]
+        found = [*broken_links(name, line), *broken_paths(line, paragraph or heading)]
         paths = re.findall(
             r"(?<![\w/.])(?:crates/)?([a-z_0-9]+/(?:src|specs|proofs|must-fail|data)\b(?:/[\w./]*\w)?)",
             line,
@@ -237,7 +241,7 @@ def wrong_names(name, crates, everywhere):
             if word not in everywhere and not word.endswith("_") and "STUDIES" not in name
         ]
         if name == "docs/PROMISES.md" and columns.startswith("| Promise |"):
-            more, about = of_promises(line, crates, about)
+            more, about = check_promise(line, crates, about)
             found += more
         yield number, dict.fromkeys(found)
 
@@ -252,20 +256,22 @@ def main(words):
         if re.match(r"[a-z]", row)
     ]
     crates = {it: Crate(it) for it in listed}
-    everywhere, wrong = words_of_sources(), []
+    everywhere, wrong = source_words(), []
     page = read("docs/ARCHITECTURE.md")
     for fault in (
         []
         if words
-        else [*wrong_floors(page), *(f"{it}: twice in the glossary" for it in words_twice(page))]
+        else [*wrong_layers(page), *(f"{it}: twice in the glossary" for it in repeated_words(page))]
     ):
         wrong.append(f"docs/ARCHITECTURE.md:1: {fault}")
-    for name in words or sorted(documents()):
+    for name in words or sorted(find_documents()):
         if name == "docs/PROMISES.md":
-            wrong += [f"{name}:{number}: {line}" for number, line in quoted(read(name), crates)]
+            wrong += [
+                f"{name}:{number}: {line}" for number, line in unknown_quotes(read(name), crates)
+            ]
         wrong += [
             f"{name}:{number}: {text}"
-            for number, found in wrong_names(name, crates, everywhere)
+            for number, found in find_wrong_names(name, crates, everywhere)
             for text in found
         ]
     print("\n".join(wrong), end="\n" if wrong else "")

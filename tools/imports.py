@@ -33,7 +33,7 @@ def blank(text):
     return re.sub(r"[^\n]", " ", text)
 
 
-def blanked(text, start, end):
+def blank_range(text, start, end):
     return text[:start] + blank(text[start:end]) + text[end:]
 
 
@@ -46,7 +46,7 @@ def without_comments(text, is_rust):
     return re.sub(f"{comment}|{quoted}", lambda match: blank(match[0]), text, flags=re.DOTALL)
 
 
-def closed(text, at):
+def closing_end(text, at):
     """Behind the bracket that closes the one at a place."""
     depth = 0
     for place in range(at, len(text)):
@@ -59,9 +59,9 @@ def closed(text, at):
 def ghost_parts(text):
     """Where clauses, ghost members and attributes stand in Rust's text."""
     for found in re.finditer(r"\b(?:requires|ensures)\b\*?\s*\w*\s*(?=\{)", text):
-        yield found.start(), closed(text, found.end())
+        yield found.start(), closing_end(text, found.end())
     for found in re.finditer(r"#!?(?=\[)", text):
-        yield found.start(), closed(text, found.end())
+        yield found.start(), closing_end(text, found.end())
     for found in re.finditer(r"\bghost\s+(?!use\b)", text):
         depth, at = 0, found.end()
         while at < len(text) and depth >= 0 and not (depth == 0 and text[at] in ";,"):
@@ -76,7 +76,7 @@ def block_around(text, at):
     for place in range(at - 1, -1, -1):
         depth += (text[place] == "}") - (text[place] == "{")
         if depth < 0:
-            return place, closed(text, place)
+            return place, closing_end(text, place)
     return 0, len(text)
 
 
@@ -115,11 +115,11 @@ def words_of(text):
     return found
 
 
-def is_in(name, words):
+def is_used(name, words):
     return all(part in words for part in name.split("◌") if part) or name.strip("«»") in words
 
 
-def unused(text, is_rust):
+def find_unused(text, is_rust):
     """The imports whose names nothing in their reach has, or that one before has brought."""
     plain = without_comments(text, is_rust)
     found, brought, again = imports_of(plain, is_rust), set(), []
@@ -127,17 +127,17 @@ def unused(text, is_rust):
         if (own.name, own.module, own.scope) in brought:
             again.append(own)
         brought.add((own.name, own.module, own.scope))
-    return sorted({*again, *without_use(plain, found, is_rust)}, key=lambda own: own.start)
+    return sorted({*again, *filter_unused(plain, found, is_rust)}, key=lambda own: own.start)
 
 
-def without_use(plain, found, is_rust):
+def filter_unused(plain, found, is_rust):
     """Those of the imports whose names nothing in their reach has."""
     rest = plain
     for span in {it.statement for it in found}:
-        rest = blanked(rest, *span)
+        rest = blank_range(rest, *span)
     if not is_rust:
         words = words_of(rest)
-        return [it for it in found if not is_in(it.name, words)]
+        return [it for it in found if not is_used(it.name, words)]
     parts = list(ghost_parts(rest))
 
     def words_in(scopes, but):
@@ -154,12 +154,12 @@ def without_use(plain, found, is_rust):
             for one in found
             if one.name == own.name and own.scope[0] < one.scope[0] and one.scope[1] <= own.scope[1]
         ]
-        if not is_in(own.name, words_in(own.scope, inner)):
+        if not is_used(own.name, words_in(own.scope, inner)):
             left.append(own)
     return left
 
 
-def fixed(text, gone):
+def remove_imports(text, gone):
     """The text without some of its imports."""
     by_statement = {}
     for own in gone:
@@ -211,13 +211,13 @@ def main(words):
     for path in files_below([it for it in words if it != "--fix"] or [os.path.join(TOP, "crates")]):
         with open(path, encoding="utf-8") as file:
             text = file.read()
-        gone = unused(text, path.endswith(".rt"))
+        gone = find_unused(text, path.endswith(".rt"))
         count += len(gone)
         for own in gone:
             print(f"{os.path.relpath(path)}:{text.count(chr(10), 0, own.start) + 1}: {own.name}")
         if gone and fix:
             with open(path, "w", encoding="utf-8") as file:
-                file.write(fixed(text, gone))
+                file.write(remove_imports(text, gone))
     return 1 if count and not fix else 0
 
 

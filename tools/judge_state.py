@@ -18,7 +18,7 @@ class Fault(Exception):
     pass
 
 
-def header_of(b):
+def read_header(b):
     if len(b) < 64 or b[:8] != b"PRDSTA01" or any(b[34:40]):
         raise Fault(0)
     size, offset, tracking, prediction, harts = struct.unpack_from("<IIQQH", b, 8)
@@ -39,7 +39,7 @@ def word_total(b, at, harts):
     return n if owned and zero == 0 else None
 
 
-def track_of(b, at, head):
+def read_track(b, at, head):
     """Kind, base and start of the track by itself, and its end."""
     size, offset, tracking, prediction, harts, position, _, _ = head
     if at + 32 > len(b):
@@ -79,8 +79,8 @@ def track_of(b, at, head):
     return kind, base, start, end
 
 
-def detector_part(b):
-    head = size, offset, tracking, prediction, harts, position, lines, tracks = header_of(b)
+def check_detector(b):
+    head = size, offset, tracking, prediction, harts, position, lines, tracks = read_header(b)
     at, last, due = 64, None, []
     for _ in range(lines):
         if at + 16 > len(b):
@@ -100,7 +100,7 @@ def detector_part(b):
         at += 16
     before, seen, crossed = None, 0, set()
     for _ in range(tracks):
-        kind, base, start, end = track_of(b, at, head)
+        kind, base, start, end = read_track(b, at, head)
         good = before is None or before < (kind, base)
         if kind == 0:
             good = good and seen < len(due) and due[seen] == base and start != NONE
@@ -128,7 +128,7 @@ def detector_part(b):
     return head, at
 
 
-def object_part(b, at, position):
+def check_objects(b, at, position):
     if at + 16 > len(b):
         raise Fault(at)
     symbols, blocks = struct.unpack_from("<QQ", b, at)
@@ -161,17 +161,17 @@ def object_part(b, at, position):
         raise Fault(at)
 
 
-def judged(b):
+def judge_state(b):
     """The header of a good state, or the place of the first unit at fault."""
     try:
-        head, at = detector_part(b)
-        object_part(b, at, head[5])
+        head, at = check_detector(b)
+        check_objects(b, at, head[5])
         return head, None
     except Fault as fault:
         return None, fault.args[0]
 
 
-def variants(b):
+def changed_states(b):
     for place in range(len(b)):
         for value in (0, 1, 0x7F, 0xFF):
             if b[place] != value:
@@ -184,7 +184,7 @@ def variants(b):
             yield bytes(b[:place]) + struct.pack("<Q", number) + bytes(b[place + 8 :])
 
 
-def said(program, trace, words, state):
+def call_replay(program, trace, words, state):
     done = subprocess.run(
         [program, "replay", trace, "--resume", state, *words], capture_output=True, text=True
     )
@@ -195,25 +195,25 @@ def judge_changes(name, program, trace, words):
     """Replays a trace from each change of a state: how many there are, and of how many the program says another thing."""
     with open(name, "rb") as file:
         state = file.read()
-    own, good = judged(state)[0], said(program, trace, words, name)[0]
+    own, good = judge_state(state)[0], call_replay(program, trace, words, name)[0]
     tried = wrong = 0
     with tempfile.TemporaryDirectory() as work:
         changed = os.path.join(work, "state")
-        for variant in variants(state):
+        for variant in changed_states(state):
             with open(changed, "wb") as out:
                 out.write(variant)
             tried += 1
-            status, text = said(program, trace, words, changed)
-            if not is_right(own, variant, status, text, good):
+            status, text = call_replay(program, trace, words, changed)
+            if not is_right_ending(own, variant, status, text, good):
                 wrong += 1
-                print(f"variant {tried}: {judged(variant)}: {status} {text[:60]!r}")
+                print(f"variant {tried}: {judge_state(variant)}: {status} {text[:60]!r}")
     return tried, wrong
 
 
-def is_right(own, changed, status, text, good):
+def is_right_ending(own, changed, status, text, good):
     """Whether a replay from a changed state ends as that state says, where the trace goes on from a state with the header `own`, and
     ends with the status `good` from a good one."""
-    head, place = judged(changed)
+    head, place = judge_state(changed)
     if place is not None:
         return text == f"predator: state BadState {place}\n" and status == 6
     differs = [at for at, mine, its in zip((8, 12, 16, 24, 32), own[:5], head[:5]) if mine != its]
@@ -230,7 +230,7 @@ def main(words):
         return 0 if words else 1
     if len(words) == 1:
         with open(words[0], "rb") as file:
-            place = judged(file.read())[1]
+            place = judge_state(file.read())[1]
         print("good" if place is None else f"BadState {place}")
         return 0
     tried, wrong = judge_changes(words[0], words[1], words[2], words[3:])

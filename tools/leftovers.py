@@ -59,7 +59,7 @@ class Source:
         found = imports.imports_of(self.plain, self.is_rust)
         self.rest = self.plain
         for span in {it.statement for it in found}:
-            self.rest = imports.blanked(self.rest, *span)
+            self.rest = imports.blank_range(self.rest, *span)
         self.imported = {}
         for own in found:
             statement = self.plain[slice(*own.statement)]
@@ -78,7 +78,7 @@ class Source:
         return imports.words_of(self.rest if rest is None else rest)
 
 
-def items_of(source):
+def find_items(source):
     """The items of a file of definitions or proofs: name, line, and the extent of what is the item's own."""
     lines = source.rest.split("\n")
     heads = []
@@ -92,12 +92,14 @@ def items_of(source):
         if depth and not is_in_module(lines, number, depth):
             continue
         end = number + 1
-        while end < len(lines) and (not lines[end].strip() or is_own(lines[end], depth, name)):
+        while end < len(lines) and (
+            not lines[end].strip() or is_inside_item(lines[end], depth, name)
+        ):
             end += 1
         yield name, number, end
 
 
-def is_own(line, depth, name):
+def is_inside_item(line, depth, name):
     """Whether a line below an item's head belongs to the item: deeper ones do, and its own clauses."""
     indent = len(line) - len(line.lstrip(" "))
     if indent > depth:
@@ -124,7 +126,7 @@ def dead_items(sources, chosen):
         if source.is_rust or folder[-1] in ANSWERS or folder[-1].startswith("Worked"):
             continue
         path = source.module.split(".")[2:]
-        for name, start, end in items_of(source):
+        for name, start, end in find_items(source):
             lines = source.rest.split("\n")
             if name in source.words("\n".join(lines[:start] + lines[end:])):
                 continue
@@ -136,7 +138,7 @@ def dead_items(sources, chosen):
 def is_named_elsewhere(source, name, by_module, sources, path):
     for other, names in by_module.get(source.module, ()):
         for local, real in names.items():
-            if real == name and imports.is_in(local, other.words()):
+            if real == name and imports.is_used(local, other.words()):
                 return True
             if real is None and re.search(
                 rf"(?<![\w.]){re.escape(local)}\.{re.escape(name)}(?![\w'-])", other.rest
@@ -165,7 +167,7 @@ def words_in(text):
     }
 
 
-def comments_of_names(source):
+def repeated_comments(source):
     """Comments of one line that stand on an item and have no word that its name hasn't."""
     lines = source.text.split("\n")
     for number, line in enumerate(lines[:-1]):
@@ -211,7 +213,7 @@ def main(words):
         ]
         if len(lines) - 1 > LENGTH:
             found.append(f"{source.path}:1: long file: {len(lines) - 1} lines")
-        found += comments_of_names(source)
+        found += repeated_comments(source)
     for row in found:
         print(os.path.relpath(row))
     return 1 if found else 0

@@ -27,7 +27,7 @@ LOOP = struct.pack(
 LOOP += struct.pack("<IIIIIIII", 1, 84, 0x10000, 0, 4, 4, 5, 4) + struct.pack("<I", 0x6F)
 
 
-def shown_by(words):
+def record_terminal(words):
     """What the program shows on a terminal, the seconds that it took, and its status."""
     ours, theirs = pty.openpty()
     said = []
@@ -53,7 +53,7 @@ def shown_by(words):
     return b"".join(said).decode(errors="replace"), took, status
 
 
-def faults_of(what, shown, took, form, whole, told):
+def find_faults(what, shown, took, form, whole, told):
     """What is wrong with the lines of a form. `whole` is what the work comes to, and `told` whether a line tells that too."""
     lines = [list(map(int, it.groups())) for it in form.finditer(shown)]
     if not lines:
@@ -72,7 +72,7 @@ def faults_of(what, shown, took, form, whole, told):
     return found
 
 
-def enough(seconds, few, words):
+def scale_work(seconds, few, words):
     """How much work lasts so many seconds here, by the time that little of it takes."""
     began = time.monotonic()
     subprocess.run(
@@ -85,16 +85,18 @@ def enough(seconds, few, words):
     return int(few * seconds / (time.monotonic() - began))
 
 
-def tries(program, seconds, folder):
+def list_tries(program, seconds, folder):
     trace, guest = (os.path.join(folder, it) for it in ("trace", "guest"))
     with open(guest, "wb") as file:
         file.write(LOOP)
-    accesses = enough(seconds, 4_000_000, lambda n: [program, "gen", str(n), trace])
+    accesses = scale_work(seconds, 4_000_000, lambda n: [program, "gen", str(n), trace])
     yield "gen", ["gen", str(accesses), trace], 0, WRITTEN, lambda: os.path.getsize(
         trace
     ) // 2**20, False
     yield "replay", ["replay", trace], 0, READ, lambda: os.path.getsize(trace) // 2**20, True
-    steps = enough(seconds, 64_000_000, lambda n: [program, "run", guest, "--set", f"budget={n}"])
+    steps = scale_work(
+        seconds, 64_000_000, lambda n: [program, "run", guest, "--set", f"budget={n}"]
+    )
     yield "run", [
         "run",
         guest,
@@ -106,11 +108,11 @@ def tries(program, seconds, folder):
 def main(program, seconds=3.0):
     found = []
     with tempfile.TemporaryDirectory() as folder:
-        for what, words, wanted, form, whole, told in tries(program, float(seconds), folder):
-            shown, took, status = shown_by([program, *words])
+        for what, words, wanted, form, whole, told in list_tries(program, float(seconds), folder):
+            shown, took, status = record_terminal([program, *words])
             if status != wanted:
                 found.append(f"{what}: it ended with {status}")
-            faults = faults_of(what, shown, took, form, whole(), told)
+            faults = find_faults(what, shown, took, form, whole(), told)
             found += faults
             print(
                 f"{what}: {len(form.findall(shown))} lines in {took:.1f} s{', wrong' if faults else ''}"

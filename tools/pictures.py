@@ -38,7 +38,7 @@ MOST = 100_000
 SAID = 2000
 
 
-def ran(words: list[str], folder: str) -> None:
+def run(words: list[str], folder: str) -> None:
     """Runs a command, and gives up with what it said if it fails."""
     done = subprocess.run(
         words, cwd=folder, capture_output=True, encoding="utf-8", errors="replace", timeout=600
@@ -53,7 +53,7 @@ def draw(name: str, browser: str) -> str:
     to = os.path.join(TOP, "docs/pictures", f"{name}.png")
     with tempfile.TemporaryDirectory() as folder:
         for words in calls:
-            ran([os.path.join(TOP, "bin/predator"), *words], folder)
+            run([os.path.join(TOP, "bin/predator"), *words], folder)
         made = os.path.join(folder, "picture.png")
         options = [
             "--headless",
@@ -62,7 +62,7 @@ def draw(name: str, browser: str) -> str:
             "--hide-scrollbars",
             f"--user-data-dir={folder}/user",
         ]
-        ran(
+        run(
             [
                 browser,
                 *options,

@@ -8,13 +8,13 @@ and a write takes its line out of all others. It prints each observed line that 
 
 import sys
 
-from traces import accesses
+from traces import read_accesses
 
 
-def recount(trace, size=64, shift=0, tracking=16, report=100):
+def recount_lines(trace, size=64, shift=0, tracking=16, report=100):
     """The listed observed lines, as (base, start, count), by count falling and then by base rising."""
     holders, writes, starts, counts = {}, {}, {}, {}
-    for position, (hart, addr, is_write) in enumerate(accesses(trace)):
+    for position, (hart, addr, is_write) in enumerate(read_accesses(trace)):
         base = (addr - shift) // size * size + shift
         held = holders.setdefault(base, set())
         if is_write:
@@ -37,7 +37,7 @@ def main(words):
         return 0 if words else 1
     numbers = [int(it) for it in words[1:]]
     with open(words[0], "rb") as file:
-        for base, start, count in recount(file.read(), *numbers):
+        for base, start, count in recount_lines(file.read(), *numbers):
             print(
                 f"line observed {'-' if base < 0 else ''}0x{abs(base):08x} {(numbers + [64])[0]} start {start} count {count}"
             )

@@ -11,8 +11,8 @@ import sys
 from collections import Counter
 from typing import NamedTuple
 
-from judge_report import address
-from traces import Access, sited
+from judge_report import address_text
+from traces import Access, read_accesses_with_pcs
 
 # Accesses, each with its pc. Hart 0 writes a word, and then three harts add three times to a byte each, two of which lie in one word: when
 # each hart makes one step at a time, and when it makes three.
@@ -91,7 +91,7 @@ class Line(NamedTuple):
         )
 
 
-def takings(accesses, size=64, shift=0):
+def count_invalidations(accesses, size=64, shift=0):
     """How many accesses there are, and each line that is taken as (base, takings, pairs, harts), in the order of the text."""
     lines, count = {}, 0
     for access in accesses:
@@ -105,27 +105,27 @@ def takings(accesses, size=64, shift=0):
     return count, sorted(found, key=lambda row: (-row[1], row[0]))
 
 
-def told(trace, size=64, shift=0):
+def blame_text(trace, size=64, shift=0):
     """The whole text, or what is said of a trace without pcs."""
     if trace[:8] in (b"PRDTRC01", b"PRDTRC02"):
         yield "predator: trace NoPcs"
         return
-    count, lines = takings(sited(trace), size, shift)
+    count, lines = count_invalidations(read_accesses_with_pcs(trace), size, shift)
     yield "predator blame 1"
     yield f"accesses {count}"
     yield f"layout {size} {shift}"
     yield f"lines {len(lines)}"
     for base, taken, pairs, harts in lines:
-        yield f"line {address(base)} takings {taken} pairs {len(pairs)} harts {len(harts)}"
+        yield f"line {address_text(base)} takings {taken} pairs {len(pairs)} harts {len(harts)}"
         for victim, taker, number, same in pairs:
-            yield f"pair {address(victim)} {address(taker)} taken {number} same {same}"
+            yield f"pair {address_text(victim)} {address_text(taker)} taken {number} same {same}"
         for victim, taker, number in harts:
             yield f"from {victim} to {taker} taken {number}"
     yield f"total takings {sum(it[1] for it in lines)}"
     yield "end"
 
 
-def listed(text):
+def parse_accesses(text):
     """A worked list."""
     for touch in text.split(", ") if text else ():
         hart, addr, pc = touch.split()
@@ -136,7 +136,7 @@ def try_worked():
     """How many of the worked lists give something else."""
     wrong = 0
     for text, layout, wanted in WORKED:
-        _, found = takings(listed(text), *layout)
+        _, found = count_invalidations(parse_accesses(text), *layout)
         if found != wanted:
             wrong += 1
             print(f"{text} in lines of {layout}: {found}, and {wanted} is wanted")
@@ -154,7 +154,7 @@ def main(words):
         print(__doc__)
         return 0 if words in (["--help"], ["-h"]) else 1
     with open(words[0], "rb") as file:
-        sys.stdout.writelines(f"{it}\n" for it in told(file.read(), *options.values()))
+        sys.stdout.writelines(f"{it}\n" for it in blame_text(file.read(), *options.values()))
     return 0
 
 

@@ -10,8 +10,8 @@ and beside them, for each hart's copy of a line, the position at which it was lo
 import sys
 from bisect import bisect_left, bisect_right
 
-from judge_report import Line, address, objects_on, site_names, table_of
-from traces import Alloc, Free, Symbol, records
+from judge_report import Line, address_text, object_rows, site_names, object_table
+from traces import Alloc, Free, Symbol, read_records
 
 # Accesses, words of the call, and for each line its base with its cold, useful and useless misses, by what docs/RULES.md says.
 WORKED = [
@@ -27,7 +27,7 @@ WORKED = [
 ]
 
 
-def misses(accesses, size=64, shift=0):
+def count_misses(accesses, size=64, shift=0):
     """Of each line its cold, useful and useless misses, in the order of the first accesses."""
     holders, came, loaded, written, counts = {}, set(), {}, {}, {}
     for position, (hart, addr, is_write) in enumerate(accesses):
@@ -53,10 +53,10 @@ def misses(accesses, size=64, shift=0):
     return {base: tuple(row) for base, row in counts.items()}
 
 
-def parted(trace, others):
+def split_accesses(trace, others):
     """The accesses of a trace, while the other records are put to the others, each behind so many accesses."""
     count = 0
-    for record in records(trace):
+    for record in read_records(trace):
         if isinstance(record, (Symbol, Alloc, Free)):
             others.append((count, record))
         else:
@@ -65,7 +65,7 @@ def parted(trace, others):
     others.append((count, None))
 
 
-def by_lines(objects, bases, size):
+def objects_by_line(objects, bases, size):
     """Of each line those objects that meet it, each given with its record, in their order; the bases rise."""
     found = {base: [] for base in bases}
     for record, own in objects:
@@ -76,24 +76,24 @@ def by_lines(objects, bases, size):
     return found
 
 
-def told(trace, size, shift):
+def misses_text(trace, size, shift):
     """The whole text."""
     others = []
-    counts = misses(parted(trace, others), size, shift)
+    counts = count_misses(split_accesses(trace, others), size, shift)
     end, _ = others.pop()
     rows = sorted(((-row[2], -row[1], base) for base, row in counts.items() if row[1] or row[2]))
     bases = sorted(base for _, _, base in rows)
-    symbols, blocks = table_of(others)
+    symbols, blocks = object_table(others)
     name_of = site_names(symbols)
-    symbols, blocks = by_lines([(it, it) for it in symbols], bases, size), by_lines(
+    symbols, blocks = objects_by_line([(it, it) for it in symbols], bases, size), objects_by_line(
         [(it[0], it) for it in blocks], bases, size
     )
     yield f"misses {size} {shift}"
     yield f"accesses {end}"
     yield f"lines {len(rows)}"
     for useless, useful, base in rows:
-        yield f"line {address(base)} cold {counts[base][0]} useful {-useful} useless {-useless}"
-        yield from objects_on(Line(0, base, size, 0), symbols[base], blocks[base], end, name_of)
+        yield f"line {address_text(base)} cold {counts[base][0]} useful {-useful} useless {-useless}"
+        yield from object_rows(Line(0, base, size, 0), symbols[base], blocks[base], end, name_of)
     yield "total cold {} useful {} useless {}".format(
         *(sum(row[at] for row in counts.values()) for at in range(3))
     )
@@ -105,9 +105,11 @@ def try_worked():
     wrong = 0
     for text, size, wanted in WORKED:
         accesses = [(int(it[1]), int(it.split()[1], 16), it[0] == "W") for it in text.split(", ")]
-        if misses(accesses, size) != wanted:
+        if count_misses(accesses, size) != wanted:
             wrong += 1
-            print(f"{text} in lines of {size}: {misses(accesses, size)}, and {wanted} is wanted")
+            print(
+                f"{text} in lines of {size}: {count_misses(accesses, size)}, and {wanted} is wanted"
+            )
     print(f"{len(WORKED)} lists, {wrong} wrong")
     return wrong
 
@@ -122,7 +124,7 @@ def main(words):
         print(__doc__)
         return 0 if words in (["--help"], ["-h"]) else 1
     with open(words[0], "rb") as file:
-        sys.stdout.writelines(f"{it}\n" for it in told(file.read(), *options.values()))
+        sys.stdout.writelines(f"{it}\n" for it in misses_text(file.read(), *options.values()))
     return 0
 
 

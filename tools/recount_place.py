@@ -10,8 +10,8 @@ the other, and the list with its accesses moved, counted by plain caches. It pri
 import re
 import sys
 
-from judge_report import address, printed
-from traces import OBJECT, Alloc, Free, Symbol, records
+from judge_report import address_text, printable_name
+from traces import OBJECT, Alloc, Free, Symbol, read_records
 
 # The address and size of an object, accesses, the size of a line, and by docs/RULES.md the places of its words, the area and the three
 # sums.
@@ -37,7 +37,7 @@ WORKED = [
 ]
 
 
-def object_of(name, items):
+def find_object(name, items):
     """The address and the size of the object that a name means."""
     for item in items:
         if isinstance(item, Symbol) and item.kind == OBJECT and item.name == name:
@@ -48,7 +48,7 @@ def object_of(name, items):
     return blocks[0] if len(blocks) == 1 and blocks[0][1] else None
 
 
-def counts(accesses, size):
+def count_lines(accesses, size):
     """Of each line that is written its count since its first write, by where the line begins."""
     holders, found = {}, {}
     for hart, addr, is_write in accesses:
@@ -61,7 +61,7 @@ def counts(accesses, size):
     return found
 
 
-def placed(accesses, begin, length, size):
+def place_words(accesses, begin, length, size):
     """Who touches each word of the object, and the place of each; with them the area and the lines of the words of many harts."""
     words = range(begin // 4 * 4, min(begin + length, 2**32), 4)
     touched = {}
@@ -80,43 +80,43 @@ def placed(accesses, begin, length, size):
     return touched, dict(sorted(places.items())), (start, at - start), many
 
 
-def sums(accesses, places, many, size):
+def sum_counts(accesses, places, many, size):
     """What the list counts, what the moved one does, and the part of that on the lines of the words of many harts."""
     moved = [
         (hart, places.get(addr // 4 * 4, addr // 4 * 4) + addr % 4, is_write)
         for hart, addr, is_write in accesses
     ]
-    after = counts(moved, size)
+    after = count_lines(moved, size)
     return (
-        sum(counts(accesses, size).values()),
+        sum(count_lines(accesses, size).values()),
         sum(after.values()),
         sum(it for base, it in after.items() if base in many),
     )
 
 
-def told(trace, name, size):
+def place_text(trace, name, size):
     """The whole text, or why there is none."""
-    items = list(records(trace))
+    items = list(read_records(trace))
     accesses = [it for it in items if not isinstance(it, (Symbol, Alloc, Free))]
-    found = object_of(name, items)
+    found = find_object(name, items)
     if not found or found[1] > 2**24:
         return [f"predator: place {'TooLarge' if found else 'NoObject'}"]
-    touched, places, area, many = placed(accesses, *found, size)
+    touched, places, area, many = place_words(accesses, *found, size)
     if sum(area) > 2**32:
         return ["predator: place NoRoom"]
     owners = {
         word: "many" if len(harts) > 1 else f"hart {min(harts)}" for word, harts in touched.items()
     }
-    before, after, many = sums(accesses, places, many, size)
+    before, after, many = sum_counts(accesses, places, many, size)
     return [
-        f"place {printed(name)} {address(found[0])} {found[1]} line {size}",
+        f"place {printable_name(name)} {address_text(found[0])} {found[1]} line {size}",
         f"words {len(places)}",
         *(
-            f"word {address(word)} to {address(to)} {owners[word]}"
+            f"word {address_text(word)} to {address_text(to)} {owners[word]}"
             for word, to in places.items()
             if word in owners
         ),
-        f"area {address(area[0])} {area[1]}",
+        f"area {address_text(area[0])} {area[1]}",
         *(f"before {before}", f"after {after}", f"many {many}", "end"),
     ]
 
@@ -126,8 +126,8 @@ def try_worked():
     wrong = 0
     for (begin, length), text, size, *wanted in WORKED:
         accesses = [(int(it[1]), int(it.split()[1], 16), it[0] == "W") for it in text.split(", ")]
-        _, places, area, many = placed(accesses, begin, length, size)
-        given = [list(places.values()), area, sums(accesses, places, many, size)]
+        _, places, area, many = place_words(accesses, begin, length, size)
+        given = [list(places.values()), area, sum_counts(accesses, places, many, size)]
         if given != wanted:
             wrong += 1
             print(f"{text} in lines of {size}: {given}, and {wanted} is wanted")
@@ -143,7 +143,8 @@ def main(words):
         return 0 if words in (["--help"], ["-h"]) else 1
     with open(words[0], "rb") as file:
         sys.stdout.writelines(
-            f"{it}\n" for it in told(file.read(), words[1].encode(), int((words[3:] or [64])[0]))
+            f"{it}\n"
+            for it in place_text(file.read(), words[1].encode(), int((words[3:] or [64])[0]))
         )
     return 0
 

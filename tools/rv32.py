@@ -179,7 +179,7 @@ def elf(segments: list[Segment], symbols: list[Symbol] = [], names: bytes = b"\0
     return header + rows + content + table + names + sections
 
 
-def named(places: list[tuple[str, int, int, int]]) -> tuple[list[Symbol], bytes]:
+def symbol_table(places: list[tuple[str, int, int, int]]) -> tuple[list[Symbol], bytes]:
     """The symbols of names, addresses, sizes and kinds, and the bytes of their names."""
     symbols, names = [], bytearray(b"\0")
     for name, *fields in places:

@@ -31,7 +31,7 @@ class Access(NamedTuple):
     pc: int | None  # of version 3 alone
 
 
-def difference(trace, place):
+def decode_distance(trace, place):
     """The distance that stands at a place, and the place behind it."""
     number = shift = 0
     while True:
@@ -42,7 +42,7 @@ def difference(trace, place):
             return (-(number >> 1) - 1 if number & 1 else number >> 1), place
 
 
-def placed(trace):
+def located_records(trace):
     """The records up to the end's, in order, each behind the places where it begins and ends."""
     version = (b"PRDTRC01", b"PRDTRC02", b"PRDTRC03").index(trace[:8]) + 1
     place, addr, pcs = 20, 0, {}
@@ -66,30 +66,30 @@ def placed(trace):
         else:
             assert tag >> 4 in (1, 2) and tag & 15 in (1, 2, 4), f"no tag at {place}"
             hart = trace[place + 1]
-            distance, place = difference(trace, place + 2)
+            distance, place = decode_distance(trace, place + 2)
             addr = (addr + distance) % 2**32
             if version == 3:
-                distance, place = difference(trace, place)
+                distance, place = decode_distance(trace, place)
                 pcs[hart] = (pcs.get(hart, 0) + distance) % 2**32
             yield start, place, Access(hart, addr, tag >> 4 == 2, pcs.get(hart))
 
 
-def records(trace):
+def read_records(trace):
     """The records up to the end's, in order: an access as (hart, address, whether it writes), and each other one as what it is."""
-    return (it[:3] if isinstance(it, Access) else it for *_, it in placed(trace))
+    return (it[:3] if isinstance(it, Access) else it for *_, it in located_records(trace))
 
 
-def accesses(trace):
+def read_accesses(trace):
     """The accesses alone, each as (hart, address, whether it writes)."""
-    return (it[:3] for it in sited(trace))
+    return (it[:3] for it in read_accesses_with_pcs(trace))
 
 
-def sited(trace):
+def read_accesses_with_pcs(trace):
     """The accesses alone, with their pcs."""
-    return (it for *_, it in placed(trace) if isinstance(it, Access))
+    return (it for *_, it in located_records(trace) if isinstance(it, Access))
 
 
-def groups(distance):
+def encode_distance(distance):
     """A number from -2^32 to 2^32, taken modulo 2^32, as it is spelled in groups of seven bits."""
     distance = (distance + 2**31) % 2**32 - 2**31
     number, told = (2 * distance if distance >= 0 else -2 * distance - 1), []
@@ -99,18 +99,18 @@ def groups(distance):
     return bytes((*told, number))
 
 
-def with_pcs(trace, pc_of: Callable[[Access, int], int]):
+def add_pcs(trace, pc_of: Callable[[Access, int], int]):
     """A trace of version 1 in version 3, with pcs that are made of each access and the pc of its hart's access before."""
     parts, place, last, pcs = [b"PRDTRC03" + trace[8:20]], 20, 0, {}
-    for start, place, record in placed(trace):
+    for start, place, record in located_records(trace):
         if isinstance(record, Access):
             before = pcs.get(record.hart, 0)
             pc = pc_of(record, before)
             size = trace[place - 1]
             parts.append(
                 bytes((16 * (1 + record.writes) + size, record.hart))
-                + groups(record.addr - last)
-                + groups(pc - before)
+                + encode_distance(record.addr - last)
+                + encode_distance(pc - before)
             )
             last, pcs[record.hart] = record.addr, pc
         else:

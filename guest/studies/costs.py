@@ -58,7 +58,7 @@ class Build:
             ).of_kind("observed")
             counted = text("misses", trace)
             with open(trace, "rb") as file:
-                if list(recount_misses.told(file.read(), 64, 0)) != counted.splitlines():
+                if list(recount_misses.misses_text(file.read(), 64, 0)) != counted.splitlines():
                     self.wrong.append(f"{path}: recounted, the misses are other ones")
             self.total = re.search(
                 r"^total cold (\d+) useful (\d+) useless (\d+)$", counted, re.MULTILINE

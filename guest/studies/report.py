@@ -14,7 +14,7 @@ PAGE = os.path.join(TOP, "docs", "STUDIES.md")
 SETTINGS = {"bounded_queue": "quantum = 10\n"}
 
 sys.path.insert(0, os.path.join(TOP, "tools"))
-from recount import accesses, recount  # noqa: E402
+from recount import accesses, recount_lines  # noqa: E402
 
 
 def builds():
@@ -123,7 +123,7 @@ class Run:
 
 def differences(trace, size, report):
     """The observed lines that a report and the recount tell otherwise, of either."""
-    counted = {base: (start, count) for base, start, count in recount(trace, size)}
+    counted = {base: (start, count) for base, start, count in recount_lines(trace, size)}
     observed = {it.base: (it.start, it.count) for it in report.of_kind("observed")}
     return [
         f"line {shown(key)} of {size}: reported {observed.get(key)}, recounted {counted.get(key)}"

@@ -9,7 +9,7 @@ from typing import Iterable, NamedTuple
 sys.path.insert(0, os.path.join(os.path.dirname(os.path.abspath(__file__)), ".."))
 
 from message_files import FORM, NO_PCS  # noqa: E402
-from traces import groups  # noqa: E402
+from traces import encode_distance  # noqa: E402
 
 DATA = os.path.join(
     os.path.dirname(os.path.abspath(__file__)), "..", "..", "crates", "worked_runs", "data"
@@ -109,7 +109,7 @@ def converted(touches: list[Touch]) -> bytes:
     """The trace of these accesses in version 2."""
     made, last = bytearray(header(version=2)), 0
     for hart, kind, addr in touches:
-        made += bytes((0x14 if kind == "R" else 0x24, hart)) + groups(addr - last)
+        made += bytes((0x14 if kind == "R" else 0x24, hart)) + encode_distance(addr - last)
         last = addr
     return bytes(made) + ending(len(touches))
 
@@ -120,8 +120,8 @@ def sited(touches: Iterable[Sited], end: bytes = b"") -> bytes:
     for hart, kind, addr, pc in touches:
         made += (
             bytes((0x14 if kind == "R" else 0x24, hart))
-            + groups(addr - last)
-            + groups(pc - pcs.get(hart, 0))
+            + encode_distance(addr - last)
+            + encode_distance(pc - pcs.get(hart, 0))
         )
         last, pcs[hart], count = addr, pc, count + 1
     return bytes(made) + (end or ending(count))

@@ -12,7 +12,7 @@ from typing import Callable, Iterator
 import files
 import names
 import streams
-from commands import known
+from commands import read_commands
 from bench import Bench, content
 from ended import READ_FAULT, WRITE_FAULT, Ended, fault_line, put, remove, try_case
 from files import Case, SMALL, report
@@ -63,7 +63,7 @@ def try_calls(bench: Bench) -> None:
 
 def slots(name: str) -> tuple[int, int]:
     """How many files a command reads and writes at most, by commands.toml."""
-    table = known()
+    table = read_commands()
     row = next(it for it in table["command"] if it["name"] == name)
     options = [it for it in table["option"] if it["name"] in row["usage"].replace("[", " ").split()]
     return tuple(len(row.get(what, ())) + sum(what in it for it in options) for what in ("reads", "writes"))  # type: ignore[return-value]

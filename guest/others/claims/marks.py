@@ -10,7 +10,7 @@ import subprocess
 import sys
 
 sys.path.insert(0, os.path.join(os.path.dirname(os.path.abspath(__file__)), "../../../tools"))
-from traces import accesses  # noqa: E402
+from traces import read_accesses  # noqa: E402
 
 # Where the stacks of 128 harts begin, with the memory that claims.sh gives a program.
 STACKS = 0x4010000 - 128 * 65536
@@ -28,7 +28,7 @@ def calls(program, trace):
     begins, ends = marks(program)
     inside = {}
     with open(trace, "rb") as file:
-        for hart, addr, is_write in accesses(file.read()):
+        for hart, addr, is_write in read_accesses(file.read()):
             if addr == ends:
                 yield inside.pop(hart)
             elif addr == begins:
