@@ -24,7 +24,7 @@ PROGRAMS = {"workers": ("ROUNDS", 1_180_000, 100), "deque": ("TASKS", 722_000, 3
 AIM = 6
 
 
-def traces(name: str, folder: str) -> list[str]:
+def make_traces(name: str, folder: str) -> list[str]:
     """The traces of a program's run, in each version, and its own file behind them."""
     many, count, quantum = PROGRAMS[name]
     source, elf = (os.path.join(folder, f"{name}.{it}") for it in ("c", "elf"))
@@ -55,7 +55,7 @@ def traces(name: str, folder: str) -> list[str]:
     return [first, second, third, elf]
 
 
-def taken(words: list[str]) -> tuple[float, float]:
+def measure(words: list[str]) -> tuple[float, float]:
     """The time of the processors that a call takes, and the time that passes."""
     before, began = resource.getrusage(resource.RUSAGE_CHILDREN), time.monotonic()
     subprocess.run([PREDATOR, *words], stdout=subprocess.DEVNULL, check=True)
@@ -67,10 +67,10 @@ def main(words: list[str]) -> int:
     rounds, worst = int(words[0]) if words else 5, 0.0
     with tempfile.TemporaryDirectory() as folder:
         for name in PROGRAMS:
-            *own, elf = traces(name, folder)
+            *own, elf = make_traces(name, folder)
             for version, trace in enumerate(own, 1):
                 calls = ["replay", trace], ["view", "replay", trace, "--program", elf]
-                times = [[taken(it) for it in calls] for _ in range(rounds)]
+                times = [[measure(it) for it in calls] for _ in range(rounds)]
                 replay, view = (
                     [statistics.median(it[at][of] for it in times) for of in (0, 1)]
                     for at in (0, 1)

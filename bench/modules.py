@@ -13,7 +13,7 @@ import sys
 TOP = os.path.join(os.path.dirname(os.path.abspath(__file__)), "..")
 
 
-def times(folder):
+def module_times(folder):
     """The seconds of each module, by the files' times."""
     files = sorted(
         (os.stat(os.path.join(at, path)).st_mtime, path)
@@ -33,7 +33,7 @@ def main(name, count=20):
         status = subprocess.run(
             ["rt", "check", "--jobs", "1"], cwd=crate, stdout=subprocess.DEVNULL
         ).returncode
-        found = times(os.path.join(out, "incremental"))
+        found = module_times(os.path.join(out, "incremental"))
     finally:
         shutil.rmtree(out, ignore_errors=True)
         if os.path.isdir(aside):

@@ -47,7 +47,7 @@ class Touch(NamedTuple):
     pc: int
 
 
-def mixed(are_apart: bool) -> Iterator[Touch]:
+def mixed_touches(are_apart: bool) -> Iterator[Touch]:
     """Accesses of 64 lines by 8 harts that run the same code, three writes to a read, from a fixed seed. Each line has a pc of its own, or
     any pc comes at any line."""
     state = 1
@@ -59,7 +59,7 @@ def mixed(are_apart: bool) -> Iterator[Touch]:
         yield Touch(r >> 10 & 3 != 0, hart, DATA + 64 * line + 4 * hart, CODE + 4 * pc)
 
 
-def paired() -> Iterator[Touch]:
+def paired_touches() -> Iterator[Touch]:
     """Each of some instructions of hart 1 takes a line from each of some of hart 0."""
     for victim in range(SIDE):
         for taker in range(SIDE):
@@ -67,7 +67,7 @@ def paired() -> Iterator[Touch]:
             yield Touch(True, 1, DATA + 4, CODE + 4 * (SIDE + taker))
 
 
-def write(path: str, touches: Iterable[Touch]) -> str:
+def write_trace(path: str, touches: Iterable[Touch]) -> str:
     """The touches as a trace of version 3, in a file."""
     spelled = functools.lru_cache(1 << 16)(encode_distance)
     addr, pcs, count, piece = 0, [0] * HARTS, 0, bytearray()
@@ -87,7 +87,7 @@ def write(path: str, touches: Iterable[Touch]) -> str:
     return path
 
 
-def table(path: str) -> str:
+def write_table(path: str) -> str:
     """A table by which each word of the lines goes to a line of its own."""
     words = (64 * line + 4 * hart for line in range(64) for hart in range(HARTS))
     with open(path, "w", encoding="ascii") as out:
@@ -95,7 +95,7 @@ def table(path: str) -> str:
     return path
 
 
-def timed(words: list[str]) -> tuple[float, int]:
+def measure_call(words: list[str]) -> tuple[float, int]:
     """Seconds, and the most bytes of memory."""
     begin = time.monotonic()
     with subprocess.Popen(words, stdout=subprocess.DEVNULL) as child:
@@ -106,31 +106,31 @@ def timed(words: list[str]) -> tuple[float, int]:
     return time.monotonic() - begin, used.ru_maxrss * 1024
 
 
-def least_of(commands: dict[str, list[str]]) -> dict[str, float]:
+def measure_least(commands: dict[str, list[str]]) -> dict[str, float]:
     """The least time of each command, over some rounds."""
     least = dict.fromkeys(commands, float("inf"))
     for _ in range(ROUNDS):
         for name, words in commands.items():
-            least[name] = min(least[name], timed(words)[0])
+            least[name] = min(least[name], measure_call(words)[0])
     return least
 
 
-def judged(what: str, took: float, aim: float) -> None:
+def judge_time(what: str, took: float, aim: float) -> None:
     print(f"{what}: {took:.2f} times, at most {aim:g}{'' if took <= aim else ': missed'}")
 
 
 def measure(program: str, work: str, are_apart: bool) -> None:
     """What each command takes."""
-    three, two = write(f"{work}/three", mixed(are_apart)), f"{work}/two"
+    three, two = write_trace(f"{work}/three", mixed_touches(are_apart)), f"{work}/two"
     subprocess.run([program, "convert", three, two], check=True, stdout=subprocess.DEVNULL)
-    least = least_of(
+    least = measure_least(
         {
             "replay of version 2": [program, "replay", two],
             "replay": [program, "replay", three],
             "blame": [program, "blame", three],
             "misses": [program, "misses", three],
             "convert": [program, "convert", three, f"{work}/again"],
-            "move": [program, "move", three, table(f"{work}/table"), f"{work}/moved"],
+            "move": [program, "move", three, write_table(f"{work}/table"), f"{work}/moved"],
         }
     )
     print("a pc of its own for each line:" if are_apart else "any pc at any line:")
@@ -142,13 +142,13 @@ def measure(program: str, work: str, are_apart: bool) -> None:
         print(
             f"{name}: {took:.2f} s, {beside[0]:.2f} of replay, {beside[1]:.2f} of that of version 2"
         )
-    judged("blame beside replay", least["blame"] / least["replay"], AIMS["blame"])
-    judged("move beside convert", least["move"] / least["convert"], AIMS["move"])
+    judge_time("blame beside replay", least["blame"] / least["replay"], AIMS["blame"])
+    judge_time("move beside convert", least["move"] / least["convert"], AIMS["move"])
 
 
 def measure_pairs(program: str, work: str) -> None:
     """What many pairs take."""
-    took, memory = timed([program, "blame", write(f"{work}/pairs", paired())])
+    took, memory = measure_call([program, "blame", write_trace(f"{work}/pairs", paired_touches())])
     missed = "" if memory <= ROOM else ": missed"
     print(
         f"blame of {SIDE * SIDE} pairs: {took:.2f} s, {memory / 1e6:.0f} MB, at most {ROOM / 1e6:.0f}{missed}"
@@ -162,8 +162,8 @@ def measure_reading() -> None:
             "reading alone: not measured, for crates/benches isn't built (`rt run` there builds it)"
         )
         return
-    least = least_of({it: [BENCHES, "traces", it, str(PIECES)] for it in ("2", "3")})
-    judged("reading version 3 beside version 2", least["3"] / least["2"], AIMS["reading"])
+    least = measure_least({it: [BENCHES, "traces", it, str(PIECES)] for it in ("2", "3")})
+    judge_time("reading version 3 beside version 2", least["3"] / least["2"], AIMS["reading"])
 
 
 def main(program: str) -> None:

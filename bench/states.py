@@ -22,7 +22,7 @@ LINES = 65_536
 ROUNDS = 3
 
 
-def timed(words):
+def measure(words):
     begin = time.monotonic()
     done = subprocess.run(words, capture_output=True)
     if done.returncode != 0:
@@ -30,15 +30,15 @@ def timed(words):
     return time.monotonic() - begin, done.stdout
 
 
-def least(words):
-    return min(timed(words)[0] for _ in range(ROUNDS))
+def measure_least(words):
+    return min(measure(words)[0] for _ in range(ROUNDS))
 
 
-def in_parts(work, trace):
+def measure_parts(work, trace):
     """The seconds of the parts together, and the last one's report."""
     step, rest, names = MADE // PARTS, trace, []
     for part in range(PARTS - 1):
-        timed([PROGRAM, "split", rest, str(step), f"{work}/part{part}", f"{work}/rest{part}"])
+        measure([PROGRAM, "split", rest, str(step), f"{work}/part{part}", f"{work}/rest{part}"])
         names.append(f"{work}/part{part}")
         rest = f"{work}/rest{part}"
     names.append(rest)
@@ -47,12 +47,12 @@ def in_parts(work, trace):
         words = [PROGRAM, "replay", name]
         words += ["--resume", f"{work}/state{part - 1}"] if part > 0 else []
         words += ["--save", f"{work}/state{part}"] if part < PARTS - 1 else []
-        took, report = timed(words)
+        took, report = measure(words)
         seconds += took
     return seconds, report
 
 
-def written_lines(path, positions):
+def write_lines(path, positions):
     """A trace that writes each of so many lines once, from a position on: as many as are asked for."""
     with open(path, "wb") as out:
         out.write(b"PRDTRC01" + struct.pack("<QHH", positions[0], 8, 0))
@@ -65,10 +65,10 @@ def written_lines(path, positions):
 def main():
     with tempfile.TemporaryDirectory() as work:
         trace = f"{work}/made"
-        timed([PROGRAM, "gen", str(MADE), trace])
-        whole = least([PROGRAM, "replay", trace])
-        report = timed([PROGRAM, "replay", trace])[1]
-        runs = [in_parts(work, trace) for _ in range(ROUNDS)]
+        measure([PROGRAM, "gen", str(MADE), trace])
+        whole = measure_least([PROGRAM, "replay", trace])
+        report = measure([PROGRAM, "replay", trace])[1]
+        runs = [measure_parts(work, trace) for _ in range(ROUNDS)]
         same = all(run[1] == report for run in runs)
         parts = min(run[0] for run in runs)
         print(
@@ -78,19 +78,19 @@ def main():
         settings = f"{work}/settings"
         with open(settings, "w") as out:
             out.write("tracking = 1\nreport = 1000\n")
-        first, none = written_lines(f"{work}/lines", (0, LINES)), written_lines(
+        first, none = write_lines(f"{work}/lines", (0, LINES)), write_lines(
             f"{work}/none", (LINES, 0)
         )
         state = f"{work}/state"
         plain = [PROGRAM, "replay", first, "--settings", settings]
         resumed = [PROGRAM, "replay", none, "--settings", settings, "--resume", state]
-        saved = least(plain + ["--save", state])
+        saved = measure_least(plain + ["--save", state])
         print(f"the state has {os.path.getsize(state):,} bytes")
-        sums = least(["sha256sum", state])
+        sums = measure_least(["sha256sum", state])
         print(
-            f"| a state of {LINES:,} lines saved, beside sha256sum of it | {(saved - least(plain)) / sums:.2f} | 4 |"
+            f"| a state of {LINES:,} lines saved, beside sha256sum of it | {(saved - measure_least(plain)) / sums:.2f} | 4 |"
         )
-        print(f"| and taken up again | {least(resumed) / sums:.2f} | 4 |")
+        print(f"| and taken up again | {measure_least(resumed) / sums:.2f} | 4 |")
 
 
 main()

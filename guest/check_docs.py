@@ -40,7 +40,7 @@ def run(command, work):
     return ran.stdout.rstrip("\n").split("\n") if ran.stdout else []
 
 
-def is_there(tool):
+def is_installed(tool):
     """Whether a tool is installed; of `view` whether its packages are."""
     if tool != "view":
         return shutil.which(tool) is not None
@@ -51,7 +51,7 @@ def is_there(tool):
     )
 
 
-def check(name, renew):
+def check_document(name, renew):
     with open(os.path.join(TOP, name)) as file:
         lines = file.read().split("\n")
     out, at, wrong, tried = [], 0, 0, 0
@@ -72,7 +72,7 @@ def check(name, renew):
             ):
                 wanted.append(lines[at][len(BLOCK) :])
                 at += 1
-            lacks = [it for it in re.findall(r"# \[(\w[\w-]*)\]", command) if not is_there(it)]
+            lacks = [it for it in re.findall(r"# \[(\w[\w-]*)\]", command) if not is_installed(it)]
             made = wanted if lacks else run(command, work)
             tried += not lacks
             if made != wanted:
@@ -119,7 +119,7 @@ def main(words):
     renew = "--renew" in words
     wrong = 0 if names else check_manual(renew)
     wrong += sum(
-        check(page, renew)
+        check_document(page, renew)
         for page in names or [it for it in FILES if os.path.exists(os.path.join(TOP, it))]
     )
     return 1 if wrong else 0

@@ -105,15 +105,15 @@ CALLS = (
     OWN
     + REFUSED
     + [
-        tuple(call_of(it, **NAMES))
-        for it in read_commands()["command"]
-        if it["name"] not in OWN_NAMES
+        tuple(call_of(command, **NAMES))
+        for command in read_commands()["command"]
+        if command["name"] not in OWN_NAMES
     ]
 )
 WRITTEN = ("t", "o", "f", "a", "b")
 
 
-def files():
+def list_files():
     found = {}
     for name in WRITTEN:
         if os.path.exists(name):
@@ -123,7 +123,7 @@ def files():
     return found
 
 
-def call(words, refused):
+def run_call(words, refused):
     """How the call ends, what it prints and writes, and how many allocations it made."""
     chosen = dict(
         os.environ,
@@ -133,7 +133,7 @@ def call(words, refused):
     )
     told = subprocess.run([PROGRAM, *words], env=chosen, capture_output=True)
     with open("told") as made:
-        return told.returncode, told.stdout, files(), int(made.read())
+        return told.returncode, told.stdout, list_files(), int(made.read())
 
 
 def is_front(part, whole):
@@ -153,10 +153,10 @@ def judge(status, text, written, good):
 
 
 def try_call(words):
-    good = call(words, -1)
+    good = run_call(words, -1)
     ended, went_on, wrong = 0, 0, 0
     for number in range(1, good[3] + 1):
-        status, text, written, _ = call(words, number)
+        status, text, written, _ = run_call(words, number)
         fault = judge(status, text, written, good)
         if fault:
             wrong += 1

@@ -154,7 +154,8 @@ def manual_option(option: Row) -> str:
 def manual_parts(table: dict[str, list[Row]]) -> dict[str, str]:
     """The parts of the manual page, by the names of their marks."""
     own = [
-        f".B predator {it['name']}\n" + roff_text(it["synopsis"]).rstrip() for it in table["beside"]
+        f".B predator {row['name']}\n" + roff_text(row["synopsis"]).rstrip()
+        for row in table["beside"]
     ]
     own.append(".B predator " + "\n|\n.B ".join(it.replace("-", "\\-") for it in LAUNCHER))
     options = (manual_option(it) for it in table["option"])
@@ -470,12 +471,16 @@ def example_calls(table: dict[str, list[Row]], kind: str) -> list[str]:
     for command in table["command"]:
         if kind.startswith("--"):
             found += [
-                [*example_call(command), kind, "IT"] for it in option_names(command) if it == kind
+                [*example_call(command), kind, "IT"]
+                for option in option_names(command)
+                if option == kind
             ]
         elif kind == "written":
             found += [example_call(command, **{it: "IT"}) for it in command.get("writes", ())]
             found += [
-                [*example_call(command), it, "IT"] for it in option_names(command) if it in written
+                [*example_call(command), option, "IT"]
+                for option in option_names(command)
+                if option in written
             ]
         else:
             files = (

@@ -484,7 +484,8 @@ class Measures:
             size = min(case.made.size * times, case.made.most // 4)
             nothing = self.cost_of_nothing(case, command, case.cost_of_size(size)[1].settings)
             sizes = [
-                self.pool.submit(self.cost_of_size, case, command, it) for it in (size, 4 * size)
+                self.pool.submit(self.cost_of_size, case, command, number)
+                for number in (size, 4 * size)
             ]
             asked.append((case.name, command, nothing, *sizes))
         for name, command, *costs in asked:

@@ -222,8 +222,8 @@ def report_text(case):
     """The whole text."""
     size, offset = case.layout or (case.native, 0)
     rows = sorted(
-        (-count_invalidations(case.accesses, *it[1:]), it)
-        for it in tracked_lines(case, size, offset)
+        (-count_invalidations(case.accesses, *own[1:]), own)
+        for own in tracked_lines(case, size, offset)
     )
     rows = [(-count, it) for count, it in rows if -count >= case.report]
     yield "predator report 1"

@@ -143,8 +143,8 @@ def main(words):
         return 0 if words in (["--help"], ["-h"]) else 1
     with open(words[0], "rb") as file:
         sys.stdout.writelines(
-            f"{it}\n"
-            for it in place_text(file.read(), words[1].encode(), int((words[3:] or [64])[0]))
+            f"{line}\n"
+            for line in place_text(file.read(), words[1].encode(), int((words[3:] or [64])[0]))
         )
     return 0
 

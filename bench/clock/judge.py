@@ -106,7 +106,7 @@ def band_name(at: int) -> str:
     )
 
 
-def bands(rows: Sequence[Row]) -> list[list[Cell]]:
+def band_summary(rows: Sequence[Row]) -> list[list[Cell]]:
     """For each band: its cases, and the least, the middle and the greatest slowdown in it."""
     found: list[list[float]] = [[] for _ in EDGES]
     for case in rows:
@@ -125,25 +125,25 @@ def numbers() -> dict[str, Callable[[Row], float | None]]:
     found: dict[str, Callable[[Row], float | None]] = {}
     for quantum in QUANTA:
         found[f"useless misses by 1000 steps, quantum {quantum}"] = lambda row, quantum=quantum: row.rate(quantum)  # type: ignore[misc]
-    found["useless misses less those of the padded form, quantum 100"] = less
-    found["useful and useless misses by 1000 steps, quantum 100"] = both
-    found["useful and useless misses less those of the padded form, quantum 100"] = gained
-    found["the report's count by 1000 steps, quantum 100"] = reported
-    found["recorded here: useless misses by 1000 accesses, quantum 100"] = recorded
+    found["useless misses less those of the padded form, quantum 100"] = miss_difference
+    found["useful and useless misses by 1000 steps, quantum 100"] = total_misses
+    found["useful and useless misses less those of the padded form, quantum 100"] = saved_time
+    found["the report's count by 1000 steps, quantum 100"] = invalidation_rate
+    found["recorded here: useless misses by 1000 accesses, quantum 100"] = recorded_rate
     return found
 
 
-def less(row: Row) -> float | None:
+def miss_difference(row: Row) -> float | None:
     own, padded = row.rate(), row.rate(form=FORMS[1])
     return None if own is None or padded is None else own - padded
 
 
-def both(row: Row) -> float | None:
+def total_misses(row: Row) -> float | None:
     found = row.counts.get((FORMS[0], USUAL))
     return 1000 * (found.useless + found.useful) / found.steps if found else None
 
 
-def gained(row: Row) -> float | None:
+def saved_time(row: Row) -> float | None:
     own, padded = (row.counts.get((form, USUAL)) for form in FORMS)
     return (
         1000 * (own.useless + own.useful - padded.useless - padded.useful) / own.steps
@@ -152,17 +152,17 @@ def gained(row: Row) -> float | None:
     )
 
 
-def reported(row: Row) -> float | None:
+def invalidation_rate(row: Row) -> float | None:
     found = row.counts.get((FORMS[0], USUAL))
     return found.listed_rate() if found else None
 
 
-def recorded(row: Row) -> float | None:
+def recorded_rate(row: Row) -> float | None:
     found = row.recorded.get(FORMS[0])
     return found.rate() if found else None
 
 
-def correlated(rows: Sequence[Row], number: Callable[[Row], float | None]) -> float | None:
+def rank_correlation(rows: Sequence[Row], number: Callable[[Row], float | None]) -> float | None:
     return spearman(
         [(value, row.slowdown()) for row in rows for value in [number(row)] if value is not None]
     )
@@ -174,14 +174,17 @@ def correlations(rows: Sequence[Row], threads: Sequence[int]) -> list[list[Cell]
     return [
         [
             name,
-            *[correlated([it for it in rows if it.threads == count], number) for count in threads],
+            *[
+                rank_correlation([it for it in rows if it.threads == count], number)
+                for count in threads
+            ],
         ]
-        + [correlated(rows, number), correlated(free, number)]
+        + [rank_correlation(rows, number), rank_correlation(free, number)]
         for name, number in numbers().items()
     ]
 
 
-def bound_told(rows: Sequence[Row], latency: float, step: float) -> list[str]:
+def bound_sentences(rows: Sequence[Row], latency: float, step: float) -> list[str]:
     """Sentences on the upper bound."""
     told, held, above = [], 0, []
     much = []

@@ -42,7 +42,7 @@ class Built(NamedTuple):
     guest: str
 
 
-def programs(only: Sequence[str] = ()) -> list[Program]:
+def find_programs(only: Sequence[str] = ()) -> list[Program]:
     """All pairs, by their kinds and names, or those that are named. Trouble where a name isn't there, or a first line says no kind."""
     found = []
     for file in sorted(os.listdir(PROGRAMS)):
@@ -61,7 +61,7 @@ def programs(only: Sequence[str] = ()) -> list[Program]:
     return sorted(found, key=lambda pair: (KINDS.index(pair.kind), pair.name))
 
 
-def called(words: Sequence[str], seconds: float = 300, given: str = "") -> str:
+def run_command(words: Sequence[str], seconds: float = 300, given: str = "") -> str:
     """What a command prints that is given a text. Trouble where it fails or takes longer."""
     try:
         done = subprocess.run(words, capture_output=True, text=True, timeout=seconds, input=given)
@@ -85,7 +85,7 @@ def build(target: Built) -> None:
         *(["-DPADDED"] if target.form == FORMS[1] else []),
     ]
     if target.native:
-        called(
+        run_command(
             [
                 "gcc",
                 "-O2",
@@ -101,7 +101,7 @@ def build(target: Built) -> None:
             ]
         )
     if target.guest:
-        called(
+        run_command(
             [GUESTS, os.path.dirname(target.guest)],
             given=" ".join([target.guest, target.program.source, *own]) + "\n",
         )
@@ -120,7 +120,7 @@ def build_all(
                     Built(program, form, count, line, path, f"{path}.elf" if guests else "")
                 )
     if guests:
-        called([GUESTS, folder, "--kit"])
+        run_command([GUESTS, folder, "--kit"])
     with ThreadPoolExecutor(os.cpu_count()) as pool:
         list(pool.map(build, made))
     return made

@@ -12,7 +12,16 @@ import tempfile
 
 HERE = os.path.dirname(os.path.abspath(__file__))
 sys.path.insert(0, os.path.join(HERE, "..", "studies"))
-from report import BUILT, PROGRAM, TOP, Run, block, renew, table, with_objects  # noqa: E402
+from report import (  # noqa: E402
+    BUILT,
+    PROGRAM,
+    TOP,
+    Run,
+    code_block,
+    renew_document,
+    markdown_table,
+    object_rows,
+)
 
 SETTINGS = "memory = 67108864\n"
 KIT = "the kit's `malloc`"
@@ -55,13 +64,13 @@ def build(out, sources, flags):
     subprocess.run(words, check=True, env={**os.environ, "KIT": "c", "PLAIN": "yes"})
 
 
-def heap_of(path):
+def heap_begin(path):
     """Where the heap begins."""
     ran = subprocess.run([PROGRAM, "check", path], stdout=subprocess.PIPE, text=True, check=True)
     return next(int(it.split()[1], 16) for it in ran.stdout.split("\n") if it.startswith("heap"))
 
 
-def threads_of(output):
+def threads_by_line(output):
     """The threads whose blocks stand on each line of 64 bytes, at the end."""
     found = {}
     for words in (it.split() for it in output.split("\n") if it.startswith("block ")):
@@ -71,10 +80,10 @@ def threads_of(output):
     return found
 
 
-def row(name, workload, run, heap):
-    threads = threads_of(run.output)
-    of_heap = [it for it in run.report.of_kind("observed") if it.base >= heap]
-    others = [it for it in run.report.of_kind("observed") if it.base < heap]
+def table_row(name, workload, run, heap):
+    threads = threads_by_line(run.output)
+    of_heap = [it for it in run.report.lines_of_kind("observed") if it.base >= heap]
+    others = [it for it in run.report.lines_of_kind("observed") if it.base < heap]
     met = [it for it in threads if len(threads[it]) > 1]
     return [
         name,
@@ -85,14 +94,14 @@ def row(name, workload, run, heap):
         sum(it.count for it in of_heap),
         len(others),
         sum(it.count for it in others),
-        run.told(),
+        run.excerpt_title(),
     ]
 
 
 def first_lines(report):
     """The first observed lines, and the beginning of what stands on each."""
-    lines = [(it.text, it.objects) for it in report.of_kind("observed")[:MOST]]
-    return [text for rows in with_objects(lines, MOST_OF_ONE) for text in rows]
+    lines = [(it.text, it.objects) for it in report.lines_of_kind("observed")[:MOST]]
+    return [text for rows in object_rows(lines, MOST_OF_ONE) for text in rows]
 
 
 def main(words):
@@ -110,9 +119,11 @@ def main(words):
                 build(path, sources, flags + more)
                 run = Run(path, SETTINGS)
                 wrong += len(run.wrong)
-                rows.append(row(name, workload, run, heap_of(path)))
+                rows.append(table_row(name, workload, run, heap_begin(path)))
                 if not more:
-                    shown.append(f"{name}:\n\n" + block(first_lines(run.report) or ["lines 0"]))
+                    shown.append(
+                        f"{name}:\n\n" + code_block(first_lines(run.report) or ["lines 0"])
+                    )
     heads = [
         "Allocator",
         "First blocks",
@@ -122,13 +133,13 @@ def main(words):
         "Counts",
     ]
     parts = {
-        "allocators": table([*heads, "Observed elsewhere", "Counts", "Recount"], rows),
+        "allocators": markdown_table([*heads, "Observed elsewhere", "Counts", "Recount"], rows),
         "allocators' lines": "\n\n".join(shown),
     }
     for name, text in parts.items():
         print(f"\n== {name}\n\n{text}")
     if "--renew" in words:
-        renew(parts)
+        renew_document(parts)
     return 1 if wrong else 0
 
 

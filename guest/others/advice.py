@@ -17,14 +17,14 @@ from typing import NamedTuple
 
 HERE = os.path.dirname(os.path.abspath(__file__))
 sys.path.insert(0, os.path.join(HERE, "..", "studies"))
-from report import BUILT, PROGRAM, builds, renew, table  # noqa: E402
+from report import BUILT, PROGRAM, study_builds, renew_document, markdown_table  # noqa: E402
 
 BUILD = os.path.join(HERE, "..", "build.sh")
 STUDIES = os.path.join(HERE, "..", "studies")
 SETTINGS = "quantum=10"
 
 
-class Followed(NamedTuple):
+class AdvicePlan(NamedTuple):
     """A program: what its call sites make, and the build that does what is advised, or none where the patch does; `by` is what build.sh
     builds it by, if not by its name, and `sources` the folder in out/ that the patch is for, if there is one.
     """
@@ -37,18 +37,18 @@ class Followed(NamedTuple):
 
 # Of the others, and of the studies of suites.
 OTHERS = {
-    "ck_anderson": Followed(("main=ck_spinlock_anderson_thread",), "ck_anderson-apart"),
-    "ck_ring": Followed(("main=ck_ring", "test=entry"), "ck_ring-own_lines"),
-    "ck_dissemination": Followed(
+    "ck_anderson": AdvicePlan(("main=ck_spinlock_anderson_thread",), "ck_anderson-apart"),
+    "ck_ring": AdvicePlan(("main=ck_ring", "test=entry"), "ck_ring-own_lines"),
+    "ck_dissemination": AdvicePlan(
         ("main=ck_barrier_dissemination_flag",), "ck_dissemination-own_lines", "ck_barriers"
     ),
-    "ck_mcs": Followed(("main=ck_barrier_mcs",), "ck_mcs-own_lines", "ck_barriers"),
-    "kt_for": Followed(("kt_for=ktf_worker_t",), "kt_for-blocks"),
-    "urcu_wfcq": Followed((), "urcu_wfcq-patched", sources="urcu_wfcq"),
+    "ck_mcs": AdvicePlan(("main=ck_barrier_mcs",), "ck_mcs-own_lines", "ck_barriers"),
+    "kt_for": AdvicePlan(("kt_for=ktf_worker_t",), "kt_for-blocks"),
+    "urcu_wfcq": AdvicePlan((), "urcu_wfcq-patched", sources="urcu_wfcq"),
 }
 # (in the builds at 0 what a thread has begins at multiples of a line, and fills lines)
 SUITES = {
-    program: Followed((), f"{program}-at-0")
+    program: AdvicePlan((), f"{program}-at-0")
     for program in ("linear_regression", "string_match", "word_count")
 }
 # What isn't shown of what is advised: why, where it is declared, how blocks are made, sizes and counts.
@@ -62,7 +62,7 @@ CODE = re.compile(r"give each element [^`]*(`struct [^`]*`)")
 COUNTED = re.compile(r"useless (\d+) before, (\d+) after; useful (\d+), (\d+)")
 
 
-def told(todo):
+def fix_text(todo):
     """What is advised, in short."""
     code = CODE.match(todo)
     return code[1] if code else REST.sub("", todo)
@@ -90,7 +90,7 @@ class Study:
         kept = os.path.join(BUILT, f"{name}.elf")
         if name == self.of.repaired and os.path.exists(kept):
             return kept
-        source, *flags = builds()[self.name][name]
+        source, *flags = study_builds()[self.name][name]
         for file in os.listdir(STUDIES):
             if file.endswith((".c", ".h")) and not os.path.exists(os.path.join(self.folder, file)):
                 shutil.copy(os.path.join(STUDIES, file), self.folder)
@@ -102,7 +102,7 @@ class Study:
         )
         return out
 
-    def missed(self, program):
+    def count_misses(self, program):
         """The useless and the useful misses of a run."""
         trace = os.path.join(self.folder, "trace")
         subprocess.run(
@@ -116,7 +116,7 @@ class Study:
         found = re.search(r"^total cold \d+ useful (\d+) useless (\d+)$", told, re.MULTILINE)
         return int(found[2]), int(found[1])
 
-    def look(self, program):
+    def run_view(self, program):
         """What view finds of a run; the patch is beside it."""
         words = [
             "run",
@@ -142,7 +142,7 @@ class Study:
         )
         return json.loads(ran.stdout)
 
-    def changed(self):
+    def build_fixed(self):
         """The program as it is advised."""
         if self.of.sources:
             build_others(self.name, PATCH=self.patch)
@@ -152,14 +152,14 @@ class Study:
 
     def row(self):
         """The row of the table, and what is wrong."""
-        found = self.look(self.build(self.name))
+        found = self.run_view(self.build(self.name))
         advised = [it for it in found["objects"] if it["repaired"]]
         together = [it for it in found["notes"] if it.startswith("all that is to do")]
         counts = COUNTED.search(together[0] if together else advised[0]["todo"] if advised else "")
         before = found["total"]["useless"], found["total"]["useful"]
         foretold = (int(counts[2]), int(counts[4])) if counts else before
-        counted = self.missed(self.changed())
-        how = "; ".join(told(it["todo"]) for it in advised) or "nothing"
+        counted = self.count_misses(self.build_fixed())
+        how = "; ".join(fix_text(it["todo"]) for it in advised) or "nothing"
         is_good = abs(sum(counted) - sum(foretold)) * 10 < sum(before) and (
             sum(counted) < sum(before) or not counts
         )
@@ -189,12 +189,12 @@ def main(words):
         rows.append(row)
         wrong += bad
     heads = ["Program", "What is advised", "Useless and useful before", "Foretold", "Counted"]
-    text = table(heads, rows)
+    text = markdown_table(heads, rows)
     print(text)
     for fault in wrong:
         print(fault)
     if "--renew" in words:
-        renew({"advice": text})
+        renew_document({"advice": text})
     return 1 if wrong else 0
 
 

@@ -13,8 +13,15 @@ import tempfile
 
 HERE = os.path.dirname(os.path.abspath(__file__))
 sys.path.insert(0, os.path.join(HERE, "..", "studies"))
-from costs import Build, text  # noqa: E402
-from report import Run, block, renew, shown, table, with_objects  # noqa: E402
+from costs import Build, program_output  # noqa: E402
+from report import (  # noqa: E402
+    Run,
+    code_block,
+    renew_document,
+    address_text,
+    markdown_table,
+    object_rows,
+)
 
 OUT = os.path.join(HERE, "out")
 # Of each study its builds: as it is, and after each repair.
@@ -39,42 +46,42 @@ MOVED = {"rte_ring-together": ("rte_ring-together-at-24", 24)}
 MOST, MOST_OF_ONE = 2, 2
 
 
-def first(lines):
+def first_rows(lines):
     """The rows of the first lines of a list, each with the first objects on it."""
-    return [text for rows in with_objects(lines[:MOST], MOST_OF_ONE) for text in rows]
+    return [text for rows in object_rows(lines[:MOST], MOST_OF_ONE) for text in rows]
 
 
 def excerpt(name, run, build):
     """The first observed lines of a report, and the lines of its misses that are the most useless."""
-    observed = run.report.of_kind("observed")
+    observed = run.report.lines_of_kind("observed")
     missed = [it for it in build.missed if it.useless > 0]
-    return block(
+    return code_block(
         [
             f"{name}: lines {len(run.report.lines)}, {len(observed)} of them observed",
-            *first([(it.text, it.objects) for it in observed]),
+            *first_rows([(it.text, it.objects) for it in observed]),
         ]
         + [
             f"{name}: lines with useless misses {len(missed)}",
-            *first([(it.texts[0], it.texts[1:]) for it in missed]),
+            *first_rows([(it.texts[0], it.texts[1:]) for it in missed]),
         ]
     )
 
 
-def useless(told, base, size):
+def count_false_sharing(told, base, size):
     """The useless misses of all lines of a text of misses that lie in a range."""
     found = re.findall(r"^line (\S+) cold \d+ useful \d+ useless (\d+)$", told, re.MULTILINE)
     return sum(int(count) for at, count in found if base <= int(at, 16) < base + size)
 
 
-def foretold(name, runs):
+def prediction_row(name, runs):
     """The first predicted line of a report: what it costs under its own layout, what the lines of 64 bytes that it touches cost, and, where
     the data lie so in another build, what is observed there."""
-    line = runs[name].report.of_kind("shifted", "doubled")[0]
+    line = runs[name].report.lines_of_kind("shifted", "doubled")[0]
     with tempfile.TemporaryDirectory() as work:
         settings, trace = os.path.join(work, "settings"), os.path.join(work, "trace")
         with open(settings, "w") as file:
             file.write(SETTINGS)
-        text(
+        program_output(
             "run",
             os.path.join(OUT, f"{name}.elf"),
             "--settings",
@@ -84,17 +91,35 @@ def foretold(name, runs):
             "--output",
             os.devnull,
         )
-        there = useless(
-            text("misses", trace, "--size", str(line.size), "--shift", str(line.base % line.size)),
+        there = count_false_sharing(
+            program_output(
+                "misses", trace, "--size", str(line.size), "--shift", str(line.base % line.size)
+            ),
             line.base,
             line.size,
         )
-        inside = useless(text("misses", trace), line.base & -64, line.size + line.base % 64)
-    row = [name, line.kind, f"`{shown(line.base)}`", line.size, line.count, there, inside, "-", "-"]
+        inside = count_false_sharing(
+            program_output("misses", trace), line.base & -64, line.size + line.base % 64
+        )
+    row = [
+        name,
+        line.kind,
+        f"`{address_text(line.base)}`",
+        line.size,
+        line.count,
+        there,
+        inside,
+        "-",
+        "-",
+    ]
     if name in MOVED:
         other, far = MOVED[name]
-        seen = [it for it in runs[other].report.of_kind("observed") if it.base == line.base + far]
-        row[-2:] = [f"`{shown(it.base)}` of {other}" for it in seen] + [
+        seen = [
+            line
+            for line in runs[other].report.lines_of_kind("observed")
+            if line.base == line.base + far
+        ]
+        row[-2:] = [f"`{address_text(it.base)}` of {other}" for it in seen] + [
             own.count for own in seen
         ] or ["-", "-"]
     return row
@@ -114,13 +139,13 @@ def main(words):
             run, build = Run(path, settings), Build(path, settings, is_worst=True)
             runs[name] = run
             counts = [
-                len(run.report.of_kind("observed")),
-                run.report.sum("observed"),
-                run.by_word.sum("observed"),
+                len(run.report.lines_of_kind("observed")),
+                run.report.sum_counts("observed"),
+                run.by_word.sum_counts("observed"),
             ]
-            costs.append([name, run.report.steps, *counts, *build.total, run.told()])
+            costs.append([name, run.report.steps, *counts, *build.total, run.excerpt_title()])
             if build.pair and name == STUDIES[study][0]:
-                fights.append([name, f"`{shown(build.base)}`", build.count, *build.pair])
+                fights.append([name, f"`{address_text(build.base)}`", build.count, *build.pair])
             shown_here.append(excerpt(name, run, build))
             wrong += [f"{name}: {it}" for it in run.wrong + build.wrong]
         parts[study] = "\n\n".join(shown_here)
@@ -135,8 +160,8 @@ def main(words):
         "Useless",
         "Recount",
     ]
-    parts["others"] = table(heads, costs)
-    parts["others' fights"] = table(
+    parts["others"] = markdown_table(heads, costs)
+    parts["others' fights"] = markdown_table(
         ["Build", "Line", "Count", "Who takes it most", "From whom", "Taken", "For the same word"],
         fights,
     )
@@ -151,13 +176,15 @@ def main(words):
         "Observed",
         "Count",
     ]
-    parts["others foretold"] = table(heads, [foretold(it, runs) for it in PREDICTED if it in runs])
+    parts["others foretold"] = markdown_table(
+        heads, [prediction_row(it, runs) for it in PREDICTED if it in runs]
+    )
     for name, told in parts.items():
         print(f"\n== {name}\n\n{told}")
     for fault in wrong:
         print(fault)
     if "--renew" in words:
-        renew(parts)
+        renew_document(parts)
     return 1 if wrong else 0
 
 

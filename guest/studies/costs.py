@@ -12,13 +12,22 @@ import subprocess
 import sys
 import tempfile
 
-from report import PROGRAM, SETTINGS, TOP, Report, builds, renew, shown, table
+from report import (
+    PROGRAM,
+    SETTINGS,
+    TOP,
+    Report,
+    study_builds,
+    renew_document,
+    address_text,
+    markdown_table,
+)
 
 sys.path.insert(0, os.path.join(TOP, "tools"))
 import recount_misses  # noqa: E402
 
 
-def text(*words):
+def program_output(*words):
     """What a call of the program prints, which must end well."""
     ran = subprocess.run([PROGRAM, *words], stdout=subprocess.PIPE, text=True, check=False)
     if ran.returncode != 0:
@@ -26,7 +35,7 @@ def text(*words):
     return ran.stdout
 
 
-def place(path, pc, name):
+def source_place(path, pc, name):
     """The line of the source that has an instruction, with its function and the one that it is inlined in; a function of the C library,
     which has no line tables, by its name."""
     words = ["llvm-symbolizer", f"--obj={path}", "--output-style=JSON", f"{pc:#x}"]
@@ -39,7 +48,7 @@ def place(path, pc, name):
         if frame["FileName"] and frame["Line"]
     ]
     if not lines:
-        return f"`{name}`, at `{shown(pc)}`"
+        return f"`{name}`, at `{address_text(pc)}`"
     return f"{lines[0]} ({' < '.join(it['FunctionName'] for it in frames[:2])})"
 
 
@@ -54,9 +63,11 @@ class Build:
             with open(settings, "w") as file:
                 file.write(settings_text)
             observed = Report(
-                text("run", path, "--settings", settings, "--trace", trace, "--output", os.devnull)
-            ).of_kind("observed")
-            counted = text("misses", trace)
+                program_output(
+                    "run", path, "--settings", settings, "--trace", trace, "--output", os.devnull
+                )
+            ).lines_of_kind("observed")
+            counted = program_output("misses", trace)
             with open(trace, "rb") as file:
                 if list(recount_misses.misses_text(file.read(), 64, 0)) != counted.splitlines():
                     self.wrong.append(f"{path}: recounted, the misses are other ones")
@@ -64,33 +75,34 @@ class Build:
                 r"^total cold (\d+) useful (\d+) useless (\d+)$", counted, re.MULTILINE
             ).groups()
             self.missed = [
-                Missed(block) for block in re.split(r"^(?=line )", counted, flags=re.MULTILINE)[1:]
+                MissLine(block)
+                for block in re.split(r"^(?=line )", counted, flags=re.MULTILINE)[1:]
             ]
             lines = {it.base: it for it in observed}
             bases = [it.base for it in (self.missed if is_worst else observed)]
             self.base = next(iter(bases), None)
             self.line = lines.get(self.base)
-            self.pair = None if self.base is None else self.explained(settings)
+            self.pair = None if self.base is None else self.explain_line(settings)
 
-    def explained(self, settings):
+    def explain_line(self, settings):
         start = self.line.start if self.line else 0
-        told = text(
-            "explain", self.path, shown(self.base), "64", str(start), "--settings", settings
+        told = program_output(
+            "explain", self.path, address_text(self.base), "64", str(start), "--settings", settings
         )
         self.count = int(re.search(r"^line .* count (\d+)$", told, re.MULTILINE)[1])
         if self.line and self.count != self.line.count:
             self.wrong.append(
-                f"{self.path}: the report counts {self.line.count} of {shown(self.base)}, and explain {self.count}"
+                f"{self.path}: the report counts {self.line.count} of {address_text(self.base)}, and explain {self.count}"
             )
         found = re.search(r"^pair (\S+) (\S+) taken (\d+) same (\d+)$", told, re.MULTILINE)
         if found is None:
             return None
         names = dict(re.findall(r"^site (\S+) .* (\S+)$", told, re.MULTILINE))
-        places = [place(self.path, int(it, 16), names[it]) for it in found.groups()[:2]]
+        places = [source_place(self.path, int(it, 16), names[it]) for it in found.groups()[:2]]
         return [*reversed(places), *found.groups()[2:]]
 
 
-class Missed:
+class MissLine:
     """A line of the text of misses, with what stands on it."""
 
     def __init__(self, told):
@@ -100,7 +112,7 @@ class Missed:
 
 
 def main(words):
-    studies = builds()
+    studies = study_builds()
     names = [it for it in words if it != "--renew"] or list(studies)
     if "--renew" in words and names != list(studies):
         sys.exit("costs.py: --renew is for all studies")
@@ -112,7 +124,7 @@ def main(words):
             build = Build(os.path.join(work, f"{name}.elf"), SETTINGS.get(name.split("-")[0], ""))
             costs.append([name, *build.total])
             if build.pair:
-                fights.append([name, f"`{shown(build.base)}`", build.count, *build.pair])
+                fights.append([name, f"`{address_text(build.base)}`", build.count, *build.pair])
             wrong += build.wrong
     heads = [
         "Build",
@@ -124,15 +136,15 @@ def main(words):
         "For the same word",
     ]
     parts = {
-        "costs": table(["Build", "Cold", "Useful", "Useless"], costs),
-        "fights": table(heads, fights),
+        "costs": markdown_table(["Build", "Cold", "Useful", "Useless"], costs),
+        "fights": markdown_table(heads, fights),
     }
     for name, told in parts.items():
         print(f"\n== {name}\n\n{told}")
     for fault in wrong:
         print(fault)
     if "--renew" in words:
-        renew(parts)
+        renew_document(parts)
     return 1 if wrong else 0
 
 

@@ -7,7 +7,18 @@ where a program doesn't end with exit 0, or a recount says otherwise than a repo
 import os
 import sys
 
-from report import BUILT, SETTINGS, Run, block, builds, commit, renew, shown, table, with_objects
+from report import (
+    BUILT,
+    SETTINGS,
+    Run,
+    code_block,
+    study_builds,
+    commit_name,
+    renew_document,
+    address_text,
+    markdown_table,
+    object_rows,
+)
 
 # How many lines of a report a study shows.
 MOST = 4
@@ -15,20 +26,20 @@ MOST = 4
 PREDICTED = {"linear_regression": 0, "word_count": 0, "string_match": 0}
 
 
-def summary(runs):
+def summary_table(runs):
     rows = []
     for name, run in runs.items():
         counts = [
-            len(run.report.of_kind("observed")),
-            run.report.sum("observed"),
-            run.by_word.sum("observed"),
+            len(run.report.lines_of_kind("observed")),
+            run.report.sum_counts("observed"),
+            run.by_word.sum_counts("observed"),
         ]
         predicted = [
-            len(run.report.of_kind("shifted", "doubled")),
-            run.report.sum("shifted", "doubled"),
+            len(run.report.lines_of_kind("shifted", "doubled")),
+            run.report.sum_counts("shifted", "doubled"),
         ]
-        rows.append([name, run.report.steps, *counts, *predicted, run.told()])
-    return table(
+        rows.append([name, run.report.steps, *counts, *predicted, run.excerpt_title()])
+    return markdown_table(
         [
             "Build",
             "Steps",
@@ -45,50 +56,56 @@ def summary(runs):
 
 def excerpt(name, run):
     """The first observed lines of a report with what stands on them, or else the first predicted ones, as the program printed them."""
-    lines, observed = run.report.lines, run.report.of_kind("observed")
+    lines, observed = run.report.lines, run.report.lines_of_kind("observed")
     first = (observed or lines)[:MOST]
     made = [
         f"{name}: lines {len(lines)}" + (f", {len(observed)} of them observed" if lines else "")
     ]
-    for rows in with_objects([(it.text, it.objects) for it in first]):
+    for rows in object_rows([(it.text, it.objects) for it in first]):
         made += rows
-    return block(made + [".."] * (len(observed or lines) > MOST))
+    return code_block(made + [".."] * (len(observed or lines) > MOST))
 
 
-def placements(runs):
+def placement_table(runs):
     rows = []
     for name, run in runs.items():
         if "-at-" in name:
             report = run.report
             rows.append(
                 [name.split("-at-")[1]]
-                + [len(report.of_kind("observed")), report.sum("observed")]
-                + [len(report.of_kind("shifted")), report.sum("shifted")]
-                + [len(report.of_kind("doubled")), report.sum("doubled")]
+                + [len(report.lines_of_kind("observed")), report.sum_counts("observed")]
+                + [len(report.lines_of_kind("shifted")), report.sum_counts("shifted")]
+                + [len(report.lines_of_kind("doubled")), report.sum_counts("doubled")]
             )
-    return table(["Place", "Observed", "Counts", "Shifted", "Counts", "Doubled", "Counts"], rows)
+    return markdown_table(
+        ["Place", "Observed", "Counts", "Shifted", "Counts", "Doubled", "Counts"], rows
+    )
 
 
-def foretold(study, place, runs):
+def prediction_rows(study, place, runs):
     """Each shifted line that was predicted at a place, beside the line that is observed where the data lie so."""
     rows = []
-    for line in runs[f"{study}-at-{place}"].report.of_kind("shifted"):
+    for line in runs[f"{study}-at-{place}"].report.lines_of_kind("shifted"):
         moved = (place - line.base) % 64
         other = runs.get(f"{study}-at-{moved}")
         seen = (
-            [it for it in other.report.of_kind("observed") if it.base == line.base + moved - place]
+            [
+                line
+                for line in other.report.lines_of_kind("observed")
+                if line.base == line.base + moved - place
+            ]
             if other
             else []
         )
         rows.append(
-            [study, place, f"`{shown(line.base)}`", line.count, moved]
-            + ([f"`{shown(seen[0].base)}`", seen[0].count] if seen else ["-", "-"])
+            [study, place, f"`{address_text(line.base)}`", line.count, moved]
+            + ([f"`{address_text(seen[0].base)}`", seen[0].count] if seen else ["-", "-"])
         )
     return rows
 
 
 def main(words):
-    studies = {study: list(found) for study, found in builds().items()}
+    studies = {study: list(found) for study, found in study_builds().items()}
     names = [it for it in words if it != "--renew"] or list(studies)
     if "--renew" in words and names != list(studies):
         sys.exit("run.py: --renew is for all studies")
@@ -98,13 +115,13 @@ def main(words):
         wrong += len(runs[name].wrong)
         for fault in runs[name].wrong:
             print(f"{name}: {fault}")
-    parts = {"suite": summary(runs)}
+    parts = {"suite": summary_table(runs)}
     for study in names:
         parts[study] = "\n\n".join(
             excerpt(it, runs[it]) for it in studies[study] if "-at-" not in it
         )
         if any("-at-" in it for it in studies[study]):
-            parts[f"{study} by place"] = placements({it: runs[it] for it in studies[study]})
+            parts[f"{study} by place"] = placement_table({it: runs[it] for it in studies[study]})
     heads = [
         "Study",
         "Place",
@@ -118,18 +135,18 @@ def main(words):
         row
         for study, place in PREDICTED.items()
         if study in names
-        for row in foretold(study, place, runs)
+        for row in prediction_rows(study, place, runs)
     ]
-    parts["foretold"] = table(heads, rows)
+    parts["foretold"] = markdown_table(heads, rows)
     slowest = max(runs, key=lambda own: runs[own].seconds)
-    parts["commit"] = f"Made at commit {commit()}."
+    parts["commit"] = f"Made at commit {commit_name()}."
     for name, text in parts.items():
         print(f"\n== {name}\n\n{text}")
     print(
         f"\n{len(runs)} programs, {wrong} wrong; the slowest, {slowest}, ran for {runs[slowest].seconds:.1f} s"
     )
     if "--renew" in words:
-        renew(parts)
+        renew_document(parts)
     return 1 if wrong else 0
 
 

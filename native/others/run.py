@@ -20,7 +20,7 @@ HERE = os.path.dirname(os.path.abspath(__file__))
 TOP = os.path.join(HERE, "..", "..")
 PREDATOR = os.path.join(TOP, "bin", "predator")
 sys.path.insert(0, os.path.join(TOP, "guest", "studies"))
-from report import renew, table  # noqa: E402
+from report import renew_document, markdown_table  # noqa: E402
 
 OUT = os.path.join(HERE, "out")
 ROWS = os.path.join(HERE, "first_rows.txt")
@@ -151,21 +151,21 @@ STUDIES = {
 }
 
 
-def built(names: Sequence[str]) -> None:
+def build_path(names: Sequence[str]) -> None:
     own = [it for it in names if not STUDIES[it].is_debian]
     if own:
         subprocess.run([os.path.join(HERE, "build.sh"), *own], check=True)
 
 
-def text_of(size: int) -> bytes:
+def make_text(size: int) -> bytes:
     """A text that is the same each time, and that can be made smaller."""
     words = [f"{it * 7919 % 1009:o}" for it in range(4096)]
     return " ".join(words[it * it % 4096] for it in range(size // 4)).encode()[:size]
 
 
-def film_of(count: int) -> bytes:
+def make_film(count: int) -> bytes:
     """So many pictures of 176 times 144 points, in which a text wanders."""
-    size, line = 176 * 144, text_of(1 << 16)
+    size, line = 176 * 144, make_text(1 << 16)
     pictures = (
         b"FRAME\n" + line[2 * number : 2 * number + size] + bytes([128]) * (size // 2)
         for number in range(count)
@@ -173,7 +173,7 @@ def film_of(count: int) -> bytes:
     return b"YUV4MPEG2 W176 H144 F25:1 Ip A1:1 C420jpeg\n" + b"".join(pictures)
 
 
-def made(study: Study, folder: str) -> dict[str, str]:
+def make_files(study: Study, folder: str) -> dict[str, str]:
     """The files that a study's words stand for."""
     found = {it: os.path.join(folder, it.lower()) for it in (TEXT, TREE, CONFIG)}
     found |= {
@@ -181,9 +181,9 @@ def made(study: Study, folder: str) -> dict[str, str]:
         FILM: os.path.join(folder, "film.y4m"),
     }
     for name, data in (
-        (TEXT, text_of(study.text)),
+        (TEXT, make_text(study.text)),
         (CONFIG, study.config.encode()),
-        (FILM, film_of(8) if FILM in study.words else b""),
+        (FILM, make_film(8) if FILM in study.words else b""),
     ):
         with open(found[name], "wb") as file:
             file.write(data)
@@ -191,7 +191,7 @@ def made(study: Study, folder: str) -> dict[str, str]:
         os.makedirs(os.path.join(found[TREE], f"folder{own}"))
         for at in range(25):
             with open(os.path.join(found[TREE], f"folder{own}", f"file{at}.txt"), "wb") as file:
-                file.write(text_of(60_000)[own * 1000 + at * 37 :][:8192])
+                file.write(make_text(60_000)[own * 1000 + at * 37 :][:8192])
     if OBJECTS in study.words:
         compile_all(folder, found[OBJECTS][1:])
     return found
@@ -221,9 +221,9 @@ def compile_all(folder: str, listed: str) -> None:
         )
 
 
-def recorded(study: Study, program: str, folder: str) -> str:
+def record_trace(study: Study, program: str, folder: str) -> str:
     """The trace of a program that has ended as it should."""
-    trace, files = os.path.join(folder, "trace"), made(study, folder)
+    trace, files = os.path.join(folder, "trace"), make_files(study, folder)
     path = shutil.which(program) if study.is_debian else os.path.join(OUT, program)
     if path is None:
         sys.exit(f"run.py: {program} isn't installed")
@@ -266,16 +266,16 @@ def is_named(name: str) -> bool:
     return not all(re.fullmatch(r"\S+\+0x[0-9a-f]+|0x[0-9a-f]+", it) for it in parts)
 
 
-def named(name: str) -> str:
+def object_name(name: str) -> str:
     """A row's object, without what tells it from others of its name and what lies beside it."""
     name = re.sub(r" \(\d+ lives\).*|, beside .*", "", name)
     return name if len(name) <= 200 else name[:200] + " .."
 
 
-def row(study: Study, program: str) -> tuple[list[object], str]:
+def table_row(study: Study, program: str) -> tuple[list[object], str]:
     """What is counted of a program: all, what is looked at, and how much of what is useless has a name or a line; and its first rows."""
     with tempfile.TemporaryDirectory(prefix="predator-others-") as folder:
-        trace, kept = recorded(study, program, folder), os.path.join(folder, "kept.json")
+        trace, kept = record_trace(study, program, folder), os.path.join(folder, "kept.json")
         words = [PREDATOR, "view", "replay", trace, "--no-predicted", "--json", kept]
         screen = subprocess.run(words, stdout=subprocess.PIPE, text=True, check=True).stdout
         with open(kept, encoding="utf-8") as file:
@@ -289,7 +289,7 @@ def row(study: Study, program: str) -> tuple[list[object], str]:
     ]
     known = sum(it["useless"] for it in objects if is_named(it["name"]))
     is_clean = "nothing here is worth doing" in screen
-    rows = "".join(f"  {place}  {named(name)}\n" for place, name in ROW.findall(screen))
+    rows = "".join(f"  {place}  {object_name(name)}\n" for place, name in ROW.findall(screen))
     cells = [
         os.path.basename(program),
         f"{found['accesses']:,}",
@@ -309,13 +309,15 @@ def main(words: Sequence[str]) -> int:
     for study in names:
         if study not in STUDIES:
             sys.exit(f"run.py: {study}: the studies are {', '.join(STUDIES)}")
-    built(names)
+    build_path(names)
     heads = ["Program", "Accesses", "Bytes each", "Useful", "Useless", "Of the object", "Named"]
-    found = [row(STUDIES[name], build) for name in names for build in STUDIES[name].builds]
-    text, rows = table(heads, [cells for cells, _ in found]), "".join(it for _, it in found)
+    found = [table_row(STUDIES[name], build) for name in names for build in STUDIES[name].builds]
+    text, rows = markdown_table(heads, [cells for cells, _ in found]), "".join(
+        it for _, it in found
+    )
     print(text, rows, sep="\n")
     if "--renew" in words:
-        renew({"others of this machine": text})
+        renew_document({"others of this machine": text})
         with open(ROWS, "w", encoding="utf-8") as file:
             file.write(
                 f"The first three rows of each program's screen, as native/others/run.py has recorded and shown it.\n\n{rows}"

@@ -41,15 +41,15 @@ NAMES = {
 PLACED = ("atomics", "waits")
 
 
-def text_of(words, **more):
+def output_of(words, **more):
     return subprocess.run(words, stdout=subprocess.PIPE, check=True, text=True, **more).stdout
 
 
-def layout(name, path):
+def write_linker_script(name, path):
     """Writes a script for the linker by which the program's variables begin where those of the build for RV32 do, within a page."""
     rows = (
         line.split()
-        for line in text_of(
+        for line in output_of(
             ["readelf", "-sW", os.path.join(GUEST, "built", f"{name}.elf")]
         ).splitlines()
     )
@@ -89,7 +89,7 @@ def build(name, folder):
     script = []
     if name in PLACED:
         path = os.path.join(folder, f"{name}.ld")
-        layout(name, path)
+        write_linker_script(name, path)
         script = [f"-Wl,-T,{path}"]
     made = [os.path.join(folder, f"{it}.o") for it in (name, "calls")]
     subprocess.run(
@@ -114,7 +114,7 @@ def build(name, folder):
     return out
 
 
-def listed(report, without=()):
+def listed_lines(report, without=()):
     """The observed lines: what stands on each, how far the line begins behind the first of it, and the verdict."""
     found = []
     for line in report.observed():
@@ -133,7 +133,7 @@ def listed(report, without=()):
     return sorted(found)
 
 
-def reports(name, folder):
+def compare_reports(name, folder):
     predator = os.environ.get("PREDATOR") or os.path.join(TOP, "bin", "predator")
     ran = subprocess.run(
         [predator, "run", os.path.join(GUEST, "built", f"{name}.elf")],
@@ -166,7 +166,7 @@ def main(words):
     folder, *names = words
     wrong = 0
     for name in names or NAMES:
-        there, here = (listed(it, NAMES[name]) for it in reports(name, folder))
+        there, here = (listed_lines(it, NAMES[name]) for it in compare_reports(name, folder))
         same = there == here
         wrong += not same
         print(f"{name}: {len(there)} lines, {'the same' if same else 'others'}")

@@ -46,12 +46,12 @@ class Case(NamedTuple):
     # whether it writes although it is refused: what of its trace comes before the fault
     leaves: bool = False
 
-    def refuses(self) -> bool:
+    def is_refused(self) -> bool:
         return self.status in (1, 2, 3, 4, 5, 6, 13, 14)
 
-    def stays(self) -> bool:
+    def keeps_outputs(self) -> bool:
         """Whether each output is to stay as it was."""
-        return self.refuses() and not self.leaves
+        return self.is_refused() and not self.leaves
 
     def renamed(self, name: str, other: str) -> "Case":
         """The same call over a file of another name."""
@@ -68,55 +68,55 @@ class Case(NamedTuple):
         )
 
 
-def lines(*texts: str) -> bytes:
+def join_lines(*texts: str) -> bytes:
     return "".join(f"{it}\n" for it in texts).encode()
 
 
-def printed_by_case(name: str, words: str) -> bytes:
+def worked_text(name: str, words: str) -> bytes:
     """What a case says that a call prints."""
     with open(os.path.join(DATA, name), encoding="utf-8") as file:
         rows = file.read().split("\n")
     at = rows.index(f"$ {words}") + 1
     end = next(it for it in range(at, len(rows)) if not rows[it].startswith("|"))
-    return lines(*(it[2:] for it in rows[at:end]))
+    return join_lines(*(it[2:] for it in rows[at:end]))
 
 
-def header(harts: int = 8, first: int = 0, version: int = 1) -> bytes:
+def trace_header(harts: int = 8, first: int = 0, version: int = 1) -> bytes:
     return struct.pack("<8sQHH", f"PRDTRC0{version}".encode(), first, harts, 0)
 
 
-def ending(accesses: int, steps: int | None = None, outcome: int = 0) -> bytes:
+def trace_end(accesses: int, steps: int | None = None, outcome: int = 0) -> bytes:
     return struct.pack(
         "<BBBHIQQ", 6, outcome, 0, 0, 0, accesses if steps is None else steps, accesses
     )
 
 
-def records(touches: Iterable[Touch]) -> bytes:
+def access_records(touches: Iterable[Touch]) -> bytes:
     return b"".join(
         struct.pack("<BHIB", 1 if kind == "R" else 2, hart, addr, 4) for hart, kind, addr in touches
     )
 
 
-def trace(touches: list[Touch], before: bytes = b"") -> bytes:
-    return header() + before + records(touches) + ending(len(touches))
+def trace_bytes(touches: list[Touch], before: bytes = b"") -> bytes:
+    return trace_header() + before + access_records(touches) + trace_end(len(touches))
 
 
-def symbol(addr: int, size: int, name: bytes) -> bytes:
+def symbol_record(addr: int, size: int, name: bytes) -> bytes:
     return struct.pack("<BBIIH", 5, 1, addr, size, len(name)) + name
 
 
-def converted(touches: list[Touch]) -> bytes:
+def trace_version_2(touches: list[Touch]) -> bytes:
     """The trace of these accesses in version 2."""
-    made, last = bytearray(header(version=2)), 0
+    made, last = bytearray(trace_header(version=2)), 0
     for hart, kind, addr in touches:
         made += bytes((0x14 if kind == "R" else 0x24, hart)) + encode_distance(addr - last)
         last = addr
-    return bytes(made) + ending(len(touches))
+    return bytes(made) + trace_end(len(touches))
 
 
-def sited(touches: Iterable[Sited], end: bytes = b"") -> bytes:
+def trace_version_3(touches: Iterable[Sited], end: bytes = b"") -> bytes:
     """The trace of these accesses in version 3, each with its pc."""
-    made, last, pcs, count = bytearray(header(version=3)), 0, dict[int, int](), 0
+    made, last, pcs, count = bytearray(trace_header(version=3)), 0, dict[int, int](), 0
     for hart, kind, addr, pc in touches:
         made += (
             bytes((0x14 if kind == "R" else 0x24, hart))
@@ -124,7 +124,7 @@ def sited(touches: Iterable[Sited], end: bytes = b"") -> bytes:
             + encode_distance(pc - pcs.get(hart, 0))
         )
         last, pcs[hart], count = addr, pc, count + 1
-    return bytes(made) + (end or ending(count))
+    return bytes(made) + (end or trace_end(count))
 
 
 # The pcs of two harts that write neighbouring words in turn, and how each two of these accesses are spelled behind others.
@@ -132,7 +132,7 @@ PCS = (0x10044, 0x20048)
 TURN = b"\x24\0\7\0\x24\1\x08\0"
 
 
-def in_turn(count: int) -> list[Sited]:
+def alternate(count: int) -> list[Sited]:
     """So many of these accesses."""
     return [(at % 2, "W", 0x1040 + 4 * (at % 2), PCS[at % 2]) for at in range(count)]
 
@@ -146,7 +146,7 @@ def by_line(touches: list[Touch]) -> list[Sited]:
 TABLE = b"0x10000 4 0x20000\n"
 
 
-def moved(touches: list[Touch]) -> list[Touch]:
+def move_accesses(touches: list[Touch]) -> list[Touch]:
     return [(hart, kind, 0x20000 if addr == 0x10000 else addr) for hart, kind, addr in touches]
 
 
@@ -155,17 +155,23 @@ WAY = 0x10004
 OVER = TABLE + b"0x1f000 4 0x10004\n"
 
 
-def with_late(count: int) -> list[Touch]:
-    return [it for it in made(count) if it[2] != WAY] + [(0, "W", WAY)] + made(9)
+def with_late_access(count: int) -> list[Touch]:
+    return (
+        [it for it in generated_accesses(count) if it[2] != WAY]
+        + [(0, "W", WAY)]
+        + generated_accesses(9)
+    )
 
 
-def halves(touches: list[Touch], at: int) -> tuple[bytes, bytes]:
+def split_trace(touches: list[Touch], at: int) -> tuple[bytes, bytes]:
     """What is written of these accesses where they are cut."""
-    first = header() + records(touches[:at]) + ending(at, 0, 4)
-    return first, header(first=at) + records(touches[at:]) + ending(len(touches) - at, len(touches))
+    first = trace_header() + access_records(touches[:at]) + trace_end(at, 0, 4)
+    return first, trace_header(first=at) + access_records(touches[at:]) + trace_end(
+        len(touches) - at, len(touches)
+    )
 
 
-def made(count: int) -> list[Touch]:
+def generated_accesses(count: int) -> list[Touch]:
     """The accesses of the made trace."""
     found, state = [], 1
     for _ in range(count):
@@ -176,7 +182,7 @@ def made(count: int) -> list[Touch]:
     return found
 
 
-def fought(count: int) -> list[Touch]:
+def contended_accesses(count: int) -> list[Touch]:
     """Two harts write neighbouring words of a line in turn, twice; so they do with each of some lines that lie apart."""
     return [
         (hart, "W", 0x100000 + 128 * line + 4 * hart)
@@ -185,7 +191,7 @@ def fought(count: int) -> list[Touch]:
     ]
 
 
-def report(
+def report_text(
     outcome: str,
     steps: int,
     accesses: int,
@@ -194,7 +200,7 @@ def report(
     rows: Iterable[str] = (),
     count: int = 0,
 ) -> bytes:
-    return lines(
+    return join_lines(
         "predator report 1",
         f"outcome {outcome}",
         f"steps {steps}",
@@ -207,24 +213,24 @@ def report(
     )
 
 
-def fought_report(count: int) -> bytes:
+def contended_report(count: int) -> bytes:
     rows = []
     for line in range(count):
         base = 0x100000 + 128 * line
         rows.append(f"line observed {base:#010x} 64 start {4 * line} count 3 verdict false")
         rows += [f"word {base + 4 * hart:#010x} reads 0 writes 2 hart {hart}" for hart in (0, 1)]
-    return report("exit 0", 4 * count, 4 * count, "64 0", "1 none 1", rows, count)
+    return report_text("exit 0", 4 * count, 4 * count, "64 0", "1 none 1", rows, count)
 
 
-def fought_misses(count: int) -> bytes:
+def contended_misses(count: int) -> bytes:
     rows = [
         f"line {0x100000 + 128 * line:#010x} cold 2 useful 0 useless 2" for line in range(count)
     ]
     total = f"total cold {2 * count} useful 0 useless {2 * count}"
-    return lines("misses 64 0", f"accesses {4 * count}", f"lines {count}", *rows, total, "end")
+    return join_lines("misses 64 0", f"accesses {4 * count}", f"lines {count}", *rows, total, "end")
 
 
-def fought_blame(count: int) -> bytes:
+def contended_blame(count: int) -> bytes:
     rows = []
     for base in range(0x100000, 0x100000 + 128 * count, 128):
         one, other = f"{base:#010x}", f"{base + 4:#010x}"
@@ -241,19 +247,21 @@ def fought_blame(count: int) -> bytes:
         *rows,
         f"total takings {3 * count}",
     )
-    return lines("predator blame 1", *told, "end")
+    return join_lines("predator blame 1", *told, "end")
 
 
-def fought_caches(count: int) -> bytes:
+def contended_caches(count: int) -> bytes:
     rows = [
         f"line {0x100000 + 128 * line:#010x} bounded 3 unbounded 3 evicted 0"
         for line in range(count)
     ]
     total = f"total bounded {3 * count} unbounded {3 * count} evicted 0"
-    return lines("caches 64 64 64", f"accesses {4 * count}", f"lines {count}", *rows, total, "end")
+    return join_lines(
+        "caches 64 64 64", f"accesses {4 * count}", f"lines {count}", *rows, total, "end"
+    )
 
 
-def written_state(count: int) -> bytes:
+def state_bytes(count: int) -> bytes:
     """The state of a trace in which hart 0 writes so many words, each of which is a line, and whose tracking begins at the first write."""
     told = struct.pack("<8sIIQQH6xQQQ", b"PRDSTA01", 4, 0, 1, 0, 8, count, count, count)
     told += b"".join(struct.pack("<QQ", 0x100000 + 4 * it, 1) for it in range(count))
@@ -347,12 +355,12 @@ def guest(writes: int, pieces: int, rest: int, code: int = 0) -> Guest:
     piece = text.ljust(4096, b"\0")
     end = struct.pack("<BBBHIQQ", 6, 0, 0, 0, code, steps, writes)
     # (the store is the fourth instruction)
-    first = sited([(0, "W", 0x11000, 0x1000C)], end)[20:-25]
+    first = trace_version_3([(0, "W", 0x11000, 0x1000C)], end)[20:-25]
     return Guest(
         head + text,
         steps,
-        header() + records([(0, "W", 0x11000)] * writes) + end,
-        header(version=3) + (first + b"\x24\0\0\0" * (writes - 1) if writes else b"") + end,
+        trace_header() + access_records([(0, "W", 0x11000)] * writes) + end,
+        trace_header(version=3) + (first + b"\x24\0\0\0" * (writes - 1) if writes else b"") + end,
         piece * pieces + piece[:rest],
     )
 
@@ -365,13 +373,13 @@ def _data(name: str) -> bytes:
         return file.read()
 
 
-def usage() -> bytes:
+def usage_text() -> bytes:
     return _data("usage.txt")
 
 
-def files() -> dict[str, bytes]:
+def input_files() -> dict[str, bytes]:
     """The files that calls read."""
-    pair, fights = [(0, "W", 0x1000), (1, "W", 0x1004), (0, "W", 0x1000)], fought(LINES)
+    pair, fights = [(0, "W", 0x1000), (1, "W", 0x1004), (0, "W", 0x1000)], contended_accesses(LINES)
     return {
         "long.elf": LONG.file,
         "small.elf": SMALL.file,
@@ -382,35 +390,37 @@ def files() -> dict[str, bytes]:
         "settings": b"tracking = 1\nreport = 1\n",
         "schedule": b"0 5\n",
         "table": TABLE,
-        "made": trace(made(MADE)),
-        "fought": trace(fights),
-        "short": trace(made(200)),
-        "two": trace(pair, symbol(0x1000, 8, b"pair")),
-        "taken": trace([(0, "W", 0x1000), (1, "W", 0x1000), (1, "W", 0x2000), (0, "W", 0x1000)]),
-        "turns": trace(pair + [(1, "W", 0x1004)]),
-        "written": trace([(0, "W", 0x100000 + 4 * it) for it in range(LINES)]),
-        "sited": sited(by_line(fights)),
-        "few": sited(in_turn(3)),
+        "made": trace_bytes(generated_accesses(MADE)),
+        "fought": trace_bytes(fights),
+        "short": trace_bytes(generated_accesses(200)),
+        "two": trace_bytes(pair, symbol_record(0x1000, 8, b"pair")),
+        "taken": trace_bytes(
+            [(0, "W", 0x1000), (1, "W", 0x1000), (1, "W", 0x2000), (0, "W", 0x1000)]
+        ),
+        "turns": trace_bytes(pair + [(1, "W", 0x1004)]),
+        "written": trace_bytes([(0, "W", 0x100000 + 4 * it) for it in range(LINES)]),
+        "sited": trace_version_3(by_line(fights)),
+        "few": trace_version_3(alternate(3)),
         "state": STATE,
-        "rest": header(first=2) + ending(0),
+        "rest": trace_header(first=2) + trace_end(0),
         "bad": b"harts = 0\n",
         "script": b"#!/bin/sh\n",
         "over": OVER,
-        "late": trace(with_late(MADE)),
-        "cut": trace(made(MADE))[:CUT_AT],
+        "late": trace_bytes(with_late_access(MADE)),
+        "cut": trace_bytes(generated_accesses(MADE))[:CUT_AT],
     }
 
 
 def writing_cases() -> list[Case]:
     """Calls that write, most of them more than one piece."""
-    first, second = halves(made(MADE), CUT)
-    plain = report("exit 0", LONG.steps, WRITES, "64 0", "16 64 100")
-    small = report("exit 0", SMALL.steps, 3, "64 0", "1 64 1")
+    first, second = split_trace(generated_accesses(MADE), CUT)
+    plain = report_text("exit 0", LONG.steps, WRITES, "64 0", "16 64 100")
+    small = report_text("exit 0", SMALL.steps, 3, "64 0", "1 64 1")
     short, all_words = (
-        made(200),
+        generated_accesses(200),
         "run small.elf --settings settings --schedule schedule --set quantum=3 --trace t --output o".split(),
     )
-    kept = report("exit 0", LINES, LINES, "4 0", "1 none 1")
+    kept = report_text("exit 0", LINES, LINES, "4 0", "1 none 1")
     return [
         Case(
             ("run", "long.elf", "--trace", "t", "--output", "o"),
@@ -437,7 +447,7 @@ def writing_cases() -> list[Case]:
         Case(
             ("run", "small.elf", "--output", "o", "--set", "budget=5"),
             10,
-            report("budget", 5, 1, "64 0", "16 64 100"),
+            report_text("budget", 5, 1, "64 0", "16 64 100"),
             ("small.elf",),
             (("o", b""),),
             b"predator: `budget` in the settings allows more steps, up to 68719476736\n",
@@ -452,15 +462,17 @@ def writing_cases() -> list[Case]:
         Case(
             ("gen", str(MADE), "f"),
             0,
-            printed_by_case("gen.case", f"gen {MADE} f"),
+            worked_text("gen.case", f"gen {MADE} f"),
             (),
-            (("f", trace(made(MADE))),),
+            (("f", trace_bytes(generated_accesses(MADE))),),
         ),
-        Case(("gen", "0", "f"), 0, printed_by_case("gen.case", "gen 0 f"), (), (("f", trace([])),)),
+        Case(
+            ("gen", "0", "f"), 0, worked_text("gen.case", "gen 0 f"), (), (("f", trace_bytes([])),)
+        ),
         Case(
             ("split", "made", str(CUT), "a", "b"),
             0,
-            lines(f"split {CUT} {MADE - CUT}"),
+            join_lines(f"split {CUT} {MADE - CUT}"),
             ("made",),
             (("a", first), ("b", second)),
             again="made",
@@ -470,23 +482,23 @@ def writing_cases() -> list[Case]:
             0,
             b"split 0 200\n",
             ("short",),
-            tuple(zip("ab", halves(short, 0))),
+            tuple(zip("ab", split_trace(short, 0))),
             again="short",
         ),
         Case(
             ("convert", "made", "c"),
             0,
-            lines(f"convert 2 {MADE}"),
+            join_lines(f"convert 2 {MADE}"),
             ("made",),
-            (("c", converted(made(MADE))),),
+            (("c", trace_version_2(generated_accesses(MADE))),),
             again="made",
         ),
         Case(
             ("move", "made", "table", "m"),
             0,
-            lines(f"move {MADE} {sum(it[2] == 0x10000 for it in made(MADE))}"),
+            join_lines(f"move {MADE} {sum(it[2] == 0x10000 for it in generated_accesses(MADE))}"),
             ("table", "made"),
-            (("m", trace(moved(made(MADE)))),),
+            (("m", trace_bytes(move_accesses(generated_accesses(MADE)))),),
             along="made",
         ),
         Case(
@@ -494,7 +506,7 @@ def writing_cases() -> list[Case]:
             0,
             kept,
             ("settings", "written"),
-            (("s", written_state(LINES)),),
+            (("s", state_bytes(LINES)),),
         ),
         Case(
             (
@@ -510,19 +522,19 @@ def writing_cases() -> list[Case]:
                 "s",
             ),
             0,
-            report("exit 0", 0, 2, "4 0", "1 none 1"),
+            report_text("exit 0", 0, 2, "4 0", "1 none 1"),
             ("settings", "state", "rest"),
             (("s", STATE),),
         ),
         # (what is refused within the trace leaves the records before that)
-        *left_cases(),
+        *unfinished_cases(),
     ]
 
 
-def left_cases() -> list[Case]:
-    before = header() + records(moved(made(MADE)[:15000]))
+def unfinished_cases() -> list[Case]:
+    before = trace_header() + access_records(move_accesses(generated_accesses(MADE)[:15000]))
     cut = f"cut: it ends after {CUT_AT} bytes, before the trace does: write or copy it again"
-    first = header() + records(moved(with_late(MADE)[:-10]))
+    first = trace_header() + access_records(move_accesses(with_late_access(MADE)[:-10]))
     taken = (
         "late: an access at this address isn't moved, and others would be moved to where it is: give them another place, or give "
         "this address a line of its own"
@@ -531,20 +543,20 @@ def left_cases() -> list[Case]:
         Case(
             ("move", "cut", "table", "m"),
             5,
-            lines(f"predator: trace Truncated {CUT_AT}"),
+            join_lines(f"predator: trace Truncated {CUT_AT}"),
             ("table", "cut"),
             (("m", before),),
-            lines(f"predator: {cut}"),
+            join_lines(f"predator: {cut}"),
             along="cut",
             leaves=True,
         ),
         Case(
             ("move", "late", "over", "m"),
             14,
-            lines(f"predator: table Occupied {WAY:#010x}"),
+            join_lines(f"predator: table Occupied {WAY:#010x}"),
             ("over", "late"),
             (("m", first),),
-            lines(f"predator: {taken}"),
+            join_lines(f"predator: {taken}"),
             along="late",
             leaves=True,
         ),
@@ -553,53 +565,51 @@ def left_cases() -> list[Case]:
 
 def printing_cases() -> list[Case]:
     """Calls that write nothing. Some of them print more than 64 KiB."""
-    none_taken = lines(
+    none_taken = join_lines(
         "predator blame 1", "accesses 3", "layout 4 0", "lines 0", "total takings 0", "end"
     )
     replay = ("--size", "64", "--settings", "settings")
     caches = ("--size", "64", "--sets", "64", "--ways", "64")
     explain = ("explain", "adds.elf", "0x00011000", "64", "0", "--set", "quantum=1")
-    shown = report("exit 0", SMALL.steps, 3, "64 0", "16 64 100")
+    shown = report_text("exit 0", SMALL.steps, 3, "64 0", "16 64 100")
     return [
-        Case(("replay", "fought", *replay), 0, fought_report(LINES), ("settings", "fought")),
+        Case(("replay", "fought", *replay), 0, contended_report(LINES), ("settings", "fought")),
         Case(
             ("replay", "-", *replay),
             0,
-            fought_report(LINES),
+            contended_report(LINES),
             ("settings", "/dev/stdin"),
             piped="fought",
         ),
-        Case(("misses", "fought"), 0, fought_misses(LINES), ("fought",)),
+        Case(("misses", "fought"), 0, contended_misses(LINES), ("fought",)),
         Case(
             ("misses", "-"),
             0,
-            printed_by_case("misses.case", "misses t"),
+            worked_text("misses.case", "misses t"),
             ("/dev/stdin",),
             piped="turns",
         ),
-        Case(("blame", "sited"), 0, fought_blame(LINES), ("sited",)),
+        Case(("blame", "sited"), 0, contended_blame(LINES), ("sited",)),
         Case(("blame", "-", "--size", "4"), 0, none_taken, ("/dev/stdin",), piped="few"),
-        Case(("caches", "fought", *caches), 0, fought_caches(LINES), ("fought",)),
+        Case(("caches", "fought", *caches), 0, contended_caches(LINES), ("fought",)),
         Case(
             ("sweep", "two", "--size", "8"),
             0,
-            printed_by_case("sweep.case", "sweep t --size 8"),
+            worked_text("sweep.case", "sweep t --size 8"),
             ("two",),
         ),
         Case(
             ("place", "two", "pair"),
             0,
-            printed_by_case("place.case", "place t pair"),
+            worked_text("place.case", "place t pair"),
             ("two",),
             again="two",
         ),
-        Case(
-            ("check", "plain.elf"), 0, printed_by_case("programs.case", "check p"), ("plain.elf",)
-        ),
+        Case(("check", "plain.elf"), 0, worked_text("programs.case", "check p"), ("plain.elf",)),
         Case(
             explain,
             0,
-            printed_by_case("explain.case", "explain p 0x00011000 64 0 --settings one"),
+            worked_text("explain.case", "explain p 0x00011000 64 0 --settings one"),
             ("adds.elf",),
         ),
         Case(("run", "small.elf"), 0, shown, ("small.elf",), said=SMALL.output + b"\n"),
@@ -616,7 +626,7 @@ def refused_cases() -> list[Case]:
         (
             ("gen", "03", "f"),
             1,
-            usage(),
+            usage_text(),
             (),
             (("f", b""),),
             "'03' has a leading zero: N is a whole number up to 1000000000",
@@ -705,5 +715,5 @@ def refused_cases() -> list[Case]:
     ]
 
 
-def cases() -> list[Case]:
+def all_cases() -> list[Case]:
     return writing_cases() + printing_cases() + refused_cases()
