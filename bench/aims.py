@@ -1,12 +1,14 @@
 #!/usr/bin/env python3
-"""Measures what the built program is to reach, each beside sha256sum in the same run, and prints a table for docs/BENCHMARKS.md.
+"""Measures what the built program is to reach, each beside sha256sum in the same run, and prints a table for
+docs/BENCHMARKS.md.
 
 usage: bench/aims.py [PROGRAM ..]
 
-Each command runs eight times in turn with sha256sum of 200 MiB, and the least times count. A run's figure is its steps a second for each
-MB/s of sha256sum; a replay's is its time beside that of sha256sum of the trace. The sort is guest/examples/checksum.c over 100,000
-numbers, which wants clang and lld. Where several programs are named, such as one of before a change and one of after it, each command runs
-with each of them in turn, and each has a column. A benchmark, no test."""
+Each command runs eight times in turn with sha256sum of 200 MiB, and the least times count. A run's figure is
+its steps a second for each MB/s of sha256sum; a replay's is its time beside that of sha256sum of the trace.
+The sort is guest/examples/checksum.c over 100,000 numbers, which wants clang and lld. Where several programs
+are named, such as one of before a change and one of after it, each command runs with each of them in turn,
+and each has a column. A benchmark, no test."""
 
 import os
 import struct
@@ -24,7 +26,8 @@ MADE = 20_000_000
 
 # lui t0, 0x10; ten additions; lw t1, 1024(t0); sw t1, 1028(t0); j -48
 LOOP = [0x000102B7] + [0x00138393] * 10 + [0x4002A303, 0x4062A223, 0xFD1FF06F]
-# j 0, and: li a7, 1026; lui t0, 0x10; addi a0, t0, 20; ecall; bgez a0, -8; j 0, so that harts are spawned until none is free
+# j 0, and: li a7, 1026; lui t0, 0x10; addi a0, t0, 20; ecall; bgez a0, -8; j 0, so that harts are spawned
+# until none is free
 ALL = [0x40200893, 0x000102B7, 0x01428513, 0x00000073, 0xFE055CE3, 0x0000006F]
 # li a7, 94 last, and eight additions before: ten steps with the call
 TEN = [0x00138393] * 8 + [0x05E00893, 0x00000073]

@@ -1,12 +1,14 @@
 #!/usr/bin/env python3
-"""Measures a first screen of `view` of a trace of 20,000,000 accesses beside `replay` of the same trace, and compares that with the aim.
+"""Measures a first screen of `view` of a trace of 20,000,000 accesses beside `replay` of the same trace, and
+compares that with the aim.
 
 usage: bench/first_screen.py [ROUNDS]
 
-Two of the programs of view/tests make that many accesses, as guests: statistics of workers, and a deque of work, whose struct has many
-fields. Each trace is in versions 1, 2 and 3. Both commands run in turn, and the middle of what each takes counts: the time of the
-processors (of all processes that the command waits for) and the time that passes. On a busy machine the first says more. It needs the
-packages of the guest kit and of `view`. A benchmark, no test."""
+Two of the programs of view/tests make that many accesses, as guests: statistics of workers, and a deque of
+work, whose struct has many fields. Each trace is in versions 1, 2 and 3. Both commands run in turn, and the
+middle of what each takes counts: the time of the processors (of all processes that the command waits for) and
+the time that passes. On a busy machine the first says more. It needs the packages of the guest kit and of
+`view`. A benchmark, no test."""
 
 import os
 import re

@@ -1,10 +1,11 @@
 #!/usr/bin/env python3
 """Runs the gate and says what it took.
 
-bench/gate.py [NAME ..] runs `rt ci [NAME ..]`, and puts the processor minutes that each crate took, for its library, its tests
-and its edits, into the table of docs/GATE.md. What was kept from an earlier run keeps its times there. The times are those of
-the prover's processes, which are looked at twice a second. With no names, on a machine where nothing is kept, it measures the
-whole gate in one piece. It ends with the status of `rt ci`."""
+bench/gate.py [NAME ..] runs `rt ci [NAME ..]`, and puts the processor minutes that each crate took, for its
+library, its tests and its edits, into the table of docs/GATE.md. What was kept from an earlier run keeps its
+times there. The times are those of the prover's processes, which are looked at twice a second. With no names,
+on a machine where nothing is kept, it measures the whole gate in one piece. It ends with the status of `rt
+ci`."""
 
 import datetime
 import os

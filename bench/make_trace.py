@@ -3,9 +3,8 @@
 
 usage: make_trace.py N FILE [KIND]
 
-KIND says where they go: `dense`, the usual one, 64 lines of 64 bytes; `random`, 65,536 such lines in random order;
-`ends`, 32,768 words at each end of the address space.
-"""
+KIND says where they go: `dense`, the usual one, 64 lines of 64 bytes; `random`, 65,536 such lines in random
+order; `ends`, 32,768 words at each end of the address space. """
 import struct
 import sys
 

@@ -1,9 +1,10 @@
 #!/usr/bin/env python3
 """Says what the parts of a crate's proof take.
 
-bench/modules.py CRATE [COUNT] proves a crate from nothing, over libraries that are built, and prints how many seconds its COUNT
-(20) dearest modules took. The prover writes a file for each module once it is checked, so the time between two files is that of
-the later one. What `out/` holds of the crate is put aside, and comes back; what `rt ci` kept on this machine counts as proved."""
+bench/modules.py CRATE [COUNT] proves a crate from nothing, over libraries that are built, and prints how many
+seconds its COUNT (20) dearest modules took. The prover writes a file for each module once it is checked, so
+the time between two files is that of the later one. What `out/` holds of the crate is put aside, and comes
+back; what `rt ci` kept on this machine counts as proved."""
 
 import os
 import shutil

@@ -1,13 +1,14 @@
 #!/usr/bin/env python3
-"""Measures what pcs in a trace cost, what `blame` takes of time and memory, and what `move` takes beside `convert`, and compares that with
-the aims.
+"""Measures what pcs in a trace cost, what `blame` takes of time and memory, and what `move` takes beside
+`convert`, and compares that with the aims.
 
 usage: bench/pcs.py [PROGRAM]
 
-20,000,000 accesses to 64 lines are written in version 3, with 64 pcs for each of 8 harts, and converted to version 2: once each line has
-a pc of its own, and once any pc comes at any line. `move` moves each word to a line of its own, by a table of 512 rows. The commands run
-five times in turn, and the least time of each counts. Then 1,000,000 pairs of instructions take one line: `blame` of that shows its
-memory. What reading alone takes is measured by `crates/benches`, where that is built. A benchmark, no test."""
+20,000,000 accesses to 64 lines are written in version 3, with 64 pcs for each of 8 harts, and converted to
+version 2: once each line has a pc of its own, and once any pc comes at any line. `move` moves each word to a
+line of its own, by a table of 512 rows. The commands run five times in turn, and the least time of each
+counts. Then 1,000,000 pairs of instructions take one line: `blame` of that shows its memory. What reading
+alone takes is measured by `crates/benches`, where that is built. A benchmark, no test."""
 
 import functools
 import os
@@ -48,8 +49,8 @@ class Touch(NamedTuple):
 
 
 def mixed_touches(are_apart: bool) -> Iterator[Touch]:
-    """Accesses of 64 lines by 8 harts that run the same code, three writes to a read, from a fixed seed. Each line has a pc of its own, or
-    any pc comes at any line."""
+    """Accesses of 64 lines by 8 harts that run the same code, three writes to a read, from a fixed seed. Each
+    line has a pc of its own, or any pc comes at any line."""
     state = 1
     for _ in range(MADE):
         state = (state * 6364136223846793005 + 1442695040888963407) & 0xFFFFFFFFFFFFFFFF

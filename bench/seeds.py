@@ -1,13 +1,14 @@
 #!/usr/bin/env python3
-"""Measures what drawn turns cost: how much longer a step takes under the seed 1 than under the usual schedule.
+"""Measures what drawn turns cost: how much longer a step takes under the seed 1 than under the usual
+schedule.
 
 usage: bench/seeds.py [ROUNDS]
 
-Three guests, each with 8 harts and turns of 1, 10 and 100 steps: harts that jump to themselves, so that a step is little but its turn;
-harts in a loop of ten arithmetic instructions, a load, a store and the jump back; and guest/built/counters.elf. Both seeds run by turns,
-ROUNDS times (9; 0 takes no times), and the least user times count. Where valgrind is there, the machine instructions of a step of the \
-first two
-are counted too, which a busy machine doesn't change, as the difference of two runs. A benchmark, no test."""
+Three guests, each with 8 harts and turns of 1, 10 and 100 steps: harts that jump to themselves, so that a
+step is little but its turn; harts in a loop of ten arithmetic instructions, a load, a store and the jump
+back; and guest/built/counters.elf. Both seeds run by turns, ROUNDS times (9; 0 takes no times), and the least
+user times count. Where valgrind is there, the machine instructions of a step of the first two are counted
+too, which a busy machine doesn't change, as the difference of two runs. A benchmark, no test."""
 
 import os
 import re

@@ -1,11 +1,13 @@
 #!/usr/bin/env python3
-"""Runs the commands of the documents and compares what they print with what stands there: check_docs.py [--renew] [FILE ..].
+"""Runs the commands of the documents and compares what they print with what stands there: check_docs.py
+[--renew] [FILE ..].
 
-A command is an indented line that begins with `$ `, and what it is to print are the lines of the same block behind it. All commands
-of a document run in one folder, which has what stands at the top of the repository. A command that lacks a tool of this machine
-(named in brackets behind `#`, as `# [valgrind]`; `# [view]` wants the packages of view/) is left out. In the manual page commands stand
-between .nf and .fi. --renew puts what was printed into the documents, to be read through before it is committed. It ends with 1 if
-anything differs."""
+A command is an indented line that begins with `$ `, and what it is to print are the lines of the same block
+behind it. All commands of a document run in one folder, which has what stands at the top of the repository. A
+command that lacks a tool of this machine (named in brackets behind `#`, as `# [valgrind]`; `# [view]` wants
+the packages of view/) is left out. In the manual page commands stand between .nf and .fi. --renew puts what
+was printed into the documents, to be read through before it is committed. It ends with 1 if anything
+differs."""
 
 import os
 import re

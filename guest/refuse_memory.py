@@ -1,11 +1,13 @@
 #!/usr/bin/env python3
-"""Refuses memory to the built program, one allocation of a call after the other, and looks at how the call ends.
+"""Refuses memory to the built program, one allocation of a call after the other, and looks at how the call
+ends.
 
 usage: guest/refuse_memory.py
 
-Each call is made once with all memory, and then with its first allocation refused, with its second one, and so on. It must end with
-status 9, print nothing but `predator: no memory` behind a front of what it prints else, and leave a front of each file that it writes;
-or it goes on without that memory, and ends, prints and writes as before. It needs a C compiler. bin/try calls it."""
+Each call is made once with all memory, and then with its first allocation refused, with its second one, and
+so on. It must end with status 9, print nothing but `predator: no memory` behind a front of what it prints
+else, and leave a front of each file that it writes; or it goes on without that memory, and ends, prints and
+writes as before. It needs a C compiler. bin/try calls it."""
 
 import os
 import subprocess
@@ -70,7 +72,8 @@ __attribute__((destructor)) static void tell(void)
 }
 """
 
-# Calls with files of their own. Each other command has its call in commands.toml, with these in the place of its names.
+# Calls with files of their own. Each other command has its call in commands.toml, with these in the place of
+# its names.
 OWN = [
     ("run", "allocates.elf", "--settings", "S", "--trace", "t", "--output", "o"),
     ("run", "queue.elf", "--trace", "t"),

@@ -1,12 +1,12 @@
 #!/usr/bin/env python3
 """Gives a program other words for its `main`: words.py PROGRAM COPY [WORD ..].
 
-COPY is a copy of PROGRAM whose `main` gets these words in place of those that it was built with. The kit keeps 4 KiB for them, the object
-`predator_arguments`: how many words there are, where each begins, a null, and their bytes, each with a 0 behind. The launcher calls it for
-`predator run PROGRAM -- WORD ..`.
+COPY is a copy of PROGRAM whose `main` gets these words in place of those that it was built with. The kit
+keeps 4 KiB for them, the object `predator_arguments`: how many words there are, where each begins, a null,
+and their bytes, each with a 0 behind. The launcher calls it for `predator run PROGRAM -- WORD ..`.
 
-It ends with 0, with 1 where the words can't be had, which is said, and with 3 where PROGRAM is no file for the machine, which the program
-itself says better."""
+It ends with 0, with 1 where the words can't be had, which is said, and with 3 where PROGRAM is no file for
+the machine, which the program itself says better."""
 
 import os
 import shutil

@@ -3,11 +3,11 @@
 
 usage: tools/clients.py memcached|redis|http|dns PORT CLIENTS TIMES [--anew] [--in-step] [--again]
 
-So many clients at the same time each set a value of 100 bytes and get it back, so often: under a key of their own, or, --anew, under a \
-new one
-each time. Of http each asks for a page, and of dns, over TCP, for a name below `here`, which is to be 10.0.0.1 for an hour. With --in-step
-all have asked before the first answer is read, and with --again each question has a connection of its own. A wrong answer ends it with
-status 1, and no server on the port within a minute too."""
+So many clients at the same time each set a value of 100 bytes and get it back, so often: under a key of their
+own, or, --anew, under a new one each time. Of http each asks for a page, and of dns, over TCP, for a name
+below `here`, which is to be 10.0.0.1 for an hour. With --in-step all have asked before the first answer is
+read, and with --again each question has a connection of its own. A wrong answer ends it with status 1, and no
+server on the port within a minute too."""
 
 import socket
 import sys

@@ -3,11 +3,12 @@
 
 usage: tools/commands.py [--renew | --calls KIND]
 
-Without a word it says which places differ from commands.toml, and where commands.toml differs from the crates: in the lines of usage and in
-the exit statuses; and, with the program that bin/predator runs, in the ranges of the settings. --renew writes the places anew.
+Without a word it says which places differ from commands.toml, and where commands.toml differs from the
+crates: in the lines of usage and in the exit statuses; and, with the program that bin/predator runs, in the
+ranges of the settings. --renew writes the places anew.
 
---calls prints, for the tries, the calls of all commands that read a TRACE or a PROGRAM, read one `twice`, have an option as --settings, or
-have files `written`, with IT in the place of that file."""
+--calls prints, for the tries, the calls of all commands that read a TRACE or a PROGRAM, read one `twice`,
+have an option as --settings, or have files `written`, with IT in the place of that file."""
 
 import os
 import re
@@ -221,7 +222,8 @@ def format_parts(table: dict[str, list[Row]]) -> dict[str, str]:
 
 
 def view_options(table: dict[str, list[Row]]) -> dict[str, list[str]]:
-    """The options of view, by what it does with a file: for a report alone, and for a program or a trace beside those of its command."""
+    """The options of view, by what it does with a file: for a report alone, and for a program or a trace
+    beside those of its command."""
     own, recorder = (
         next(it for it in table["beside"] if it["name"] == name) for name in ("view", "native")
     )
@@ -464,8 +466,8 @@ def example_call(command: Row, **others: str) -> list[str]:
 
 
 def example_calls(table: dict[str, list[Row]], kind: str) -> list[str]:
-    """Calls with IT in the place of a file: of each command that reads a PROGRAM or a TRACE, that reads one twice, that has an option, or
-    that writes, one for each file that it writes."""
+    """Calls with IT in the place of a file: of each command that reads a PROGRAM or a TRACE, that reads one
+    twice, that has an option, or that writes, one for each file that it writes."""
     found: list[list[str]] = []
     written = [it["name"] for it in table["option"] if it.get("writes")]
     for command in table["command"]:

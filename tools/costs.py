@@ -1,15 +1,17 @@
 #!/usr/bin/env python3
-"""Counts what costs nothing but time: how many machine instructions a step of `run` and an access of `replay` take, and how many of them
-divide.
+"""Counts what costs nothing but time: how many machine instructions a step of `run` and an access of `replay`
+take, and how many of them divide.
 
 usage: tools/costs.py PROGRAM
 
-Each row of ROWS has a bound. What is counted is the difference of two calls, one of which has some times as many steps or accesses, so
-that the start doesn't count, nor a busy machine. Beside it the like is counted that the program does by its slow way: turns of one step, at
-which no hart can go ahead, accesses of the first line of a page, whose entry is looked for anew, a threshold of prediction by which each
-write is divided. That has to be above the bound. So a program that went the slow way everywhere would be found. tools/growth.py says how
-the instructions are counted, by perf or valgrind; the divisions are counted by valgrind (callgrind) and objdump, and where these aren't
-that is said. The status is 1 where a row is above its bound or what is slow isn't."""
+Each row of ROWS has a bound. What is counted is the difference of two calls, one of which has some times as
+many steps or accesses, so that the start doesn't count, nor a busy machine. Beside it the like is counted
+that the program does by its slow way: turns of one step, at which no hart can go ahead, accesses of the first
+line of a page, whose entry is looked for anew, a threshold of prediction by which each write is divided. That
+has to be above the bound. So a program that went the slow way everywhere would be found. tools/growth.py says
+how the instructions are counted, by perf or valgrind; the divisions are counted by valgrind (callgrind) and
+objdump, and where these aren't that is said. The status is 1 where a row is above its bound or what is slow
+isn't."""
 
 import functools
 import os
@@ -28,7 +30,8 @@ from rv32 import CODE, Code, Segment, elf
 
 # The sizes of the two calls: how many steps or accesses.
 FEW, MANY = 5_000, 45_000
-# The first line of a page of the index, and one that begins none. (Pages have 64 lines, and line 1 begins at 0.)
+# The first line of a page of the index, and one that begins none. (Pages have 64 lines, and line 1 begins at
+# 0.)
 BEGINS_PAGE, IN_PAGE = 0x0FC0, 0x1040
 
 

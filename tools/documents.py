@@ -4,14 +4,17 @@
 usage: tools/documents.py [FILE ..]      all documents, unless some are named
 
 Prints `FILE:LINE: NAME` for each
-- path below a crate, as sharing_rules/specs/Lines, with or without crates/ before it, and a crate that crates.txt doesn't list; a path
-  that begins with src/, specs/ or proofs/, or a name with the ending .rt, is below a crate that its paragraph or heading names before;
+- path below a crate, as sharing_rules/specs/Lines, with or without crates/ before it, and a crate that
+  crates.txt doesn't list; a path that begins with src/, specs/ or proofs/, or a name with the ending .rt, is
+  below a crate that its paragraph or heading names before;
 - item of a crate, as `report::write_report`, that its src/ doesn't define;
-- clause in the tables of docs/PROMISES.md that no function of the row's crates has, and definition there that no file defines;
-- word in backquotes, a single name, that stands nowhere in the crates, the scripts and the kit for guests (but in the studies, which
-  have words of other programs);
+- clause in the tables of docs/PROMISES.md that no function of the row's crates has, and definition there that
+  no file defines;
+- word in backquotes, a single name, that stands nowhere in the crates, the scripts and the kit for guests
+  (but in the studies, which have words of other programs);
 - code that docs/PROMISES.md quotes and no source has; a line `..` stands for what is left out;
-- crate whose floor in docs/ARCHITECTURE.md isn't the length of its longest chain, and crate that has no row there;
+- crate whose floor in docs/ARCHITECTURE.md isn't the length of its longest chain, and crate that has no row
+  there;
 - word that stands twice in the glossary there;
 - link to a file or to a heading that isn't there.
 It ends with 1 where there are any."""
@@ -78,7 +81,8 @@ class Crate:
 
 
 def has_path(path):
-    """Whether a path below crates/ is there, with or without its ending, or names an item's folder of proofs."""
+    """Whether a path below crates/ is there, with or without its ending, or names an item's folder of
+    proofs."""
     full = os.path.join(TOP, "crates", path)
     return any(os.path.exists(full + it) for it in ("", ".rt", ".antt"))
 
@@ -144,7 +148,8 @@ def broken_paths(line, about):
 
 
 def unknown_quotes(text, crates):
-    """The lines at which the quotes of a document begin that no source has, whatever its spaces and comments."""
+    """The lines at which the quotes of a document begin that no source has, whatever its spaces and
+    comments."""
     sources = [
         " ".join(re.sub(r"(?m)^\s*//.*$", "", crate.texts["src"]).split())
         for crate in crates.values()
@@ -201,7 +206,8 @@ def check_promise(line, crates, before):
 
 
 def repeated_words(page):
-    """The words of the glossary that stand there more than once, each in bold type in the first cell of a row."""
+    """The words of the glossary that stand there more than once, each in bold type in the first cell of a
+    row."""
     rows = re.findall(
         r"(?m)^\| (\*\*.*?) \|", page.split("\n## Words\n", 1)[1].split("\n## ", 1)[0]
     )

@@ -1,18 +1,21 @@
 #!/usr/bin/env python3
-"""Looks for anything that grows as a square: gives the commands of the program made traces and guests of two sizes, one four times the
-other, and names each call whose cost grew by more than six.
+"""Looks for anything that grows as a square: gives the commands of the program made traces and guests of two
+sizes, one four times the other, and names each call whose cost grew by more than six.
 
 usage: tools/growth.py PROGRAM [--all] [--by WAY] [--times K] [NAME ..]
 
-The traces stand in made_traces.py and the guests in made_guests.py, each with what it is and the commands that it is made for. Words
-behind PROGRAM choose those whose name has one of them, as `symbols` or `guest:`. With --all each one goes through every command that takes
-it, which takes some minutes. With --times K all are K times as large, as far as they may be.
+The traces stand in made_traces.py and the guests in made_guests.py, each with what it is and the commands
+that it is made for. Words behind PROGRAM choose those whose name has one of them, as `symbols` or `guest:`.
+With --all each one goes through every command that takes it, which takes some minutes. With --times K all are
+K times as large, as far as they may be.
 
-A cost is a number of machine instructions, counted by perf, or where the machine doesn't let it by valgrind (cachegrind); where there is
-neither, it is processor time, the least of three calls, of cases that are four times as large. WAY is perf, valgrind or time, and chooses
-one. What the same call of next to nothing costs is taken off before. What each call printed is compared with what the case is made for:
-a case that isn't what it should be, or does too little to tell, is a fault. The status is 1 where a call is named or a case has a fault.
-Calls of the cases in KNOWN are told apart, and don't change the status; it is a fault where none of them grows any more."""
+A cost is a number of machine instructions, counted by perf, or where the machine doesn't let it by valgrind
+(cachegrind); where there is neither, it is processor time, the least of three calls, of cases that are four
+times as large. WAY is perf, valgrind or time, and chooses one. What the same call of next to nothing costs is
+taken off before. What each call printed is compared with what the case is made for: a case that isn't what it
+should be, or does too little to tell, is a fault. The status is 1 where a call is named or a case has a
+fault. Calls of the cases in KNOWN are told apart, and don't change the status; it is a fault where none of
+them grows any more."""
 
 import argparse
 import itertools
@@ -50,9 +53,9 @@ LISTED = "tracking=1,report=1"
 
 
 class Way(NamedTuple):
-    """How a cost is counted: the words before those of a call, where a file takes the place of FILE, and what is read of that file; how
-    many calls are made, of which the least counts, and how many at a time; how large cases are; and below which cost a call does too
-    little."""
+    """How a cost is counted: the words before those of a call, where a file takes the place of FILE, and what
+    is read of that file; how many calls are made, of which the least counts, and how many at a time; how
+    large cases are; and below which cost a call does too little."""
 
     name: str
     words: tuple[str, ...]
@@ -99,8 +102,8 @@ WAYS = {
 
 
 class Call(NamedTuple):
-    """A call: its words; how many lines of what it prints begin with what, or, where the number is negative, at least how many; its status;
-    and the words of a call before it."""
+    """A call: its words; how many lines of what it prints begin with what, or, where the number is negative,
+    at least how many; its status; and the words of a call before it."""
 
     words: list[str]
     begins: list[tuple[str, int]]
@@ -192,7 +195,8 @@ def place(trace: str, made: TraceCaseFile) -> Call:
 
 
 def move(trace: str, made: TraceCaseFile) -> Call:
-    """With as many ranges as the trace has lines, each of the first word of a line, which goes to the next line, or all in reverse."""
+    """With as many ranges as the trace has lines, each of the first word of a line, which goes to the next
+    line, or all in reverse."""
     count = min(made.lines, 1 << 15)
     places = range(count)[::-1] if made.is_turned else [*range(1, count), 0]
     with open(f"{trace}.table", "w", encoding="ascii") as file:
@@ -354,7 +358,8 @@ def missing_lines(text: str, begins: list[tuple[str, int]]) -> str:
 
 
 def measure_time(words: list[str], out: str) -> tuple[float, int | None]:
-    """The processor time of a call and its status, none where it takes too long. What it prints goes to a file."""
+    """The processor time of a call and its status, none where it takes too long. What it prints goes to a
+    file."""
     with open(out, "wb") as file:
         child = subprocess.Popen(
             words, stdin=subprocess.DEVNULL, stdout=file, stderr=subprocess.DEVNULL
@@ -427,7 +432,8 @@ def choose_way(name: str | None, program: str, folder: str) -> Way:
 
 
 class Row(NamedTuple):
-    """A case and a command, with what the two sizes cost beyond next to nothing, and what is wrong with it."""
+    """A case and a command, with what the two sizes cost beyond next to nothing, and what is wrong with
+    it."""
 
     case: str
     command: str
@@ -459,7 +465,8 @@ class Measures:
         self.nothing: dict[tuple[str, str], Future[Cost]] = {}
 
     def cost_of_nothing(self, case: Case, command: str, settings: str) -> Future[Cost]:
-        """The cost of a command of next to nothing under settings, or of the least size of the case, where it has one."""
+        """The cost of a command of next to nothing under settings, or of the least size of the case, where it
+        has one."""
         if case.made.least:
             return self.pool.submit(self.cost_of_size, case, command, case.made.least)
         if (command, settings) not in self.nothing:

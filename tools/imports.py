@@ -3,9 +3,10 @@
 
 usage: tools/imports.py [--fix] [FILE or FOLDER ..]      all crates, unless some are named
 
-In a .rt file a `ghost use` serves clauses, ghost members and attributes: a name that only Rust's code has is unused. In an .antt
-file a `use` serves all other lines. An operator is used where each of its signs stands by itself. Prints `FILE:LINE: NAME` for each,
-and ends with 1 where there are any. --fix takes them out, with lines that nothing is left of; `rt fmt` lays out what remains."""
+In a .rt file a `ghost use` serves clauses, ghost members and attributes: a name that only Rust's code has is
+unused. In an .antt file a `use` serves all other lines. An operator is used where each of its signs stands by
+itself. Prints `FILE:LINE: NAME` for each, and ends with 1 where there are any. --fix takes them out, with
+lines that nothing is left of; `rt fmt` lays out what remains."""
 
 import os
 import re
@@ -105,7 +106,8 @@ def imports_of(text, is_rust):
 
 
 def words_of(text):
-    """The words of a text, and the fronts of dotted ones. What stands behind a dot names a field, unless the dot ends a lambda."""
+    """The words of a text, and the fronts of dotted ones. What stands behind a dot names a field, unless the
+    dot ends a lambda."""
     text = re.sub(r"λ[^.\n]*\.", lambda match: match[0][:-1] + " ", text)
     found = {"[]"} if "[]" in text else set()
     for word in BETWEEN.split(text):

@@ -1,11 +1,12 @@
 #!/usr/bin/env python3
-"""Says what the report of a replay is by its rules alone, as docs/RULES.md and docs/FORMATS.md tell them, and stands on nothing of
-the program. It goes over whole lists: caches are sets of harts, starts and openings least positions, and nothing is kept of a line.
+"""Says what the report of a replay is by its rules alone, as docs/RULES.md and docs/FORMATS.md tell them, and
+stands on nothing of the program. It goes over whole lists: caches are sets of harts, starts and openings
+least positions, and nothing is kept of a line.
 
 usage: tools/judge_report.py PROGRAM [COUNT [SEED]]
 
-makes COUNT (1000) small traces, each with its settings and words, by the random numbers that follow from SEED (1); replays each by
-PROGRAM, and tells where that prints another report. It ends with 1 where it found one.
+makes COUNT (1000) small traces, each with its settings and words, by the random numbers that follow from SEED
+(1); replays each by PROGRAM, and tells where that prints another report. It ends with 1 where it found one.
 """
 import random
 import struct
@@ -166,7 +167,8 @@ def printable_name(name):
 
 
 def object_table(records):
-    """The symbols, without those whose kind, address and size an earlier one has, and the blocks, each with its life."""
+    """The symbols, without those whose kind, address and size an earlier one has, and the blocks, each with
+    its life."""
     symbols, blocks, live = {}, [], {}
     for position, record in records:
         if isinstance(record, Symbol):
@@ -269,7 +271,8 @@ def trace_bytes(case):
 
 
 def random_accesses(dice, harts, base, span, native):
-    """Accesses to a few words of a few lines, those at the lines' edges among them; most words may have a hart of their own."""
+    """Accesses to a few words of a few lines, those at the lines' edges among them; most words may have a
+    hart of their own."""
     hot = [4 * dice.randrange(span // 4) for _ in range(dice.choice((1, 2, 3, 4, 6, 12)))]
     hot += [
         at for edge in range(native, span, native) for at in (edge - 4, edge) if dice.random() < 0.7

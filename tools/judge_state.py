@@ -1,5 +1,6 @@
 #!/usr/bin/env python3
-"""Says what a saved state is by its rules alone, as docs/FORMATS.md tells them, and stands on nothing of the program.
+"""Says what a saved state is by its rules alone, as docs/FORMATS.md tells them, and stands on nothing of the
+program.
 
 usage: tools/judge_state.py STATE                      prints `good`, or the place of the first unit at fault
        tools/judge_state.py STATE PROGRAM TRACE WORDS  changes and cuts the state in many ways, replays TRACE from each by PROGRAM
@@ -192,7 +193,8 @@ def call_replay(program, trace, words, state):
 
 
 def judge_changes(name, program, trace, words):
-    """Replays a trace from each change of a state: how many there are, and of how many the program says another thing."""
+    """Replays a trace from each change of a state: how many there are, and of how many the program says
+    another thing."""
     with open(name, "rb") as file:
         state = file.read()
     own, good = judge_state(state)[0], call_replay(program, trace, words, name)[0]
@@ -211,8 +213,8 @@ def judge_changes(name, program, trace, words):
 
 
 def is_right_ending(own, changed, status, text, good):
-    """Whether a replay from a changed state ends as that state says, where the trace goes on from a state with the header `own`, and
-    ends with the status `good` from a good one."""
+    """Whether a replay from a changed state ends as that state says, where the trace goes on from a state
+    with the header `own`, and ends with the status `good` from a good one."""
     head, place = judge_state(changed)
     if place is not None:
         return text == f"predator: state BadState {place}\n" and status == 6

@@ -3,13 +3,14 @@
 
 usage: tools/judge_traces.py PROGRAM [COUNT [SEED]]
 
-makes COUNT (200) small traces as judge_report.py does, by the random numbers that follow from SEED (1). Of each, the observed lines
-that PROGRAM reports must be those of a recount; and where it is cut at a random access, the state that is saved of its first half must
-be good, and the second half, carried on from it, must have the report of the whole. With random pcs, in version 3, it must have the same
-report, the same accesses and pcs in its halves, and what a trace without pcs is converted to; and what `blame` prints of it, and of the
-trace without pcs, must be what recount_blame.py does. By a random table it must be moved, in each version, as recount_move.py moves it, or
-be refused so. Some of the states are changed in each byte and cut at each, and what PROGRAM says of them is compared. It ends with 1 where
-anything differs."""
+makes COUNT (200) small traces as judge_report.py does, by the random numbers that follow from SEED (1). Of
+each, the observed lines that PROGRAM reports must be those of a recount; and where it is cut at a random
+access, the state that is saved of its first half must be good, and the second half, carried on from it, must
+have the report of the whole. With random pcs, in version 3, it must have the same report, the same accesses
+and pcs in its halves, and what a trace without pcs is converted to; and what `blame` prints of it, and of the
+trace without pcs, must be what recount_blame.py does. By a random table it must be moved, in each version, as
+recount_move.py moves it, or be refused so. Some of the states are changed in each byte and cut at each, and
+what PROGRAM says of them is compared. It ends with 1 where anything differs."""
 
 import os
 import random
@@ -82,7 +83,8 @@ def read(name):
 
 
 def keeps_pcs(program, folder, words, cut, made, report):
-    """Whether a trace with pcs has the report of the one without them, and is split and converted as docs/FORMATS.md says."""
+    """Whether a trace with pcs has the report of the one without them, and is split and converted as
+    docs/FORMATS.md says."""
     plain, whole, first, second, *copies = (
         os.path.join(folder, it) for it in ("trace", "sited", "first", "second", "one", "three")
     )
@@ -101,7 +103,8 @@ def keeps_pcs(program, folder, words, cut, made, report):
 
 
 def blames_right(program, folder, case, made):
-    """Whether `blame` prints of a trace with pcs, which is there, and of the one without them, what a recount does."""
+    """Whether `blame` prints of a trace with pcs, which is there, and of the one without them, what a recount
+    does."""
     layout = case.layout or (64, 0)
     words = ["--size", str(layout[0]), "--shift", str(layout[1])] if case.layout else []
     plain, whole = (os.path.join(folder, it) for it in ("trace", "sited"))
@@ -113,7 +116,8 @@ def blames_right(program, folder, case, made):
 
 
 def random_table(dice, made):
-    """Ranges of words that are accessed, or lie beside these. They go to each other's places, to free ones or beside. Some have a fault."""
+    """Ranges of words that are accessed, or lie beside these. They go to each other's places, to free ones or
+    beside. Some have a fault."""
     words = sorted(
         {it.addr // 4 * 4 + 4 * dice.choice((0, 0, 0, 1)) for it in read_accesses_with_pcs(made)}
     )

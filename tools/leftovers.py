@@ -4,8 +4,8 @@
 usage: tools/leftovers.py [CRATE ..]      all crates, unless some are named
 
 Prints `FILE:LINE: WHAT` for each
-- dead item: one of specs/ or proofs/ that nothing names but itself and imports that nothing uses. Answers to goals, invariants and
-  the worked cases (files whose name begins with Worked) stand for themselves;
+- dead item: one of specs/ or proofs/ that nothing names but itself and imports that nothing uses. Answers to
+  goals, invariants and the worked cases (files whose name begins with Worked) stand for themselves;
 - long line: one of more than 100 columns, and long file: one of more than 600 lines;
 - comment that says no more than the name under it.
 It ends with 1 where there are any."""
@@ -50,7 +50,8 @@ def read(path):
 
 
 class Source:
-    """A file of the crates: its text without comments and imports, what it imports, and its place in the house."""
+    """A file of the crates: its text without comments and imports, what it imports, and its place in the
+    house."""
 
     def __init__(self, path):
         self.path, self.text = path, read(path)

@@ -1,4 +1,5 @@
-"""Programs that growth.py makes, of any size: what each does, and what the commands must say of it. By guest/README.md alone."""
+"""Programs that growth.py makes, of any size: what each does, and what the commands must say of it. By
+guest/README.md alone."""
 
 from typing import Callable, NamedTuple
 
@@ -13,9 +14,9 @@ WORKER = CODE + 4
 
 
 class Guest(NamedTuple):
-    """A program, its settings, and its outcome as a report has it; how many lines of what `run`, `explain` and `check` print begin with
-    what, or, where the number is negative, at least how many; a schedule and a file of settings; and the status. `explain` is asked about
-    the line at DATA."""
+    """A program, its settings, and its outcome as a report has it; how many lines of what `run`, `explain`
+    and `check` print begin with what, or, where the number is negative, at least how many; a schedule and a
+    file of settings; and the status. `explain` is asked about the line at DATA."""
 
     program: bytes
     settings: str = ""
@@ -66,7 +67,8 @@ def make_blocks(code: Code, count: int, size: int) -> None:
 
 
 def free_blocks(code: Code, count: int, first: int, step: int, below: int = 0) -> None:
-    """Frees blocks from the place of one on, in steps, and by what is below a power of two. The sum of the answers comes to s0."""
+    """Frees blocks from the place of one on, in steps, and by what is below a power of two. The sum of the
+    answers comes to s0."""
     code.set("s2", first)
     code.set("s3", step)
     code.set("s4", below - 1)
@@ -114,7 +116,8 @@ def low_hole(n: int) -> Guest:
 
 
 def low_hole_again(n: int) -> Guest:
-    """Below many blocks one is freed and made again and again, and each time another one is made behind the others."""
+    """Below many blocks one is freed and made again and again, and each time another one is made behind the
+    others."""
     code = Code()
     make_blocks(code, n, 24)
     code.set("s5", HEAP)
@@ -158,7 +161,8 @@ def random_numbers(count: int, state: int) -> tuple[list[int], int]:
 
 
 def places_in_holes(n: int) -> int:
-    """The sum of the places of the blocks that holes_of_all_sizes makes last, each the least one that is free."""
+    """The sum of the places of the blocks that holes_of_all_sizes makes last, each the least one that is
+    free."""
     sizes, state = random_numbers(n, 1)
     holes, at, total = [], 0, 0
     # (the last one is what lies behind all of them)
@@ -187,8 +191,8 @@ def draw_size(code: Code) -> None:
 
 
 def holes_of_all_sizes(n: int) -> Guest:
-    """Of blocks of 16 to 512 bytes those of an odd number of sixteens are freed, and as many are made again as before. It ends with the sum
-    of their places."""
+    """Of blocks of 16 to 512 bytes those of an odd number of sixteens are freed, and as many are made again
+    as before. It ends with the sum of their places."""
     code = Code()
     for register, value in (
         ("s3", 1),
@@ -386,7 +390,8 @@ def begin_harts(code: Code, harts: int = 256) -> None:
 
 
 def waits(n: int) -> Guest:
-    """255 harts wait at a word, of which one is woken at a time and waits again. It ends with how many were woken."""
+    """255 harts wait at a word, of which one is woken at a time and waits again. It ends with how many were
+    woken."""
     code = Code()
     code.jump("begin")
     code.label("worker")
@@ -433,7 +438,8 @@ def turns(n: int, harts: int = 256) -> Guest:
 
 
 def drawn_turns(n: int) -> Guest:
-    """The same by drawn turns, which go to fewer harts, since the first one begins the others by few of them."""
+    """The same by drawn turns, which go to fewer harts, since the first one begins the others by few of
+    them."""
     guest = turns(n, 64)
     return guest._replace(settings=f"{guest.settings},seed=1")
 
@@ -573,9 +579,9 @@ def strings(n: int) -> Guest:
 
 
 class GuestCase(NamedTuple):
-    """A guest of two sizes, of which `size` is the lesser one, and the commands that it is made for; the greatest size that it may have; a
-    size that costs next to nothing, if another guest can't stand for that; and commands whose text of it is a square.
-    """
+    """A guest of two sizes, of which `size` is the lesser one, and the commands that it is made for; the
+    greatest size that it may have; a size that costs next to nothing, if another guest can't stand for that;
+    and commands whose text of it is a square."""
 
     name: str
     make: Callable[[int], Guest]

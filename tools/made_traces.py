@@ -1,4 +1,5 @@
-"""Traces that growth.py makes, of any size: what stands in each, and what the commands must say of it. By docs/FORMATS.md alone."""
+"""Traces that growth.py makes, of any size: what stands in each, and what the commands must say of it. By
+docs/FORMATS.md alone."""
 
 import random
 import struct
@@ -13,9 +14,10 @@ SITES = (0, 0, 0, 0)
 
 
 class TraceCaseFile(NamedTuple):
-    """A trace: how many harts and accesses it has; how many lines are listed with `tracking` and `report` of 1 and the settings here; how
-    many lines of objects and of sites stand below them; and a name for `place`. For `blame` its accesses have so many pcs, in turn, and for
-    `move` the places of its lines may fall as the lines rise."""
+    """A trace: how many harts and accesses it has; how many lines are listed with `tracking` and `report` of
+    1 and the settings here; how many lines of objects and of sites stand below them; and a name for `place`.
+    For `blame` its accesses have so many pcs, in turn, and for `move` the places of its lines may fall as the
+    lines rise."""
 
     trace: bytes
     harts: int
@@ -292,8 +294,8 @@ def lines_apart(n: int) -> TraceCaseFile:
 
 
 def borders(n: int) -> TraceCaseFile:
-    """The words at each border are used by two harts, each line by one: a shifted line is predicted at each border, and a doubled one of
-    each two lines."""
+    """The words at each border are used by two harts, each line by one: a shifted line is predicted at each
+    border, and a doubled one of each two lines."""
     trace = Trace()
     for i in range(n):
         for _ in range(4):
@@ -344,9 +346,9 @@ def instructions_of_lines(n: int) -> TraceCaseFile:
 
 
 class TraceCase(NamedTuple):
-    """A trace of two sizes, of which `size` is the lesser one, and the commands that it is made for; the greatest size that it may have; a
-    size that costs next to nothing, if another trace can't stand for that; and commands whose text of it is a square.
-    """
+    """A trace of two sizes, of which `size` is the lesser one, and the commands that it is made for; the
+    greatest size that it may have; a size that costs next to nothing, if another trace can't stand for that;
+    and commands whose text of it is a square."""
 
     name: str
     make: Callable[[int], TraceCaseFile]

@@ -3,14 +3,16 @@
 
 usage: tools/messages.py PROGRAM [--planted]
 
-Each key of the settings and each number among the words is given its bounds and what lies just beyond them, the keys by a file, by `--set`,
-and by one of them where the other is right: which file is named, or that none is. The ranges and names in what is to be said are put
-together from commands.toml, so that a message that tells another range than the one that is kept is found. Then each command gets words
-that are missing, twice or too many, and files with each fault. Of each call the status, the text and the line on standard error are
-compared, and no control character is to be in the line. tools/edges tries what is said where the system fails.
+Each key of the settings and each number among the words is given its bounds and what lies just beyond them,
+the keys by a file, by `--set`, and by one of them where the other is right: which file is named, or that none
+is. The ranges and names in what is to be said are put together from commands.toml, so that a message that
+tells another range than the one that is kept is found. Then each command gets words that are missing, twice
+or too many, and files with each fault. Of each call the status, the text and the line on standard error are
+compared, and no control character is to be in the line. tools/edges tries what is said where the system
+fails.
 
-With --planted each range of commands.toml is then widened, one after the other, as if the program kept another one or told another one than
-it keeps, and each must be found."""
+With --planted each range of commands.toml is then widened, one after the other, as if the program kept
+another one or told another one than it keeps, and each must be found."""
 
 import os
 import subprocess
@@ -54,9 +56,9 @@ LINES = "a line is a key and a whole number, as `quantum = 1`"
 
 
 class Try(NamedTuple):
-    """A call: its words, its status, the line that it prints, nothing for the usage and `*` for any text, and what it says. A status of
-    None stands for each that isn't that of refused words or settings, of which the text and what is said aren't looked at.
-    """
+    """A call: its words, its status, the line that it prints, nothing for the usage and `*` for any text, and
+    what it says. A status of None stands for each that isn't that of refused words or settings, of which the
+    text and what is said aren't looked at."""
 
     words: list[str]
     status: int | None
@@ -114,7 +116,8 @@ def key_tries(row: Row, usual: dict[str, int]) -> Iterator[Try]:
         yield Try(
             ["check", "p", "--settings", file], status, printed, f"{file}: {range_message(row)}"
         )
-        # One of them is right: `--set` is to blame though there is a file, and the file though something else is changed.
+        # One of them is right: `--set` is to blame though there is a file, and the file though something else
+        # is changed.
         yield Try(
             ["check", "p", "--settings", settings_file(other, 1), changed],
             status,
@@ -133,7 +136,8 @@ def key_tries(row: Row, usual: dict[str, int]) -> Iterator[Try]:
             printed,
             f"{file}: {range_message(row)}",
         )
-        # The file is judged by itself first, so it is to blame also where its number is replaced, by a right one or by a wrong one.
+        # The file is judged by itself first, so it is to blame also where its number is replaced, by a right
+        # one or by a wrong one.
         yield Try(
             ["check", "p", "--settings", file, f"--set={key}={allowed}"],
             status,

@@ -3,9 +3,10 @@
 
 usage: tools/meter.py PROGRAM [SECONDS]
 
-lets PROGRAM make a trace, replay it, and run a guest that never ends, each of a size that lasts some SECONDS (3) here, with a pseudo
-terminal as standard error. A line is wanted about once a second: its second number is the whole, and its first one grows towards it as
-time goes by. Into a file nothing may be shown. It ends with 1 where a line is wrong, or none came."""
+lets PROGRAM make a trace, replay it, and run a guest that never ends, each of a size that lasts some SECONDS
+(3) here, with a pseudo terminal as standard error. A line is wanted about once a second: its second number is
+the whole, and its first one grows towards it as time goes by. Into a file nothing may be shown. It ends with
+1 where a line is wrong, or none came."""
 
 import os
 import pty
@@ -54,7 +55,8 @@ def record_terminal(words):
 
 
 def find_faults(what, shown, took, form, whole, told):
-    """What is wrong with the lines of a form. `whole` is what the work comes to, and `told` whether a line tells that too."""
+    """What is wrong with the lines of a form. `whole` is what the work comes to, and `told` whether a line
+    tells that too."""
     lines = [list(map(int, it.groups())) for it in form.finditer(shown)]
     if not lines:
         return [f"{what}: no line in {took:.1f} s, but {shown[:200]!r}"]

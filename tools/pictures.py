@@ -3,8 +3,9 @@
 
 usage: tools/pictures.py [NAME ..]
 
-Each picture is a PNG of at most 100 KB in docs/pictures. Those that are named are made, or all. Nothing in them is drawn by hand.
-It needs the program, chromium and what `predator view` needs: without chromium the status is 77, and no picture is changed."""
+Each picture is a PNG of at most 100 KB in docs/pictures. Those that are named are made, or all. Nothing in
+them is drawn by hand. It needs the program, chromium and what `predator view` needs: without chromium the
+status is 77, and no picture is changed."""
 
 import os
 import shutil
@@ -13,7 +14,8 @@ import sys
 import tempfile
 
 TOP = os.path.abspath(os.path.join(os.path.dirname(os.path.abspath(__file__)), ".."))
-# Of each picture the calls that make its page, in a folder of their own, and the width and height that are shown.
+# Of each picture the calls that make its page, in a folder of their own, and the width and height that are
+# shown.
 PICTURES = {
     "view": (
         [["view", "run", f"{TOP}/guest/built/counters.elf", "--html", "page.html"]],
@@ -48,7 +50,8 @@ def run(words: list[str], folder: str) -> None:
 
 
 def draw(name: str, browser: str) -> str:
-    """Makes a picture, and says what it takes. One that is too large or can't be made leaves the old one as it is."""
+    """Makes a picture, and says what it takes. One that is too large or can't be made leaves the old one as
+    it is."""
     calls, width, height = PICTURES[name]
     to = os.path.join(TOP, "docs/pictures", f"{name}.png")
     with tempfile.TemporaryDirectory() as folder:

@@ -3,8 +3,9 @@
 
 usage: tools/recount.py TRACE [SIZE SHIFT TRACKING REPORT]      (64 0 16 100 unless they are given)
 
-Written from docs/RULES.md and the trace of docs/FORMATS.md alone, as slow and plain as they are: one cache without bounds for each hart,
-and a write takes its line out of all others. It prints each observed line that is listed as a report does, up to its count."""
+Written from docs/RULES.md and the trace of docs/FORMATS.md alone, as slow and plain as they are: one cache
+without bounds for each hart, and a write takes its line out of all others. It prints each observed line that
+is listed as a report does, up to its count."""
 
 import sys
 

@@ -4,8 +4,9 @@
 usage: tools/recount_blame.py TRACE [--size N] [--shift N]       (64 and 0 unless they are given)
        tools/recount_blame.py --try                              the worked lists below, and what they are to give
 
-Written from docs/RULES.md and the trace of docs/FORMATS.md alone: of each line the harts whose caches hold it, and the latest access of
-each hart that came. It prints what `predator blame` prints, also where the trace has no pcs."""
+Written from docs/RULES.md and the trace of docs/FORMATS.md alone: of each line the harts whose caches hold
+it, and the latest access of each hart that came. It prints what `predator blame` prints, also where the trace
+has no pcs."""
 
 import sys
 from collections import Counter
@@ -14,8 +15,8 @@ from typing import NamedTuple
 from judge_report import address_text
 from traces import Access, read_accesses_with_pcs
 
-# Accesses, each with its pc. Hart 0 writes a word, and then three harts add three times to a byte each, two of which lie in one word: when
-# each hart makes one step at a time, and when it makes three.
+# Accesses, each with its pc. Hart 0 writes a word, and then three harts add three times to a byte each, two
+# of which lie in one word: when each hart makes one step at a time, and when it makes three.
 BY_ONE = (
     "W0 11008 10004, R1 11004 1003c, W1 11004 10044, R2 11005 1003c, R1 11004 1003c, R0 11000 1003c, W2 11005 10044, "
     "W1 11004 10044, W0 11000 10044, R2 11005 1003c, R1 11004 1003c, R0 11000 1003c, W2 11005 10044, W1 11004 10044, "
@@ -38,7 +39,8 @@ WORKED = [
     (BY_ONE, (128, 32), [(0x10FA0, 9, PAIRS, HARTS)]),
     ("", (64, 0), []),
     ("R1 1000 4, W0 1000 8", (64, 0), [(0x1000, 1, [(4, 8, 1, 1)], [(1, 0, 1)])]),
-    # Of the two readers that lose the line the later one is the victim; the earlier one's last access is of another line.
+    # Of the two readers that lose the line the later one is the victim; the earlier one's last access is of
+    # another line.
     (
         "R1 1000 4, R2 1004 8, R1 2000 c, W0 1000 10",
         (64, 0),
@@ -57,8 +59,9 @@ WORKED = [
 
 
 class Line(NamedTuple):
-    """A line: the harts whose caches hold it; the pc and the word of each hart's latest access, in the order of these; and its takings, by
-    the pcs of victim and taker, those of one word among them, and by their harts."""
+    """A line: the harts whose caches hold it; the pc and the word of each hart's latest access, in the order
+    of these; and its takings, by the pcs of victim and taker, those of one word among them, and by their
+    harts."""
 
     holders: set
     latest: dict
@@ -92,7 +95,8 @@ class Line(NamedTuple):
 
 
 def count_invalidations(accesses, size=64, shift=0):
-    """How many accesses there are, and each line that is taken as (base, takings, pairs, harts), in the order of the text."""
+    """How many accesses there are, and each line that is taken as (base, takings, pairs, harts), in the order
+    of the text."""
     lines, count = {}, 0
     for access in accesses:
         count += 1

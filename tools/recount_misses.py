@@ -4,8 +4,9 @@
 usage: tools/recount_misses.py TRACE [--size N] [--shift N]      (64 and 0 unless they are given)
        tools/recount_misses.py --try                             the worked lists below, and what they are to give
 
-Written from docs/RULES.md and the trace of docs/FORMATS.md alone, over whole lists: of each line the harts whose caches hold it,
-and beside them, for each hart's copy of a line, the position at which it was loaded. It prints what `predator misses` prints."""
+Written from docs/RULES.md and the trace of docs/FORMATS.md alone, over whole lists: of each line the harts
+whose caches hold it, and beside them, for each hart's copy of a line, the position at which it was loaded. It
+prints what `predator misses` prints."""
 
 import sys
 from bisect import bisect_left, bisect_right
@@ -13,7 +14,8 @@ from bisect import bisect_left, bisect_right
 from judge_report import Line, address_text, object_rows, site_names, object_table
 from traces import Alloc, Free, Symbol, read_records
 
-# Accesses, words of the call, and for each line its base with its cold, useful and useless misses, by what docs/RULES.md says.
+# Accesses, words of the call, and for each line its base with its cold, useful and useless misses, by what
+# docs/RULES.md says.
 WORKED = [
     ("W0 1000, W1 1004, W0 1000, W1 1004", 64, {0x1000: (2, 0, 2)}),
     ("W0 1000, R1 1000, W0 1000, R1 1000", 64, {0x1000: (2, 1, 0)}),
@@ -54,7 +56,8 @@ def count_misses(accesses, size=64, shift=0):
 
 
 def split_accesses(trace, others):
-    """The accesses of a trace, while the other records are put to the others, each behind so many accesses."""
+    """The accesses of a trace, while the other records are put to the others, each behind so many
+    accesses."""
     count = 0
     for record in read_records(trace):
         if isinstance(record, (Symbol, Alloc, Free)):

@@ -1,11 +1,12 @@
 #!/usr/bin/env python3
 """Moves the accesses of a trace by a table anew.
 
-usage: tools/recount_move.py TRACE TABLE FILE      writes FILE, and prints what `predator move` prints, also where it refuses
+usage: tools/recount_move.py TRACE TABLE FILE      writes FILE, and prints what `predator move` prints, also
+where it refuses
        tools/recount_move.py --try                 the worked lists below, and what they are to give
 
-Written from docs/RULES.md and docs/FORMATS.md alone: each access is looked for in all ranges, and in all places. Of a file that is no trace
-it says nothing."""
+Written from docs/RULES.md and docs/FORMATS.md alone: each access is looked for in all ranges, and in all
+places. Of a file that is no trace it says nothing."""
 
 import re
 import struct
@@ -82,7 +83,8 @@ def target_address(table: list[Move], addr: int) -> int | None:
 def access_bytes(
     version: int, tag: int, size: int, touch: Access, last: int, pcs: dict[int, int]
 ) -> bytes:
-    """An access of a trace of a version behind one of another address, with the pcs of the harts' accesses before."""
+    """An access of a trace of a version behind one of another address, with the pcs of the harts' accesses
+    before."""
     if version == 1:
         return struct.pack("<BHIB", tag, touch.hart, touch.addr, size)
     found = bytes((tag, touch.hart)) + encode_distance(touch.addr - last)

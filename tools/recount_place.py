@@ -4,8 +4,9 @@
 usage: tools/recount_place.py TRACE NAME [--size N]              (64 unless it is given)
        tools/recount_place.py --try                              the worked lists below, and what they are to give
 
-Written from docs/RULES.md and the trace of docs/FORMATS.md alone, over whole lists: the harts that touch each word, the groups one behind
-the other, and the list with its accesses moved, counted by plain caches. It prints what `predator place` prints, also where it refuses."""
+Written from docs/RULES.md and the trace of docs/FORMATS.md alone, over whole lists: the harts that touch each
+word, the groups one behind the other, and the list with its accesses moved, counted by plain caches. It
+prints what `predator place` prints, also where it refuses."""
 
 import re
 import sys
@@ -13,8 +14,8 @@ import sys
 from judge_report import address_text, printable_name
 from traces import OBJECT, Alloc, Free, Symbol, read_records
 
-# The address and size of an object, accesses, the size of a line, and by docs/RULES.md the places of its words, the area and the three
-# sums.
+# The address and size of an object, accesses, the size of a line, and by docs/RULES.md the places of its
+# words, the area and the three sums.
 WORKED = [
     ((0x1000, 8), "W0 1000, W1 1004, W0 1000", 64, [0x1040, 0x1080], (0x1040, 128), (2, 0, 0)),
     ((0x1000, 4), "W0 1000, W1 1000", 64, [0x1040], (0x1040, 64), (1, 1, 1)),
@@ -62,7 +63,8 @@ def count_lines(accesses, size):
 
 
 def place_words(accesses, begin, length, size):
-    """Who touches each word of the object, and the place of each; with them the area and the lines of the words of many harts."""
+    """Who touches each word of the object, and the place of each; with them the area and the lines of the
+    words of many harts."""
     words = range(begin // 4 * 4, min(begin + length, 2**32), 4)
     touched = {}
     for hart, addr, _ in accesses:
@@ -81,7 +83,8 @@ def place_words(accesses, begin, length, size):
 
 
 def sum_counts(accesses, places, many, size):
-    """What the list counts, what the moved one does, and the part of that on the lines of the words of many harts."""
+    """What the list counts, what the moved one does, and the part of that on the lines of the words of many
+    harts."""
     moved = [
         (hart, places.get(addr // 4 * 4, addr // 4 * 4) + addr % 4, is_write)
         for hart, addr, is_write in accesses

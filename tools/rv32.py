@@ -1,4 +1,5 @@
-"""Small programs for growth.py: an assembler of the few RV32IM instructions that they want, and a writer of program files."""
+"""Small programs for growth.py: an assembler of the few RV32IM instructions that they want, and a writer of
+program files."""
 
 import struct
 from contextlib import contextmanager

@@ -1,15 +1,16 @@
 #!/usr/bin/env python3
-"""Gives the program much of everything, and little memory: long traces through every command that passes over one, runs of many steps, many
-lines, large files. No want of memory, no cut and no wrong count may come of it.
+"""Gives the program much of everything, and little memory: long traces through every command that passes over
+one, runs of many steps, many lines, large files. No want of memory, no cut and no wrong count may come of it.
 
 usage: tools/sizes.py PROGRAM [--long]
 
-Each call has an address space of so many bytes as its row says, so that one that holds a trace, or takes pieces of a GiB, ends with want of
-memory. What it prints is known: two harts take one line from each other at each access, or write so many lines. The short form takes a
-trace of more than 2^24 accesses through every command that passes over one, one of more than 256 MiB through `replay`, a run and `explain`
-of more than 2^24 accesses, more than 65,536 blocks, noted blocks and lines, programs of 16 MiB and of a byte less, a table of 1 MiB, and a
-state, an output and a trace of more than 32 MiB. The long form takes the longer trace through every command. Memory that
-is refused at any one place is tried by guest/refuse_memory.py."""
+Each call has an address space of so many bytes as its row says, so that one that holds a trace, or takes
+pieces of a GiB, ends with want of memory. What it prints is known: two harts take one line from each other at
+each access, or write so many lines. The short form takes a trace of more than 2^24 accesses through every
+command that passes over one, one of more than 256 MiB through `replay`, a run and `explain` of more than 2^24
+accesses, more than 65,536 blocks, noted blocks and lines, programs of 16 MiB and of a byte less, a table of 1
+MiB, and a state, an output and a trace of more than 32 MiB. The long form takes the longer trace through
+every command. Memory that is refused at any one place is tried by guest/refuse_memory.py."""
 
 import hashlib
 import os
@@ -36,8 +37,8 @@ PIECE = 1 << 16
 
 
 class Try(NamedTuple):
-    """A call, the text that it prints, or how its lines begin, in their order, the files that it writes by their sums, and how many MiB of
-    addresses it has."""
+    """A call, the text that it prints, or how its lines begin, in their order, the files that it writes by
+    their sums, and how many MiB of addresses it has."""
 
     words: str
     printed: bytes | tuple[str, ...]
@@ -298,7 +299,8 @@ def calling_code(times: int, *calls: tuple[str, int | str, int | str]) -> bytes:
 
 
 def run_tries() -> Iterator[Try]:
-    """More than 2^24 accesses of a run and of `explain`, and more blocks, and notes of blocks, than 65,536."""
+    """More than 2^24 accesses of a run and of `explain`, and more blocks, and notes of blocks, than
+    65,536."""
     half = LONG // 4 + 1
     put_file("fights.elf", contending_code(half))
     rows = [

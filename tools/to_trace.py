@@ -1,19 +1,21 @@
 #!/usr/bin/env python3
-"""Makes a trace that `predator replay` reads of lines of text, as other tracers print them after a line of awk.
+"""Makes a trace that `predator replay` reads of lines of text, as other tracers print them after a line of
+awk.
 
 usage: tools/to_trace.py LINES OUT.trace [--split] [--table FILE]
        tools/to_trace.py --back FILE ADDRESS ..
 
-Each line is `HART KIND ADDRESS SIZE`, in the order in which the accesses were made: HART is any word that names a thread, KIND
-is `R` or `W`, ADDRESS is hexadecimal, with `0x` or without, and SIZE is in bytes. LINES may be `-`, for standard input.
+Each line is `HART KIND ADDRESS SIZE`, in the order in which the accesses were made: HART is any word that
+names a thread, KIND is `R` or `W`, ADDRESS is hexadecimal, with `0x` or without, and SIZE is in bytes. LINES
+may be `-`, for standard input.
 
-Threads become harts 0, 1, 2, .. in the order in which they come, at most 256. Pages of 4096 bytes of a 64-bit address space become
-pages of 32 bits: those that lie side by side stay so, and at least one page is left out between any others, so that no two
-lines become neighbours that weren't. --table FILE writes which page became which, and to_trace.py --back FILE ADDRESS .. says
-what addresses of a report were.
+Threads become harts 0, 1, 2, .. in the order in which they come, at most 256. Pages of 4096 bytes of a 64-bit
+address space become pages of 32 bits: those that lie side by side stay so, and at least one page is left out
+between any others, so that no two lines become neighbours that weren't. --table FILE writes which page became
+which, and to_trace.py --back FILE ADDRESS .. says what addresses of a report were.
 
-An access of 1, 2 or 4 bytes that is a multiple of its size is taken as it is. Any other is refused with its line, or, with
---split, taken apart into such accesses from its lowest byte on."""
+An access of 1, 2 or 4 bytes that is a multiple of its size is taken as it is. Any other is refused with its
+line, or, with --split, taken apart into such accesses from its lowest byte on."""
 
 import struct
 import sys

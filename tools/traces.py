@@ -1,5 +1,5 @@
-"""Reads a trace of any version, and gives one pcs, by docs/FORMATS.md alone. It judges nothing: a file that is no trace is an error of some
-kind."""
+"""Reads a trace of any version, and gives one pcs, by docs/FORMATS.md alone. It judges nothing: a file that
+is no trace is an error of some kind."""
 
 import struct
 from typing import Callable, NamedTuple
@@ -75,7 +75,8 @@ def located_records(trace):
 
 
 def read_records(trace):
-    """The records up to the end's, in order: an access as (hart, address, whether it writes), and each other one as what it is."""
+    """The records up to the end's, in order: an access as (hart, address, whether it writes), and each other
+    one as what it is."""
     return (it[:3] if isinstance(it, Access) else it for *_, it in located_records(trace))
 
 
@@ -100,7 +101,8 @@ def encode_distance(distance):
 
 
 def add_pcs(trace, pc_of: Callable[[Access, int], int]):
-    """A trace of version 1 in version 3, with pcs that are made of each access and the pc of its hart's access before."""
+    """A trace of version 1 in version 3, with pcs that are made of each access and the pc of its hart's
+    access before."""
     parts, place, last, pcs = [b"PRDTRC03" + trace[8:20]], 20, 0, {}
     for start, place, record in located_records(trace):
         if isinstance(record, Access):

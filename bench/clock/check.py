@@ -1,5 +1,5 @@
-"""Tries the study without timing: the arithmetic on a made-up table, and of each pair, that both forms compute the same on this machine and
-as guests, and that padding takes away what it is to take away."""
+"""Tries the study without timing: the arithmetic on a made-up table, and of each pair, that both forms
+compute the same on this machine and as guests, and that padding takes away what it is to take away."""
 
 import os
 import re
@@ -33,7 +33,8 @@ QUANTUM = 10
 
 
 def make_row(name: str, kind: str, useless: Sequence[int], ns: Sequence[float]) -> Row:
-    """A row whose guest makes 1000 steps, with so many useless misses in both forms, and which takes so long."""
+    """A row whose guest makes 1000 steps, with so many useless misses in both forms, and which takes so
+    long."""
     timed = [Timed(100, it, it * 0.9, it * 1.1, 5, 5, 1, 0, 0) for it in ns]
     counts = {
         (form, quantum): Count(1000, 500, 3, number, 2 * number, 1)

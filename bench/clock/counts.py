@@ -18,7 +18,8 @@ LISTED = re.compile(r"^line observed \S+ \d+ start \d+ count (\d+) ", re.MULTILI
 
 
 class Count(NamedTuple):
-    """What a run or a recording has: steps (0 in a recording), accesses, its misses, and the sum of the report's observed counts."""
+    """What a run or a recording has: steps (0 in a recording), accesses, its misses, and the sum of the
+    report's observed counts."""
 
     steps: int
     accesses: int

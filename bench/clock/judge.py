@@ -1,4 +1,5 @@
-"""What is told of measured pairs: slowdowns beside counts, rank correlations, bands, and whether a bound held. Nothing is measured here."""
+"""What is told of measured pairs: slowdowns beside counts, rank correlations, bands, and whether a bound
+held. Nothing is measured here."""
 
 from statistics import median
 from typing import Callable, NamedTuple, Sequence
@@ -17,7 +18,8 @@ Cell = str | int | float | None
 
 
 class Row(NamedTuple):
-    """A pair with so many threads: what both forms took, what each has under each quantum, and as recorded on this machine."""
+    """A pair with so many threads: what both forms took, what each has under each quantum, and as recorded on
+    this machine."""
 
     program: Program
     threads: int
@@ -56,7 +58,8 @@ class Row(NamedTuple):
         return 1 - 1 / self.slowdown()
 
     def step(self) -> float | None:
-        """The nanoseconds that a thread of the padded form takes for what is a step of the guest's, where none waits for another."""
+        """The nanoseconds that a thread of the padded form takes for what is a step of the guest's, where
+        none waits for another."""
         found = self.counts.get((FORMS[1], USUAL))
         if not found or self.program.kind == "handover":
             return None
@@ -169,7 +172,8 @@ def rank_correlation(rows: Sequence[Row], number: Callable[[Row], float | None])
 
 
 def correlations(rows: Sequence[Row], threads: Sequence[int]) -> list[list[Cell]]:
-    """For each number its rank correlation with the slowdown: with each count of threads, over all, and over all that hand nothing over."""
+    """For each number its rank correlation with the slowdown: with each count of threads, over all, and over
+    all that hand nothing over."""
     free = [it for it in rows if it.program.kind != "handover"]
     return [
         [

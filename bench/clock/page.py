@@ -1,5 +1,6 @@
-"""The page of some studies, side by side: useless misses by 1000 steps against the slowdown that padding took away, each program a named
-point. One file of HTML, which needs no network and no script; its template, which extends that of view/, escapes every name."""
+"""The page of some studies, side by side: useless misses by 1000 steps against the slowdown that padding took
+away, each program a named point. One file of HTML, which needs no network and no script; its template, which
+extends that of view/, escapes every name."""
 
 import math
 from typing import Any, Iterator, Mapping, NamedTuple, Sequence
@@ -81,7 +82,8 @@ def label_places(x: float, y: float, wide: float) -> Iterator[tuple[float, float
 
 
 def place_labels(points: Sequence[tuple[float, float, str]]) -> list[Given]:
-    """A place for the name of each point, where it covers no point and no other name if there is one; a line leads to it from afar."""
+    """A place for the name of each point, where it covers no point and no other name if there is one; a line
+    leads to it from afar."""
     taken = [Box(x - POINT, y - POINT, x + POINT, y + POINT) for x, y, _ in points]
     made = []
     for x, y, name in points:

@@ -1,4 +1,5 @@
-"""The pairs of programs/: what they are, and how both forms of each are built, for this machine and for predator's harts."""
+"""The pairs of programs/: what they are, and how both forms of each are built, for this machine and for
+predator's harts."""
 
 import os
 import subprocess
@@ -32,7 +33,8 @@ class Program(NamedTuple):
 
 
 class Built(NamedTuple):
-    """A form of a pair for so many threads and lines of so many bytes: the files of both machines, of which the guest's may be missing."""
+    """A form of a pair for so many threads and lines of so many bytes: the files of both machines, of which
+    the guest's may be missing."""
 
     program: Program
     form: str
@@ -43,7 +45,8 @@ class Built(NamedTuple):
 
 
 def find_programs(only: Sequence[str] = ()) -> list[Program]:
-    """All pairs, by their kinds and names, or those that are named. Trouble where a name isn't there, or a first line says no kind."""
+    """All pairs, by their kinds and names, or those that are named. Trouble where a name isn't there, or a
+    first line says no kind."""
     found = []
     for file in sorted(os.listdir(PROGRAMS)):
         name, ending = os.path.splitext(file)
@@ -110,7 +113,8 @@ def build(target: Built) -> None:
 def build_all(
     chosen: Iterable[Program], threads: Sequence[int], line: int, folder: str, guests: bool
 ) -> list[Built]:
-    """Each form of each pair for each number of threads, in the folder, as many at a time as there are processors."""
+    """Each form of each pair for each number of threads, in the folder, as many at a time as there are
+    processors."""
     made = []
     for program in chosen:
         for count in threads:

@@ -1,12 +1,14 @@
 #!/usr/bin/env python3
 """What a miss is worth in time, on this machine.
 
-usage: bench/clock/run.py [OPTIONS]           measures all, for some fifteen minutes or until it is interrupted, and prints what was found
+usage: bench/clock/run.py [OPTIONS]           measures all, for some fifteen minutes or until it is
+interrupted, and prints what was found
        bench/clock/run.py --again FOLDER      makes the texts and the page of a study anew, and measures nothing
        bench/clock/run.py --check             tries the study itself without timing
 
-Each pair of programs/ is a program as it is, and padded. Both are timed here, in turn, each thread on a processor of its own; the same
-sources are counted as guests of predator and, where valgrind is installed, recorded on this machine.
+Each pair of programs/ is a program as it is, and padded. Both are timed here, in turn, each thread on a
+processor of its own; the same sources are counted as guests of predator and, where valgrind is installed,
+recorded on this machine.
 
 Options:
   --cpus A,B,..     the processors, of which each thread gets one (all that this call may use)
@@ -21,7 +23,8 @@ Options:
   --disturbed       takes runs whose threads were switched, too: to see on a busy machine that all works
   --out FOLDER      where study.md, study.tsv, study.html and what they are made from go (bench/clock/out)
 
-Wants gcc, clang with lld and llvm, and the built program; for the page python3-jinja2. The machine has to be quiet."""
+Wants gcc, clang with lld and llvm, and the built program; for the page python3-jinja2. The machine has to be
+quiet."""
 
 import os
 import sys
@@ -157,7 +160,8 @@ def count_outcome(job: "Future[Count]") -> Count | None:
 
 
 def count_all(call: Call, built: Sequence[Built]) -> Counted:
-    """What predator counts of each, as many at a time as there are processors. Trouble where both forms compute otherwise."""
+    """What predator counts of each, as many at a time as there are processors. Trouble where both forms
+    compute otherwise."""
     made: Counted = {}
     with ThreadPoolExecutor(os.cpu_count()) as pool:
         jobs = [
@@ -185,7 +189,8 @@ def count_all(call: Call, built: Sequence[Built]) -> Counted:
 
 
 def put_counts(counted: Counted, pairs: Sequence[Built], rows: Sequence[Row]) -> None:
-    """Puts to each row what was counted of it. What is told where there is nothing: the sources changed, or the count failed."""
+    """Puts to each row what was counted of it. What is told where there is nothing: the sources changed, or
+    the count failed."""
     keys = {(it.program.name, it.threads): count_key(it) for it in pairs}
     for row in rows:
         found = counted.get(keys[row.program.name, row.threads], {})

@@ -31,7 +31,8 @@ from tables import Study, number_text, table
 from timing import Timed
 
 RESULTS = os.path.join(HERE, "results")
-# The programs of the table: of the first band and of the last, and those on which the bands and the bound mislead.
+# The programs of the table: of the first band and of the last, and those on which the bands and the bound
+# mislead.
 NAMED = ("nodes", "atomics", "readers", "stores", "blocks", "bytes", "guarded", "ring")
 # Those that GUIDE shows: one of the last band and one of the first.
 SHOWN = ("atomics", "guarded")

@@ -1,4 +1,5 @@
-"""The study as text: the tables of Markdown, the table of tab-separated values, and the record from which all is made again."""
+"""The study as text: the tables of Markdown, the table of tab-separated values, and the record from which all
+is made again."""
 
 import hashlib
 import json
@@ -12,7 +13,8 @@ from timing import Timed
 
 
 class Study(NamedTuple):
-    """What was measured, and where: `machine` has names and texts, `lines` the nanoseconds between each two processors."""
+    """What was measured, and where: `machine` has names and texts, `lines` the nanoseconds between each two
+    processors."""
 
     machine: dict[str, str]
     lines: dict[str, float]
@@ -79,7 +81,8 @@ def parse_study(text: str) -> Study:
     )
 
 
-# What was counted of each pair with so many threads, by its key; by form and quantum, where RECORDED is the recording on this machine.
+# What was counted of each pair with so many threads, by its key; by form and quantum, where RECORDED is the
+# recording on this machine.
 RECORDED = 0
 Counted = dict[str, dict[tuple[str, int], Count]]
 

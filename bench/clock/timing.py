@@ -1,4 +1,5 @@
-"""How long the pairs take on this machine: pinned, one form after the other, in many short runs; and how long a line takes to go over."""
+"""How long the pairs take on this machine: pinned, one form after the other, in many short runs; and how long
+a line takes to go over."""
 
 import os
 import re
@@ -9,17 +10,19 @@ from typing import NamedTuple, Sequence
 from pairs import HERE, Built, Trouble, run_command
 
 SAID = re.compile(r"^result (\d+)\nns (\d+)\nswitches (\d+) (\d+) away (-?\d+)\n$")
-# A run takes at least so long in its slower form and in its faster one, in seconds, as far as that keeps the slower one below the last.
+# A run takes at least so long in its slower form and in its faster one, in seconds, as far as that keeps the
+# slower one below the last.
 SLOWER, FASTER, LONGEST = 0.1, 0.03, 0.6
-# A run is disturbed if a thread was switched of itself, or if all together had no processor for more than so much of the time.
+# A run is disturbed if a thread was switched of itself, or if all together had no processor for more than so
+# much of the time.
 AWAY = 0.01
 # A form of a pair has at least so many runs that nothing disturbed, or it is told to be disturbed.
 LEAST = 5
 
 
 class Once(NamedTuple):
-    """A run: what it computed, its nanoseconds, how often its threads were switched, of themselves and not, and the nanoseconds of all
-    threads without a processor."""
+    """A run: what it computed, its nanoseconds, how often its threads were switched, of themselves and not,
+    and the nanoseconds of all threads without a processor."""
 
     result: int
     ns: int
@@ -32,7 +35,8 @@ class Once(NamedTuple):
 
 
 class Timed(NamedTuple):
-    """A form's runs: how much each thread did, the middle of those that nothing disturbed, the quarters, and how many of them were kept."""
+    """A form's runs: how much each thread did, the middle of those that nothing disturbed, the quarters, and
+    how many of them were kept."""
 
     rounds: int
     ns: float
@@ -95,8 +99,8 @@ def summarize_runs(found: Sequence[Once], rounds: int, takes_all: bool) -> Timed
 def time_pair(
     pair: Sequence[Built], cpus: Sequence[int], runs: int, takes_all: bool
 ) -> list[Timed]:
-    """Both forms of a pair, one after the other, so often that each has as many quiet runs as are wanted, but at most twice as often.
-    Trouble where both don't compute the same."""
+    """Both forms of a pair, one after the other, so often that each has as many quiet runs as are wanted, but
+    at most twice as often. Trouble where both don't compute the same."""
     rounds = choose_rounds(pair, cpus)
     found: list[list[Once]] = [[], []]
     for at in range(2 * runs):

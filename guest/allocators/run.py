@@ -1,9 +1,10 @@
 #!/usr/bin/env python3
-"""Builds Debian's allocators, unchanged, into one workload, runs it, and prints where blocks of two threads meet: run.py [--renew |
---build].
+"""Builds Debian's allocators, unchanged, into one workload, runs it, and prints where blocks of two threads
+meet: run.py [--renew | --build].
 
-fetch.sh has fetched the sources. --renew puts the table into docs/STUDIES.md. --build leaves the two programs of the allocators, where each
-thread asks for its first blocks itself, in guest/built/studies, as `dlmalloc.elf` and `mimalloc.elf`, and runs none."""
+fetch.sh has fetched the sources. --renew puts the table into docs/STUDIES.md. --build leaves the two programs
+of the allocators, where each thread asks for its first blocks itself, in guest/built/studies, as
+`dlmalloc.elf` and `mimalloc.elf`, and runs none."""
 
 import os
 import subprocess

@@ -1,6 +1,7 @@
 #!/usr/bin/env python3
-"""Assembles each program of programs.S into crates/worked_runs/data/NAME.elf: a header, its segments, its code, and its symbols
-where it has any, as small as can be. It takes clang with the target riscv32, and llvm-objcopy."""
+"""Assembles each program of programs.S into crates/worked_runs/data/NAME.elf: a header, its segments, its
+code, and its symbols where it has any, as small as can be. It takes clang with the target riscv32, and
+llvm-objcopy."""
 
 import os
 import re
@@ -25,7 +26,8 @@ def assemble(text, work):
 
 
 def parse_more(text):
-    """What the lines `#+ ..` under a heading say: the rights of the code, the segments of zeros, and the functions."""
+    """What the lines `#+ ..` under a heading say: the rights of the code, the segments of zeros, and the
+    functions."""
     rights, zeros, functions = 7, [], []
     for words in (line.split()[1:] for line in text.splitlines() if line.startswith("#+")):
         if words[0] == "rights":

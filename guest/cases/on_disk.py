@@ -1,8 +1,10 @@
 #!/usr/bin/env python3
-"""Plays the cases of crates/worked_runs/data with the built program over real files: on_disk.py [--renew] [CASE ..].
+"""Plays the cases of crates/worked_runs/data with the built program over real files: on_disk.py [--renew]
+[CASE ..].
 
-It says which calls end otherwise than their case says, and ends with 1 if any does. With --renew it puts into the cases what the
-program printed and answered: read the difference line by line before it is committed, since a case says what is right."""
+It says which calls end otherwise than their case says, and ends with 1 if any does. With --renew it puts into
+the cases what the program printed and answered: read the difference line by line before it is committed,
+since a case says what is right."""
 
 import os
 import struct

@@ -1,10 +1,11 @@
 #!/usr/bin/env python3
-"""Follows what `predator view` advises on programs that nobody here wrote, and prints the table of docs/STUDIES.md: advice.py [--renew]
-[PROGRAM ..].
+"""Follows what `predator view` advises on programs that nobody here wrote, and prints the table of
+docs/STUDIES.md: advice.py [--renew] [PROGRAM ..].
 
-Each is built with its types, shown, built as the advice says, and counted again. Where a build of the study does what is advised, it is
-that; else view's patch is taken. fetch.sh has fetched the sources. The status is 1 where what is counted differs from what was foretold by
-a tenth of the misses before or more, or where these didn't become fewer."""
+Each is built with its types, shown, built as the advice says, and counted again. Where a build of the study
+does what is advised, it is that; else view's patch is taken. fetch.sh has fetched the sources. The status is
+1 where what is counted differs from what was foretold by a tenth of the misses before or more, or where these
+didn't become fewer."""
 
 import json
 import os
@@ -25,9 +26,9 @@ SETTINGS = "quantum=10"
 
 
 class AdvicePlan(NamedTuple):
-    """A program: what its call sites make, and the build that does what is advised, or none where the patch does; `by` is what build.sh
-    builds it by, if not by its name, and `sources` the folder in out/ that the patch is for, if there is one.
-    """
+    """A program: what its call sites make, and the build that does what is advised, or none where the patch
+    does; `by` is what build.sh builds it by, if not by its name, and `sources` the folder in out/ that the
+    patch is for, if there is one."""
 
     types: tuple = ()
     repaired: str | None = None

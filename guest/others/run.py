@@ -1,9 +1,9 @@
 #!/usr/bin/env python3
-"""Builds and runs the studies of code that nobody here wrote, recounts their traces, and prints the tables of docs/STUDIES.md:
-run.py [--renew] [STUDY ..].
+"""Builds and runs the studies of code that nobody here wrote, recounts their traces, and prints the tables of
+docs/STUDIES.md: run.py [--renew] [STUDY ..].
 
-fetch.sh has fetched the sources; build.sh builds them. --renew puts the tables into the page. It ends with 1 where a program doesn't end
-with exit 0, or a recount says otherwise than a report, `misses` or `explain`."""
+fetch.sh has fetched the sources; build.sh builds them. --renew puts the tables into the page. It ends with 1
+where a program doesn't end with exit 0, or a recount says otherwise than a report, `misses` or `explain`."""
 
 import os
 import re
@@ -38,8 +38,8 @@ STUDIES = {
 SETTINGS = "quantum = 10\n"
 # (their coders want some MiB for each thread)
 LARGE = {"zstd": SETTINGS + "memory = 67108864\n", "xz": SETTINGS + "memory = 67108864\n"}
-# The builds of which a predicted line is looked at, and the one in which what the first of them predicts is observed, with how far its data
-# moved.
+# The builds of which a predicted line is looked at, and the one in which what the first of them predicts is
+# observed, with how far its data moved.
 PREDICTED = ["rte_ring", "rte_ring-together", "kt_for-apart"]
 MOVED = {"rte_ring-together": ("rte_ring-together-at-24", 24)}
 # How many lines of a report, and how many of the misses, are shown, and how many objects of each.
@@ -74,8 +74,8 @@ def count_false_sharing(told, base, size):
 
 
 def prediction_row(name, runs):
-    """The first predicted line of a report: what it costs under its own layout, what the lines of 64 bytes that it touches cost, and, where
-    the data lie so in another build, what is observed there."""
+    """The first predicted line of a report: what it costs under its own layout, what the lines of 64 bytes
+    that it touches cost, and, where the data lie so in another build, what is observed there."""
     line = runs[name].report.lines_of_kind("shifted", "doubled")[0]
     with tempfile.TemporaryDirectory() as work:
         settings, trace = os.path.join(work, "settings"), os.path.join(work, "trace")

@@ -1,9 +1,10 @@
 #!/usr/bin/env python3
-"""What the sharing of each study costs, before and after its repair, and which lines of its source fight most over the first line of its
-report: costs.py [--renew] [STUDY ..].
+"""What the sharing of each study costs, before and after its repair, and which lines of its source fight most
+over the first line of its report: costs.py [--renew] [STUDY ..].
 
-It builds the programs with line tables (clang, lld and picolibc are wanted, and llvm-symbolizer), and runs `run`, `misses` and `explain`.
---renew puts the tables into docs/STUDIES.md. It ends with 1 where `tools/recount_misses.py` or a report says otherwise than these."""
+It builds the programs with line tables (clang, lld and picolibc are wanted, and llvm-symbolizer), and runs
+`run`, `misses` and `explain`. --renew puts the tables into docs/STUDIES.md. It ends with 1 where
+`tools/recount_misses.py` or a report says otherwise than these."""
 
 import json
 import os
@@ -36,8 +37,8 @@ def program_output(*words):
 
 
 def source_place(path, pc, name):
-    """The line of the source that has an instruction, with its function and the one that it is inlined in; a function of the C library,
-    which has no line tables, by its name."""
+    """The line of the source that has an instruction, with its function and the one that it is inlined in; a
+    function of the C library, which has no line tables, by its name."""
     words = ["llvm-symbolizer", f"--obj={path}", "--output-style=JSON", f"{pc:#x}"]
     ran = subprocess.run(words, stdout=subprocess.PIPE, text=True, check=True)
     frames = json.loads(ran.stdout)[0]["Symbol"]
@@ -53,8 +54,9 @@ def source_place(path, pc, name):
 
 
 class Build:
-    """A build that was run: its misses, and of one line the two instructions of which one takes it from the other most often. The line is
-    the first of the report, or, where `is_worst`, the first of the misses."""
+    """A build that was run: its misses, and of one line the two instructions of which one takes it from the
+    other most often. The line is the first of the report, or, where `is_worst`, the first of the misses.
+    """
 
     def __init__(self, path, settings_text="", is_worst=False):
         self.path, self.wrong = path, []

@@ -1,4 +1,5 @@
-"""What the scripts of the studies share: a run of the program, its report, the recount of its trace, and tables in a document."""
+"""What the scripts of the studies share: a run of the program, its report, the recount of its trace, and
+tables in a document."""
 
 import os
 import subprocess
@@ -33,7 +34,8 @@ def address_text(addr):
 
 
 class Line:
-    """A listed line of a report: its own line, and the lines of what stands on it and of its words, as they are printed."""
+    """A listed line of a report: its own line, and the lines of what stands on it and of its words, as they
+    are printed."""
 
     def __init__(self, text):
         words = text.split()
@@ -66,7 +68,8 @@ class Report:
 
 
 def counts_since(trace, lines):
-    """The counts of lines since their starts, whatever opened them, by caches that are simulated over the whole list."""
+    """The counts of lines since their starts, whatever opened them, by caches that are simulated over the
+    whole list."""
     on = {}
     for at, line in enumerate(lines):
         for word in range(line.base // 4, (line.base + line.size) // 4):
@@ -90,8 +93,9 @@ def report_of_call(words, trace):
 
 
 class Run:
-    """A run of a built program under settings: its report, that of its trace under words of 4 bytes, its output, and what is wrong: an end
-    other than exit 0, and what the recount of the trace says otherwise."""
+    """A run of a built program under settings: its report, that of its trace under words of 4 bytes, its
+    output, and what is wrong: an end other than exit 0, and what the recount of the trace says otherwise.
+    """
 
     def __init__(self, path, settings=""):
         if not os.path.exists(path):
@@ -143,8 +147,8 @@ def markdown_table(heads, rows):
 
 
 def object_rows(lines, most=100):
-    """The rows of some lines, each given as its text and what stands on it: at most so many objects, without their call sites, and none
-    where they are those of the line before."""
+    """The rows of some lines, each given as its text and what stands on it: at most so many objects, without
+    their call sites, and none where they are those of the line before."""
     made, before = [], None
     for text, rows in lines:
         shown_here = [it for it in rows if it.startswith("object ")][:most]

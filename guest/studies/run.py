@@ -1,8 +1,9 @@
 #!/usr/bin/env python3
 """Runs the studies, recounts their traces, and prints their tables: run.py [--renew] [STUDY ..].
 
-The programs are those that `guest/build.sh studies` built. --renew puts the tables into docs/STUDIES.md, with the commit. It ends with 1
-where a program doesn't end with exit 0, or a recount says otherwise than a report."""
+The programs are those that `guest/build.sh studies` built. --renew puts the tables into docs/STUDIES.md, with
+the commit. It ends with 1 where a program doesn't end with exit 0, or a recount says otherwise than a
+report."""
 
 import os
 import sys
@@ -55,7 +56,8 @@ def summary_table(runs):
 
 
 def excerpt(name, run):
-    """The first observed lines of a report with what stands on them, or else the first predicted ones, as the program printed them."""
+    """The first observed lines of a report with what stands on them, or else the first predicted ones, as the
+    program printed them."""
     lines, observed = run.report.lines, run.report.lines_of_kind("observed")
     first = (observed or lines)[:MOST]
     made = [
@@ -83,7 +85,8 @@ def placement_table(runs):
 
 
 def prediction_rows(study, place, runs):
-    """Each shifted line that was predicted at a place, beside the line that is observed where the data lie so."""
+    """Each shifted line that was predicted at a place, beside the line that is observed where the data lie
+    so."""
     rows = []
     for line in runs[f"{study}-at-{place}"].report.lines_of_kind("shifted"):
         moved = (place - line.base) % 64

@@ -1,10 +1,10 @@
 #!/usr/bin/env python3
-"""Builds and records programs of this machine, each as it is and with its repair, and prints the table of docs/STUDIES.md, and of each
-program the first three rows of its screen: run.py [--renew] [STUDY ..].
+"""Builds and records programs of this machine, each as it is and with its repair, and prints the table of
+docs/STUDIES.md, and of each program the first three rows of its screen: run.py [--renew] [STUDY ..].
 
-fetch.sh has fetched the sources; build.sh builds them. --renew puts the table into the page, and the rows into first_rows.txt. What is
-counted is what `predator misses` prints, and an object's part of it what `predator view` puts together. It ends with 1 where a program
-doesn't end as it should."""
+fetch.sh has fetched the sources; build.sh builds them. --renew puts the table into the page, and the rows
+into first_rows.txt. What is counted is what `predator misses` prints, and an object's part of it what
+`predator view` puts together. It ends with 1 where a program doesn't end as it should."""
 
 import json
 import os
@@ -26,8 +26,8 @@ OUT = os.path.join(HERE, "out")
 ROWS = os.path.join(HERE, "first_rows.txt")
 # A row of a screen: its place, four numbers, and the object.
 ROW = re.compile(r"^ +([123])(?: +[0-9-]+){4}  (.*)$", re.MULTILINE)
-# What stands for a new folder, for a text in it, a folder of a thousand texts, sixty objects to be linked, a short film, and a server's
-# settings.
+# What stands for a new folder, for a text in it, a folder of a thousand texts, sixty objects to be linked, a
+# short film, and a server's settings.
 FOLDER, TEXT, TREE, OBJECTS, FILM, CONFIG = "FOLDER", "TEXT", "TREE", "OBJECTS", "FILM", "CONFIG"
 LIBC = "-L/usr/lib/x86_64-linux-gnu"
 # Four threads answer by themselves.
@@ -61,9 +61,10 @@ remote-control:
 
 
 class Study(NamedTuple):
-    """A program's builds or Debian's command, its words, and what is looked at in it; `status` is what it ends with, `text` how many bytes
-    its text has, `reads_text` whether that is its input, and `most` how many accesses are recorded at most. Of a server `clients` are the
-    words of tools/clients.py, and `config` its settings."""
+    """A program's builds or Debian's command, its words, and what is looked at in it; `status` is what it
+    ends with, `text` how many bytes its text has, `reads_text` whether that is its input, and `most` how many
+    accesses are recorded at most. Of a server `clients` are the words of tools/clients.py, and `config` its
+    settings."""
 
     builds: Sequence[str]
     words: Sequence[str] = ()
@@ -244,9 +245,10 @@ def record_trace(study: Study, program: str, folder: str) -> str:
 
 
 def is_named(name: str) -> bool:
-    """Whether an object is called by a name or a line of a source, and not by places alone, as `block made in fd+0x1e42e2 < fd+0x34231`. A
-    place of a panic, an assertion and a class count, but for those of a library, and so does a text, but for that of a caller; that a file
-    has the memory doesn't, where its own code alone uses that."""
+    """Whether an object is called by a name or a line of a source, and not by places alone, as `block made in
+    fd+0x1e42e2 < fd+0x34231`. A place of a panic, an assertion and a class count, but for those of a library,
+    and so does a text, but for that of a caller; that a file has the memory doesn't, where its own code alone
+    uses that."""
     if re.match("memory at|block without", name):
         return False
     if re.search(
@@ -273,7 +275,8 @@ def object_name(name: str) -> str:
 
 
 def table_row(study: Study, program: str) -> tuple[list[object], str]:
-    """What is counted of a program: all, what is looked at, and how much of what is useless has a name or a line; and its first rows."""
+    """What is counted of a program: all, what is looked at, and how much of what is useless has a name or a
+    line; and its first rows."""
     with tempfile.TemporaryDirectory(prefix="predator-others-") as folder:
         trace, kept = record_trace(study, program, folder), os.path.join(folder, "kept.json")
         words = [PREDATOR, "view", "replay", trace, "--no-predicted", "--json", kept]

@@ -1,10 +1,10 @@
 #!/usr/bin/env python3
-"""Runs the commands of docs/NATIVE.md, one after the other in a folder of its own, and compares what they print with what stands there:
-docs.py FOLDER. It prints a line for each, and ends with 1 where one differs.
+"""Runs the commands of docs/NATIVE.md, one after the other in a folder of its own, and compares what they
+print with what stands there: docs.py FOLDER. It prints a line for each, and ends with 1 where one differs.
 
-A command is an indented line that begins with `$ `, and what it prints are the lines of its block behind it, where `..` stands for any
-lines. Numbers aren't compared, since they belong to the C library and the compiler of a machine. A command that isn't
-installed here is left out."""
+A command is an indented line that begins with `$ `, and what it prints are the lines of its block behind it,
+where `..` stands for any lines. Numbers aren't compared, since they belong to the C library and the compiler
+of a machine. A command that isn't installed here is left out."""
 
 import os
 import re

@@ -1,11 +1,12 @@
 #!/usr/bin/env python3
-"""Builds examples of guest/ for this machine with -fsanitize=thread, and compares what is listed of each with what is listed of its build
-for RV32: guest.py FOLDER [NAME ..]. FOLDER is for what is built. It prints a line for each example, and ends with 1 where one differs.
+"""Builds examples of guest/ for this machine with -fsanitize=thread, and compares what is listed of each with
+what is listed of its build for RV32: guest.py FOLDER [NAME ..]. FOLDER is for what is built. It prints a line
+for each example, and ends with 1 where one differs.
 
-Compared are the observed lines, each by the variables and blocks on it, where it begins in them and its verdict. Counts aren't: a turn is
-so many accesses here, and so many steps there. Variables that don't stand alone in their lines are put, by the linker, where they are in
-the build for RV32. as_is (a mutex has 40 bytes here and 16 there) and linked, which
-calls the guest's system itself, can't be compared."""
+Compared are the observed lines, each by the variables and blocks on it, where it begins in them and its
+verdict. Counts aren't: a turn is so many accesses here, and so many steps there. Variables that don't stand
+alone in their lines are put, by the linker, where they are in the build for RV32. as_is (a mutex has 40 bytes
+here and 16 there) and linked, which calls the guest's system itself, can't be compared."""
 
 import os
 import subprocess
@@ -46,7 +47,8 @@ def output_of(words, **more):
 
 
 def write_linker_script(name, path):
-    """Writes a script for the linker by which the program's variables begin where those of the build for RV32 do, within a page."""
+    """Writes a script for the linker by which the program's variables begin where those of the build for RV32
+    do, within a page."""
     rows = (
         line.split()
         for line in output_of(
@@ -115,7 +117,8 @@ def build(name, folder):
 
 
 def listed_lines(report, without=()):
-    """The observed lines: what stands on each, how far the line begins behind the first of it, and the verdict."""
+    """The observed lines: what stands on each, how far the line begins behind the first of it, and the
+    verdict."""
     found = []
     for line in report.observed():
         things = sorted(

@@ -147,7 +147,8 @@ def are_alike(trace, other):
 
 
 def parse_table(table):
-    """The rows of the instructions, each by its place: of a site its function and its line, of a frame the same."""
+    """The rows of the instructions, each by its place: of a site its function and its line, of a frame the
+    same."""
     found = {}
     with open(table, errors="surrogateescape") as file:
         for row in file:

@@ -1,4 +1,5 @@
-"""Makes calls of the program over files of its own, and tells how they ended and which calls of the system they made."""
+"""Makes calls of the program over files of its own, and tells how they ended and which calls of the system
+they made."""
 
 import collections
 import os
@@ -9,13 +10,15 @@ import files
 from files import Case
 
 Fault = str
-# What stands under the name of an output before the call: more bytes than any output has, and no front of one.
+# What stands under the name of an output before the call: more bytes than any output has, and no front of
+# one.
 OLDER = b"older " * 40000
 SECONDS = 60
 
 
 class Call(NamedTuple):
-    """A call of the system, as between.c writes it down. `name` is the file that it is about, `<1>` and `<2>` for the streams."""
+    """A call of the system, as between.c writes it down. `name` is the file that it is about, `<1>` and `<2>`
+    for the streams."""
 
     call: str
     fd: int
@@ -26,7 +29,8 @@ class Call(NamedTuple):
 
 
 class Ending(NamedTuple):
-    """How a call ended: `files` has what stands under the names of its outputs now, and `before` what stood there."""
+    """How a call ended: `files` has what stands under the names of its outputs now, and `before` what stood
+    there."""
 
     status: int
     printed: bytes
@@ -58,7 +62,8 @@ def parse_calls(text: str) -> list[Call]:
 
 
 class Bench:
-    """Where the calls are made, and what came of them. `planted` is a mistake that is made in the program's name."""
+    """Where the calls are made, and what came of them. `planted` is a mistake that is made in the program's
+    name."""
 
     def __init__(self, program: str, work: str, shim: str, planted: dict[str, str]) -> None:
         self.program, self.work, self.shim, self.planted = program, work, shim, planted

@@ -1,5 +1,5 @@
-"""The files that tools/edges/main.py has the program read, and what it is to print and write of each, by docs/FORMATS.md and the cases of
-crates/worked_runs/data. None of it is taken from the program."""
+"""The files that tools/edges/main.py has the program read, and what it is to print and write of each, by
+docs/FORMATS.md and the cases of crates/worked_runs/data. None of it is taken from the program."""
 
 import os
 import struct
@@ -18,8 +18,8 @@ Touch = tuple[int, str, int]
 Sited = tuple[int, str, int, int]
 # Pieces in which a run's program puts out its bytes, and the bytes of the last one.
 PIECES, REST = 16, 1
-# How many words it writes, how many lines the traces have, and how many accesses one has that is made, and cut behind so many of them:
-# what is printed or written has more than 64 KiB.
+# How many words it writes, how many lines the traces have, and how many accesses one has that is made, and
+# cut behind so many of them: what is printed or written has more than 64 KiB.
 WRITES, LINES, MADE, CUT = 9000, 1500, 20000, 9000
 # Where a trace of so many accesses is cut off, within a record.
 CUT_AT = 20 + 8 * 15000 + 5
@@ -31,7 +31,8 @@ STATE = bytes.fromhex(
 
 
 class Case(NamedTuple):
-    """A call, and what it is to do: how it ends, what it prints and says, which files it reads, and what it writes, in their order."""
+    """A call, and what it is to do: how it ends, what it prints and says, which files it reads, and what it
+    writes, in their order."""
 
     words: tuple[str, ...]
     status: int
@@ -39,7 +40,8 @@ class Case(NamedTuple):
     reads: tuple[str, ...]
     writes: tuple[tuple[str, bytes], ...] = ()
     said: bytes = b""
-    # the trace that is read more than once, that which is read while the output is written, and the file that is standard input
+    # the trace that is read more than once, that which is read while the output is written, and the file that
+    # is standard input
     again: str = ""
     along: str = ""
     piped: str = ""
@@ -127,7 +129,8 @@ def trace_version_3(touches: Iterable[Sited], end: bytes = b"") -> bytes:
     return bytes(made) + (end or trace_end(count))
 
 
-# The pcs of two harts that write neighbouring words in turn, and how each two of these accesses are spelled behind others.
+# The pcs of two harts that write neighbouring words in turn, and how each two of these accesses are spelled
+# behind others.
 PCS = (0x10044, 0x20048)
 TURN = b"\x24\0\7\0\x24\1\x08\0"
 
@@ -150,7 +153,8 @@ def move_accesses(touches: list[Touch]) -> list[Touch]:
     return [(hart, kind, 0x20000 if addr == 0x10000 else addr) for hart, kind, addr in touches]
 
 
-# A word that is no place of that table, and one of this, and accesses of which only the last but some is at it.
+# A word that is no place of that table, and one of this, and accesses of which only the last but some is at
+# it.
 WAY = 0x10004
 OVER = TABLE + b"0x1f000 4 0x10004\n"
 
@@ -183,7 +187,8 @@ def generated_accesses(count: int) -> list[Touch]:
 
 
 def contended_accesses(count: int) -> list[Touch]:
-    """Two harts write neighbouring words of a line in turn, twice; so they do with each of some lines that lie apart."""
+    """Two harts write neighbouring words of a line in turn, twice; so they do with each of some lines that
+    lie apart."""
     return [
         (hart, "W", 0x100000 + 128 * line + 4 * hart)
         for line in range(count)
@@ -262,7 +267,8 @@ def contended_caches(count: int) -> bytes:
 
 
 def state_bytes(count: int) -> bytes:
-    """The state of a trace in which hart 0 writes so many words, each of which is a line, and whose tracking begins at the first write."""
+    """The state of a trace in which hart 0 writes so many words, each of which is a line, and whose tracking
+    begins at the first write."""
     told = struct.pack("<8sIIQQH6xQQQ", b"PRDSTA01", 4, 0, 1, 0, 8, count, count, count)
     told += b"".join(struct.pack("<QQ", 0x100000 + 4 * it, 1) for it in range(count))
     tracks = (
@@ -318,7 +324,8 @@ class Guest(NamedTuple):
 
 
 def guest(writes: int, pieces: int, rest: int, code: int = 0) -> Guest:
-    """A program that writes the word at 0x11000 so often, and puts out so many pieces of 4096 bytes and then the rest."""
+    """A program that writes the word at 0x11000 so often, and puts out so many pieces of 4096 bytes and then
+    the rest."""
     store = 5 << 20 | 6 << 15 | 2 << 12 | 0x23
     words = [_upper(6, 0x11), *_number(5, writes), store, _add(5, 5, -1), _back_unless_zero(5, 2)]
     steps = 3 + 3 * writes
@@ -617,7 +624,8 @@ def printing_cases() -> list[Case]:
 
 
 def refused_cases() -> list[Case]:
-    """Calls that are refused before an output is begun, and so write nothing. What is said may be worded anew; then it is to be so here."""
+    """Calls that are refused before an output is begun, and so write nothing. What is said may be worded
+    anew; then it is to be so here."""
     outputs = ("--trace", "t", "--output", "o")
     both, state = (("t", b""), ("o", b"")), (("s", b""),)
     cut = "it ends after 10 bytes, before the trace does: write or copy it again"

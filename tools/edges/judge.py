@@ -1,4 +1,5 @@
-"""Judges how a call of the program ended: what it printed, said and wrote, and which calls of the system it made."""
+"""Judges how a call of the program ended: what it printed, said and wrote, and which calls of the system it
+made."""
 
 import collections
 import os
@@ -13,9 +14,9 @@ PIECE = 65536
 
 
 class Wanted(NamedTuple):
-    """How a call ends where one of its calls of the system went wrong. Of what is printed a front may be enough. `line` is the fault that
-    is said, and None where whatever is said will do. Outputs are `whole`, `begun` in their order, or as they `stay`.
-    """
+    """How a call ends where one of its calls of the system went wrong. Of what is printed a front may be
+    enough. `line` is the fault that is said, and None where whatever is said will do. Outputs are `whole`,
+    `begun` in their order, or as they `stay`."""
 
     status: int
     printed: bytes
@@ -31,7 +32,8 @@ def expected_end(case: Case) -> Wanted:
 
 
 def has_right_message(case: Case, ending: Ending, wanted: Wanted) -> bool:
-    """Whether a call says what it is to say: what it shows of a run until then, the fault, and behind that the advice of a refusal."""
+    """Whether a call says what it is to say: what it shows of a run until then, the fault, and behind that
+    the advice of a refusal."""
     if wanted.line is None:
         return True
     if not wanted.line:
@@ -89,7 +91,8 @@ def find_faults(case: Case, ending: Ending, wanted: Wanted) -> list[Fault]:
 
 
 class FileProgress:
-    """What was made of the files so far: which were opened, read from, read to their ends, and emptied, each in order."""
+    """What was made of the files so far: which were opened, read from, read to their ends, and emptied, each
+    in order."""
 
     def __init__(self) -> None:
         self.opened: list[str] = []
@@ -99,9 +102,9 @@ class FileProgress:
 
 
 def opening_faults(case: Case, call: Call, seen: FileProgress) -> Iterator[Fault]:
-    """What is wrong with how a file is opened. Each is opened once, an input for reading alone, and an output to be written as it stands,
-    after the inputs were read to their ends. Of a trace that is read along with the writing something was read.
-    """
+    """What is wrong with how a file is opened. Each is opened once, an input for reading alone, and an output
+    to be written as it stands, after the inputs were read to their ends. Of a trace that is read along with
+    the writing something was read."""
     outputs = dict(case.writes)
     how = call.asked & ~(os.O_CLOEXEC | os.O_NOCTTY | os.O_LARGEFILE)
     if call.name in seen.opened and call.name != os.devnull:

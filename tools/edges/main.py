@@ -4,32 +4,38 @@
 usage: tools/edges/main.py PROGRAM [--long] [--planted]
        tools/edges/main.py PROGRAM --open
 
-Each call of the program is made as it is, and then again for each call of the system that it makes about files: that one fails with an
-errno that it can have, or moves fewer bytes than it was asked to. between.c stands between the program and the C library for that; cc
-builds it. What is wanted after each:
+Each call of the program is made as it is, and then again for each call of the system that it makes about
+files: that one fails with an errno that it can have, or moves fewer bytes than it was asked to. between.c
+stands between the program and the C library for that; cc builds it. What is wanted after each:
 
 - the exit status, all that is printed, and the fault on standard error are those that docs/FORMATS.md tells;
-- each output is as it was, a front of what it is to be, or whole, and whole where the work is done. It has the bytes that were handed over
-  in writes that the system answered, and no others;
+- each output is as it was, a front of what it is to be, or whole, and whole where the work is done. It has
+  the bytes that were handed over in writes that the system answered, and no others;
 - no other file is changed or made, and nothing is left open or running;
-- each file is opened once: an input for reading alone, and an output as it stands, after the inputs were read to their ends and the output
-  before it was emptied. (That of `move` is begun as soon as its trace was read from);
-- a call that a signal interrupts (EINTR) is made anew, but for a read, which fails then; so is what moved fewer bytes;
-- an error of a close changes nothing. That of a write to standard error, or of asking what the streams are, changes nothing else.
+- each file is opened once: an input for reading alone, and an output as it stands, after the inputs were read
+  to their ends and the output before it was emptied. (That of `move` is begun as soon as its trace was read
+  from);
+- a call that a signal interrupts (EINTR) is made anew, but for a read, which fails then; so is what moved
+  fewer bytes;
+- an error of a close changes nothing. That of a write to standard error, or of asking what the streams are,
+  changes nothing else.
 
-tries.py, names.py and streams.py try what needs no failing call: names of files, streams, full disks, traces that change, and what `main`
-does. files.py has what each call is to print and write, worked out apart from the program.
+tries.py, names.py and streams.py try what needs no failing call: names of files, streams, full disks, traces
+that change, and what `main` does. files.py has what each call is to print and write, worked out apart from
+the program.
 
-The short form takes EINTR and some of the other errnos in turn, and of calls that are alike the first two and the last; --long takes all.
-With --planted between.c makes mistakes in the program's name, one kind after another, and each must be found, most of them in calls of
-every command that writes: a last piece that is written in part, the tail of an older file that stays, a piece of one byte that is lost, a
-text that is cut at 64 KiB, an output that is begun too early, an input that is opened for writing, and the others in PLANTS. So what is
-shown is that such a mistake would be seen; the program itself isn't changed.
+The short form takes EINTR and some of the other errnos in turn, and of calls that are alike the first two and
+the last; --long takes all. With --planted between.c makes mistakes in the program's name, one kind after
+another, and each must be found, most of them in calls of every command that writes: a last piece that is
+written in part, the tail of an older file that stays, a piece of one byte that is lost, a text that is cut at
+64 KiB, an output that is begun too early, an input that is opened for writing, and the others in PLANTS. So
+what is shown is that such a mistake would be seen; the program itself isn't changed.
 
---open tries what one would expect and the program doesn't do, and nothing else: it fails as long as that is so.
+--open tries what one would expect and the program doesn't do, and nothing else: it fails as long as that is
+so.
 
-A write that the system answers and then loses can't be told from a good one. It ends with 1 where anything is wrong. The last line counts
-the tries by call and errno."""
+A write that the system answers and then loses can't be told from a good one. It ends with 1 where anything is
+wrong. The last line counts the tries by call and errno."""
 
 import collections
 import errno
@@ -81,8 +87,8 @@ class Failure(NamedTuple):
 
 
 def call_purpose(case: Case, calls: list[Call], number: int) -> str:
-    """What a call of the system is for: to `read`, to `write`, to `print`, to tell whether a file can be read again (`again`), or
-    something on which nothing hangs (`aside`)."""
+    """What a call of the system is for: to `read`, to `write`, to `print`, to tell whether a file can be read
+    again (`again`), or something on which nothing hangs (`aside`)."""
     event = calls[number - 1]
     text = max(
         at for at, other in enumerate(calls, 1) if other.call == "write" and other.name == "<1>"
@@ -107,7 +113,8 @@ def call_purpose(case: Case, calls: list[Call], number: int) -> str:
 
 
 def failure_reason(event: Call, part: str, how: Failure) -> str:
-    """Why the call fails, as it is said, and nothing where it is to be made anew or where fewer bytes are no fault."""
+    """Why the call fails, as it is said, and nothing where it is to be made anew or where fewer bytes are no
+    fault."""
     if part == "again":
         return READ_ONCE
     if how.share:
@@ -142,7 +149,8 @@ def expected_ending(case: Case, calls: list[Call], number: int, how: Failure) ->
 
 
 def list_failures(event: Call, number: int, is_long: bool) -> Iterator[Failure]:
-    """In which ways a call goes wrong: in the short form with the first errno that it may have, with EINTR, and with two others in turn."""
+    """In which ways a call goes wrong: in the short form with the first errno that it may have, with EINTR,
+    and with two others in turn."""
     names = ERRORS[event.call].split()
     if not is_long:
         others = [name for name in names[1:] if name != "EINTR"]
@@ -159,7 +167,8 @@ def list_failures(event: Call, number: int, is_long: bool) -> Iterator[Failure]:
 
 
 def choose_calls(calls: list[Call], is_long: bool) -> Iterator[int]:
-    """The numbers of the calls that are to go wrong: all, or of those that are alike the first two and the last."""
+    """The numbers of the calls that are to go wrong: all, or of those that are alike the first two and the
+    last."""
     alike = collections.defaultdict(list)
     for number, event in enumerate(calls, 1):
         alike[event.call, event.name].append(number)
@@ -207,7 +216,8 @@ def try_call(
 
 
 def try_room(bench: Bench, case: Case) -> None:
-    """Tries a call on a disk that has room for so many bytes: what fits is taken, and then there is no space."""
+    """Tries a call on a disk that has room for so many bytes: what fits is taken, and then there is no
+    space."""
     whole = [len(content) for _, content in case.writes]
     for room in sorted({0, 1, whole[0] // 2, whole[0] - 1, whole[0], sum(whole) - 1, sum(whole)}):
         ending = bench.call(case, {"EDGES_ROOM": str(room)}, is_new=True)
@@ -281,8 +291,8 @@ def try_good(bench: Bench) -> None:
         bench.count("as it is", "", case.words, find_faults(case, ending, expected_end(case)))
 
 
-# Each mistake: what it is, what finds it, and in which calls it has to be found: in those of every command that writes, of every one that
-# reads and may write, of every one that reads, or of any.
+# Each mistake: what it is, what finds it, and in which calls it has to be found: in those of every command
+# that writes, of every one that reads and may write, of every one that reads, or of any.
 PLANTS = {
     "part": ("a last piece of which a byte is lost", try_last_pieces, "writing"),
     "tail": ("the tail of an older file that stays", try_good, "writing"),

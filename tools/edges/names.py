@@ -1,5 +1,5 @@
-"""Tries names of files: that differ by case, that stand twice, and several of one file. Each is tried with every command that writes, with
-each of its outputs beside each file before that."""
+"""Tries names of files: that differ by case, that stand twice, and several of one file. Each is tried with
+every command that writes, with each of its outputs beside each file before that."""
 
 import os
 from typing import Iterator
@@ -22,7 +22,8 @@ from judge import find_faults, expected_end
 
 
 def output_input_pairs(bench: Bench) -> Iterator[tuple[Case, str, str]]:
-    """A call of each command that writes, with the name of each of its outputs and that of each file that it reads, or writes before."""
+    """A call of each command that writes, with the name of each of its outputs and that of each file that it
+    reads, or writes before."""
     for case in bench.largest_cases():
         outputs = list(dict(case.writes))
         for at, name in enumerate(outputs):
@@ -60,7 +61,8 @@ def try_same_names(bench: Bench) -> None:
 
 
 def other_names(name: str) -> Iterator[tuple[str, str, tuple[int, ...]]]:
-    """Other names of a file: what they are, the name, and the open file that it stands for. Each is gone when the next is asked for."""
+    """Other names of a file: what they are, the name, and the open file that it stands for. Each is gone when
+    the next is asked for."""
     os.link(name, "hard")
     yield "a hard link", "hard", ()
     remove_files("hard")
@@ -122,7 +124,8 @@ def try_outputs_by_link(bench: Bench) -> None:
 
 
 def try_inodes(bench: Bench) -> None:
-    """Files are told apart by all of their numbers and by their devices, and one under two names is found by both."""
+    """Files are told apart by all of their numbers and by their devices, and one under two names is found by
+    both."""
     for numbers in ("long", "devices"):
         told = {"EDGES_INODES": numbers}
         for case in (it for it in bench.writing_cases() if it.reads or len(it.writes) > 1):
@@ -148,7 +151,8 @@ def with_mask() -> None:
 
 
 def try_modes(bench: Bench) -> None:
-    """A new output may be read and written by whom the mask leaves, and an older one stays the file that it is, with its rights."""
+    """A new output may be read and written by whom the mask leaves, and an older one stays the file that it
+    is, with its rights."""
     for case in bench.writing_cases():
         found = Ended(bench, case.words, preexec_fn=with_mask).faults(
             case.status, case.printed, case.said

@@ -1,5 +1,5 @@
-"""Tries streams: that are closed, full, terminals, pipes whose reader goes, and files of the call; inputs and outputs that are pipes; and a
-disk that is full."""
+"""Tries streams: that are closed, full, terminals, pipes whose reader goes, and files of the call; inputs and
+outputs that are pipes; and a disk that is full."""
 
 import fcntl
 import os
@@ -28,8 +28,8 @@ from files import Case
 
 BROKEN, NO_SPACE, NO_STREAM = "Broken pipe", "No space left on device", "Bad file descriptor"
 READ_ONCE = "a pipe or a terminal can be read once; write it to a file first"
-# How many bytes a pipe takes that nobody reads, how many more of them a reader makes room for that takes a few, and those of a disk that is
-# filled.
+# How many bytes a pipe takes that nobody reads, how many more of them a reader makes room for that takes a
+# few, and those of a disk that is filled.
 PIPE, PAGE, DISK = 65536, 4096, 16384
 
 
@@ -42,7 +42,8 @@ def close_streams(*numbers: int) -> Callable[[], None]:
 
 
 def try_closed_streams(bench: Bench) -> None:
-    """Without standard output nothing is printed and each output is whole; without the other streams all is as with them."""
+    """Without standard output nothing is printed and each output is whole; without the other streams all is
+    as with them."""
     for case in (it for it in bench.cases if not it.piped):
         for numbers in ((0,), (1,), (2,), (0, 1, 2)):
             is_lost = 1 in numbers and not case.is_refused()
@@ -237,8 +238,8 @@ def try_fifos(bench: Bench) -> None:
 
 
 def try_inputs_by_fifo(bench: Bench) -> None:
-    """A FIFO serves as any file that is read once, and so no name is read twice but the trace that a command goes over more than once. That
-    one is refused before an output is begun."""
+    """A FIFO serves as any file that is read once, and so no name is read twice but the trace that a command
+    goes over more than once. That one is refused before an output is begun."""
     os.mkfifo("fifo")
     bench.kept = bench.stat_inputs()
     for case, name in (

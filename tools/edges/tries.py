@@ -1,5 +1,6 @@
-"""Tries which calls of the system there are, the status of each end, the words, a trace that is standard input, and one that changes. The
-tries of names.py and streams.py are made along with them. None needs a failing call."""
+"""Tries which calls of the system there are, the status of each end, the words, a trace that is standard
+input, and one that changes. The tries of names.py and streams.py are made along with them. None needs a
+failing call."""
 
 import errno
 import re
@@ -166,7 +167,8 @@ def try_words(bench: Bench) -> None:
 
 
 def try_dash(bench: Bench) -> None:
-    """As the trace of a command that reads it once `-` is standard input, though there is a file of that name, and so it is called."""
+    """As the trace of a command that reads it once `-` is standard input, though there is a file of that
+    name, and so it is called."""
     put_file("-", b"no trace")
     bench.kept = bench.stat_inputs()
     for case in (it for it in bench.cases if it.words[0] in FROM_INPUT and not it.piped):
@@ -210,7 +212,8 @@ def try_dash(bench: Bench) -> None:
 
 
 def try_files_of_that_name(bench: Bench) -> None:
-    """A file that is called `-` serves wherever no trace is read once, and isn't looked for on standard input."""
+    """A file that is called `-` serves wherever no trace is read once, and isn't looked for on standard
+    input."""
     for case in (it for it in bench.cases if not it.piped and not it.status):
         for name in case.reads + tuple(dict(case.writes)):
             if case.words[0] in FROM_INPUT and name == case.words[1]:
@@ -238,7 +241,8 @@ def try_files_of_that_name(bench: Bench) -> None:
 
 
 def trace_changes() -> Iterator[tuple[bytes, int, str]]:
-    """What `made` may be when it is read again, and how that is refused: as no trace, or for the first field in which it differs."""
+    """What `made` may be when it is read again, and how that is refused: as no trace, or for the first field
+    in which it differs."""
     touches = files.generated_accesses(files.MADE)
     whole, count = files.trace_bytes(touches), files.MADE
     behind_header = whole[len(files.trace_header()) :]
@@ -284,9 +288,9 @@ def try_changed_traces(bench: Bench) -> None:
 
 
 def try_open(bench: Bench) -> None:
-    """Standard input is opened anew as /dev/stdin: a file is read from its front though some of it was read before, and a socket isn't
-    read. A read that a signal interrupts isn't made anew. A limit on the size of files (`ulimit -f`) ends the process by a signal.
-    """
+    """Standard input is opened anew as /dev/stdin: a file is read from its front though some of it was read
+    before, and a socket isn't read. A read that a signal interrupts isn't made anew. A limit on the size of
+    files (`ulimit -f`) ends the process by a signal."""
     case = next(it for it in bench.cases if it.words == ("misses", "-"))
     put_file("behind", b"12345" + (read_content(case.piped) or b""))
     with open("behind", "rb", buffering=0) as file:

@@ -1,9 +1,10 @@
 #!/usr/bin/env python3
-"""What a hart accesses between its marks, as marked.c and cleared.c set them: marks.py PROGRAM TRACE WHAT [NUMBER ..].
+"""What a hart accesses between its marks, as marked.c and cleared.c set them: marks.py PROGRAM TRACE WHAT
+[NUMBER ..].
 
-`quiet`: nothing. `reads ADDRESS ..`: in some call the word at one of these ten times running, but for words of stacks, and it doesn't write
-it. `cleared ADDRESS WORDS`: each of so many words from there on is read, and every other one written. The status is 0 exactly if it is so,
-of one call at least."""
+`quiet`: nothing. `reads ADDRESS ..`: in some call the word at one of these ten times running, but for words
+of stacks, and it doesn't write it. `cleared ADDRESS WORDS`: each of so many words from there on is read, and
+every other one written. The status is 0 exactly if it is so, of one call at least."""
 
 import os
 import subprocess
