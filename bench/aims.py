@@ -134,8 +134,8 @@ def list_commands(work, program, sort, made, random):
 
 
 def count_steps(words):
-    told = subprocess.run(words, capture_output=True, text=True).stdout
-    return int(told.split("steps ")[1].split()[0])
+    output = subprocess.run(words, capture_output=True, text=True).stdout
+    return int(output.split("steps ")[1].split()[0])
 
 
 def format_figures(least, peak, rate, sizes, steps):
@@ -206,8 +206,8 @@ def main(programs):
         print(f"{name}: {built}")
     names = list("ABCDEFGH"[: len(programs)]) if len(programs) > 1 else ["Measured"]
     print("\n| Work | " + " | ".join(names) + " | Aim |\n|" + "---|" * (len(names) + 2))
-    for (work, aim), *told in zip(row_aims(steps), *columns):
-        print("| " + " | ".join([work, *told, aim]) + " |")
+    for (work, aim), *cells in zip(row_aims(steps), *columns):
+        print("| " + " | ".join([work, *cells, aim]) + " |")
 
 
 if __name__ == "__main__":

@@ -79,11 +79,11 @@ def main(words: list[str]) -> int:
                 )
                 ratios = [it / other for it, other in zip(view, replay)]
                 worst = max(worst, ratios[0])
-                told = (
+                parts = (
                     f"{spent:.2f} s{of}, {ratio:.1f} times"
                     for spent, of, ratio in zip(view, (" of processors", ""), ratios)
                 )
-                print(f"{name}, version {version}: {'; '.join(told)}")
+                print(f"{name}, version {version}: {'; '.join(parts)}")
                 os.unlink(trace)
     print(
         f"at most {worst:.1f} times a replay's time of processors, the aim is {AIM}{'' if worst <= AIM else ': missed'}"

@@ -47,12 +47,12 @@ def measure_step(words):
 
 def count_instructions(work, words):
     """Machine instructions of the whole run."""
-    told = subprocess.run(
+    ran = subprocess.run(
         ["valgrind", "--tool=callgrind", f"--callgrind-out-file={work}/out", *words],
         capture_output=True,
         encoding="utf-8",
     )
-    return int(re.search(r"Collected : (\d+)", told.stderr).group(1))
+    return int(re.search(r"Collected : (\d+)", ran.stderr).group(1))
 
 
 def ratio_text(usual, drawn):

@@ -134,9 +134,9 @@ def run_call(words, refused):
         REFUSED=str(refused),
         TOLD=os.path.abspath("told"),
     )
-    told = subprocess.run([PROGRAM, *words], env=chosen, capture_output=True)
+    ran = subprocess.run([PROGRAM, *words], env=chosen, capture_output=True)
     with open("told") as made:
-        return told.returncode, told.stdout, list_files(), int(made.read())
+        return ran.returncode, ran.stdout, list_files(), int(made.read())
 
 
 def is_front(part, whole):

@@ -41,14 +41,14 @@ def http(key, value):
 def dns(key, value):
     question = b"".join(bytes([len(it)]) + it for it in (key, b"here")) + b"\0\0\1\0\1"
     asked = b"\x12\x34\1\0\0\1\0\0\0\0\0\0" + question
-    told = (
+    reply = (
         b"\x12\x34\x85\x80\0\1\0\1\0\0\0\0"
         + question
         + b"\xc0\x0c\0\1\0\1"
         + (3600).to_bytes(4, "big")
         + b"\0\4\x0a\0\0\1"
     )
-    yield len(asked).to_bytes(2, "big") + asked, len(told).to_bytes(2, "big") + told
+    yield len(asked).to_bytes(2, "big") + asked, len(reply).to_bytes(2, "big") + reply
 
 
 def connect(port, until):

@@ -417,9 +417,9 @@ def check_pages(table: dict[str, list[Row]]) -> Iterator[str]:
         rows = re.findall(
             rf"^(?:#  )? ((?: *{option},?)+)(?=  |$)", read(PAGES[command["name"]]), re.MULTILINE
         )
-        told = {name for row in rows for name in re.findall(r"--[a-z-]+", row)} - {"--help"}
+        options = {name for row in rows for name in re.findall(r"--[a-z-]+", row)} - {"--help"}
         for name in sorted(
-            told
+            options
             ^ {
                 *command["options"],
                 *command.get("names", ()),

@@ -239,12 +239,12 @@ def judge_row(row: Row, unit: str, usual: float | str, slow: float | str) -> boo
     if isinstance(usual, str) or isinstance(slow, str):
         print(f"FAILED: {row.name}: {usual if isinstance(usual, str) else slow}")
         return False
-    told = f"{row.name}: {usual:.1f} {unit}, at most {row.most:g}; by the slow way {slow:.1f}"
+    text = f"{row.name}: {usual:.1f} {unit}, at most {row.most:g}; by the slow way {slow:.1f}"
     if usual <= row.most < slow:
-        print(told)
+        print(text)
         return True
     print(
-        f"FAILED: {told}{'' if usual > row.most else ': a program that went so everywhere would not be found'}"
+        f"FAILED: {text}{'' if usual > row.most else ': a program that went so everywhere would not be found'}"
     )
     return False
 

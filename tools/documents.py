@@ -180,14 +180,14 @@ def crate_layers():
 
 
 def wrong_layers(text):
-    told = {
+    layers = {
         name: int(floor)
         for floor, name in re.findall(r"^\| (\d) \| `(\w+)` \|", text, re.MULTILINE)
     }
     return [
         f"{name}: floor {floor}"
         for name, floor in crate_layers().items()
-        if told.get(name) != floor
+        if layers.get(name) != floor
     ]
 
 

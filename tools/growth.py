@@ -14,7 +14,7 @@ A cost is a number of machine instructions, counted by perf, or where the machin
 times as large. WAY is perf, valgrind or time, and chooses one. What the same call of next to nothing costs is
 taken off before. What each call printed is compared with what the case is made for: a case that isn't what it
 should be, or does too little to tell, is a fault. The status is 1 where a call is named or a case has a
-fault. Calls of the cases in KNOWN are told apart, and don't change the status; it is a fault where none of
+fault. Calls of the cases in KNOWN are listed apart, and don't change the status; it is a fault where none of
 them grows any more."""
 
 import argparse
@@ -167,7 +167,7 @@ def blame(trace: str, made: TraceCaseFile) -> Call:
         file.write(
             add_pcs(plain.read(), lambda access, before: CODE + 4 * (next(numbers) % made.pcs))
         )
-    told = (
+    rows = (
         []
         if made.settings
         else [
@@ -176,7 +176,7 @@ def blame(trace: str, made: TraceCaseFile) -> Call:
             ("pair", -max(made.lines, made.pcs // 2)),
         ]
     )
-    return Call(["blame", f"{trace}.sited"], [(f"accesses {made.accesses}", 1), *told])
+    return Call(["blame", f"{trace}.sited"], [(f"accesses {made.accesses}", 1), *rows])
 
 
 def sweep(trace: str, made: TraceCaseFile) -> Call:

@@ -6,7 +6,7 @@ least positions, and nothing is kept of a line.
 usage: tools/judge_report.py PROGRAM [COUNT [SEED]]
 
 makes COUNT (1000) small traces, each with its settings and words, by the random numbers that follow from SEED
-(1); replays each by PROGRAM, and tells where that prints another report. It ends with 1 where it found one.
+(1); replays each by PROGRAM, and reports where it prints another report. It ends with 1 where it found one.
 """
 import random
 import struct

@@ -1,10 +1,10 @@
 #!/usr/bin/env python3
-"""Says what a saved state is by its rules alone, as docs/FORMATS.md tells them, and stands on nothing of the
+"""Says what a saved state is by its rules alone, as docs/FORMATS.md has them, and stands on nothing of the
 program.
 
 usage: tools/judge_state.py STATE                      prints `good`, or the place of the first unit at fault
        tools/judge_state.py STATE PROGRAM TRACE WORDS  changes and cuts the state in many ways, replays TRACE from each by PROGRAM
-                                                       with WORDS (settings, a layout), and tells where it says another thing"""
+                                                       with WORDS (settings, a layout), and reports where it says another thing"""
 import os
 import struct
 import subprocess

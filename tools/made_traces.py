@@ -99,7 +99,7 @@ def symbols_apart(n: int) -> TraceCaseFile:
 
 
 def symbols_shuffled(n: int) -> TraceCaseFile:
-    """The same, neither told nor used in the order of their addresses; each reaches over three lines."""
+    """The same, neither declared nor used in the order of their addresses; each reaches over three lines."""
     trace = Trace()
     for i in shuffled(n):
         trace.symbol(OBJECT, LINES + LINE * i, 3 * LINE, b"symbol%d" % i)

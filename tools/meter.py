@@ -54,15 +54,15 @@ def record_terminal(words):
     return b"".join(said).decode(errors="replace"), took, status
 
 
-def find_faults(what, shown, took, form, whole, told):
-    """What is wrong with the lines of a form. `whole` is what the work comes to, and `told` whether a line
-    tells that too."""
+def find_faults(what, shown, took, form, whole, has_total):
+    """What is wrong with the lines of a form. `whole` is what the work comes to, and `has_total` whether a line
+    has that too."""
     lines = [list(map(int, it.groups())) for it in form.finditer(shown)]
     if not lines:
         return [f"{what}: no line in {took:.1f} s, but {shown[:200]!r}"]
     done = [it[0] for it in lines]
     found = []
-    if told and any(it[1] != whole for it in lines):
+    if has_total and any(it[1] != whole for it in lines):
         found.append(f"{what}: {lines} don't tell the whole, {whole}")
     if done != sorted(set(done)) or done[-1] > whole:
         found.append(f"{what}: {done} don't grow towards {whole}")
@@ -110,11 +110,13 @@ def list_tries(program, seconds, folder):
 def main(program, seconds=3.0):
     found = []
     with tempfile.TemporaryDirectory() as folder:
-        for what, words, wanted, form, whole, told in list_tries(program, float(seconds), folder):
+        for what, words, wanted, form, whole, has_total in list_tries(
+            program, float(seconds), folder
+        ):
             shown, took, status = record_terminal([program, *words])
             if status != wanted:
                 found.append(f"{what}: it ended with {status}")
-            faults = find_faults(what, shown, took, form, whole(), told)
+            faults = find_faults(what, shown, took, form, whole(), has_total)
             found += faults
             print(
                 f"{what}: {len(form.findall(shown))} lines in {took:.1f} s{', wrong' if faults else ''}"

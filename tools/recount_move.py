@@ -121,7 +121,7 @@ def try_worked() -> int:
     wrong = 0
     for text, addrs, wanted, line in WORKED:
         records = [struct.pack("<BHIB", 2, 0, int(it, 16), 1) for it in addrs.split()]
-        told, made = move_trace(
+        printed, made = move_trace(
             b"PRDTRC01" + bytes(8) + b"\1\0\0\0" + b"".join(records) + b"\6" + bytes(24),
             text.encode(),
         )
@@ -130,9 +130,9 @@ def try_worked() -> int:
             for at in range(20, len(made) - 7, 8)
             if made[at] == 2
         ]
-        if (told, addrs_of) != (line, wanted and [int(it, 16) for it in wanted.split()]):
+        if (printed, addrs_of) != (line, wanted and [int(it, 16) for it in wanted.split()]):
             wrong += 1
-            print(f"{text!r} over {addrs}: {told}, {addrs_of}")
+            print(f"{text!r} over {addrs}: {printed}, {addrs_of}")
     print(f"{len(WORKED)} worked lists, {wrong} wrong")
     return 1 if wrong else 0
 

@@ -23,7 +23,7 @@ from typing import Iterator, NamedTuple
 
 sys.path.insert(0, os.path.join(os.path.dirname(os.path.abspath(__file__)), "edges"))
 import files  # noqa: E402
-from files import lines, report  # noqa: E402
+from files import join_lines, report_text  # noqa: E402
 from made_guests import DATA  # noqa: E402
 from rv32 import CODE, Code, Segment, elf  # noqa: E402
 
@@ -51,26 +51,29 @@ class Try(NamedTuple):
 
 
 def contended_trace(name: str, count: int, first: int = 0, with_symbol: bool = True) -> None:
-    piece = files.records([(0, "W", BASE), (1, "W", BASE + 4)] * PIECE)
+    piece = files.access_records([(0, "W", BASE), (1, "W", BASE + 4)] * PIECE)
     with open(name, "wb") as file:
         file.write(
-            files.header(first=first) + (files.symbol(BASE, 8, b"pair") if with_symbol else b"")
+            files.trace_header(first=first)
+            + (files.symbol_record(BASE, 8, b"pair") if with_symbol else b"")
         )
         left = 8 * count
         while left:
             left -= file.write(piece[:left])
-        file.write(files.ending(count))
+        file.write(files.trace_end(count))
 
 
 def contended_trace_with_pcs(name: str, count: int) -> None:
     """The same in version 3, by an instruction of each hart."""
     piece = files.TURN * PIECE
     with open(name, "wb") as file:
-        file.write(files.header(version=3) + files.sited(files.in_turn(2))[20:-25])
+        file.write(
+            files.trace_header(version=3) + files.trace_version_3(files.alternate(2))[20:-25]
+        )
         left = len(files.TURN) * (count // 2 - 1)
         while left:
             left -= file.write(piece[:left])
-        file.write(files.ending(count))
+        file.write(files.trace_end(count))
 
 
 def digest(pieces: Iterator[bytes]) -> str:
@@ -98,11 +101,11 @@ def converted_digest(count: int) -> str:
     """The sum of the trace in version 2."""
 
     def pieces() -> Iterator[bytes]:
-        yield files.header(version=2) + files.symbol(BASE, 8, b"pair") + files.converted(
-            [(0, "W", BASE), (1, "W", BASE + 4)]
-        )[20:-25]
+        yield files.trace_header(version=2) + files.symbol_record(
+            BASE, 8, b"pair"
+        ) + files.trace_version_2([(0, "W", BASE), (1, "W", BASE + 4)])[20:-25]
         yield from repeat(b"\x24\0\7\x24\1\x08", count // 2 - 1)
-        yield files.ending(count)
+        yield files.trace_end(count)
 
     return digest(pieces())
 
@@ -111,25 +114,25 @@ def moved_digest(count: int) -> str:
     """The sum of the trace with the second word 64 bytes behind its line's begin."""
 
     def pieces() -> Iterator[bytes]:
-        yield files.header() + files.symbol(BASE, 8, b"pair")
-        yield from repeat(files.records([(0, "W", BASE), (1, "W", BASE + 64)]), count // 2)
-        yield files.ending(count)
+        yield files.trace_header() + files.symbol_record(BASE, 8, b"pair")
+        yield from repeat(files.access_records([(0, "W", BASE), (1, "W", BASE + 64)]), count // 2)
+        yield files.trace_end(count)
 
     return digest(pieces())
 
 
 def half_digests(count: int, at: int) -> dict[str, str]:
-    pair = files.records([(0, "W", BASE), (1, "W", BASE + 4)])
+    pair = files.access_records([(0, "W", BASE), (1, "W", BASE + 4)])
 
     def first() -> Iterator[bytes]:
-        yield files.header() + files.symbol(BASE, 8, b"pair")
+        yield files.trace_header() + files.symbol_record(BASE, 8, b"pair")
         yield from repeat(pair, at // 2)
-        yield files.ending(at, 0, 4)
+        yield files.trace_end(at, 0, 4)
 
     def second() -> Iterator[bytes]:
-        yield files.header(first=at)
+        yield files.trace_header(first=at)
         yield from repeat(pair, (count - at) // 2)
-        yield files.ending(count - at, count)
+        yield files.trace_end(count - at, count)
 
     return {"a": digest(first()), "b": digest(second())}
 
@@ -143,11 +146,13 @@ def contended_report(count: int, steps: int | None = None) -> bytes:
     rows += [
         f"word {BASE + 4 * hart:#010x} reads 0 writes {count // 2} hart {hart}" for hart in (0, 1)
     ]
-    return report("exit 0", count if steps is None else steps, count, "64 0", "1 none 1", rows, 1)
+    return report_text(
+        "exit 0", count if steps is None else steps, count, "64 0", "1 none 1", rows, 1
+    )
 
 
 def place_text(count: int) -> bytes:
-    return lines(
+    return join_lines(
         f"place pair {BASE:#010x} 8 line 64",
         "words 2",
         f"word {BASE:#010x} to 0x00001080 hart 0",
@@ -167,7 +172,7 @@ def trace_tries(name: str, count: int) -> Iterator[Try]:
     yield Try(f"replay {name} {listed}", contended_report(count), 40)
     yield Try(
         f"misses {name}",
-        lines(
+        join_lines(
             "misses 64 0",
             f"accesses {count}",
             "lines 1",
@@ -180,7 +185,7 @@ def trace_tries(name: str, count: int) -> Iterator[Try]:
     )
     yield Try(
         f"sweep {name} --size 8",
-        lines(
+        join_lines(
             "sweep 8",
             f"accesses {count}",
             f"shift 0 total {count - 1} lines 1",
@@ -192,7 +197,7 @@ def trace_tries(name: str, count: int) -> Iterator[Try]:
     )
     yield Try(
         f"caches {name} --size 64 --sets 1 --ways 1",
-        lines(
+        join_lines(
             "caches 64 1 1",
             f"accesses {count}",
             "lines 1",
@@ -205,11 +210,19 @@ def trace_tries(name: str, count: int) -> Iterator[Try]:
     yield Try(f"place {name} pair", place_text(count), 40)
     put_file("apart", b"%d 4 %d\n" % (BASE + 4, BASE + 64))
     yield Try(
-        f"move {name} apart m", lines(f"move {count} {count // 2}"), 40, {"m": moved_digest(count)}
+        f"move {name} apart m",
+        join_lines(f"move {count} {count // 2}"),
+        40,
+        {"m": moved_digest(count)},
     )
-    yield Try(f"convert {name} c", lines(f"convert 2 {count}"), 40, {"c": converted_digest(count)})
     yield Try(
-        f"split {name} {at} a b", lines(f"split {at} {count - at}"), 40, half_digests(count, at)
+        f"convert {name} c", join_lines(f"convert 2 {count}"), 40, {"c": converted_digest(count)}
+    )
+    yield Try(
+        f"split {name} {at} a b",
+        join_lines(f"split {at} {count - at}"),
+        40,
+        half_digests(count, at),
     )
 
 
@@ -218,7 +231,7 @@ def blame_tries(count: int) -> Iterator[Try]:
     one, other = (f"{pc:#010x}" for pc in files.PCS)
     yield Try(
         "blame blamed",
-        lines(
+        join_lines(
             "predator blame 1",
             f"accesses {count}",
             "layout 64 0",
@@ -244,11 +257,11 @@ def long_table_tries() -> Iterator[Try]:
         for at in range(count)
     )
     put_file("table", rows.encode().ljust(MIB, b"\n"))
-    put_file("words", files.trace([(0, "W", 0x100000 + 4 * at) for at in range(count)]))
-    moved_to = files.trace([(0, "W", 0x100000 + 4 * at) for at in reversed(range(count))])
+    put_file("words", files.trace_bytes([(0, "W", 0x100000 + 4 * at) for at in range(count)]))
+    moved_to = files.trace_bytes([(0, "W", 0x100000 + 4 * at) for at in reversed(range(count))])
     yield Try(
         "move words table m",
-        lines(f"move {count} {count}"),
+        join_lines(f"move {count} {count}"),
         40,
         {"m": hashlib.sha256(moved_to).hexdigest()},
     )
@@ -302,14 +315,14 @@ def run_tries() -> Iterator[Try]:
     """More than 2^24 accesses of a run and of `explain`, and more blocks, and notes of blocks, than
     65,536."""
     half = LONG // 4 + 1
-    put_file("fights.elf", contending_code(half))
+    put_file("contending.elf", contending_code(half))
     rows = [
         f"word {DATA + 4 * hart:#010x} reads {half} writes {half} hart {hart}" for hart in (0, 1)
     ]
     counted = ("predator report 1", "outcome exit 0", f"accesses {4 * half}", *rows)
-    yield Try("run fights.elf --set quantum=4,tracking=1,report=1", counted, 80)
+    yield Try("run contending.elf --set quantum=4,tracking=1,report=1", counted, 80)
     yield Try(
-        f"explain fights.elf {DATA:#010x} 64 0 --set quantum=4",
+        f"explain contending.elf {DATA:#010x} 64 0 --set quantum=4",
         (f"line {DATA:#010x} 64 start 0 count ", "end"),
         80,
     )
@@ -334,26 +347,28 @@ def program_tries() -> Iterator[Try]:
 
 
 def many_line_tries(count: int) -> Iterator[Try]:
-    put_file("fought", files.trace(files.fought(count)))
-    yield Try("replay fought --size 64 --set tracking=1,report=1", files.fought_report(count), 400)
-    yield Try("misses fought", files.fought_misses(count), 400)
-    put_file("sited", files.sited(files.by_line(files.fought(count))))
-    yield Try("blame sited", files.fought_blame(count), 400)
+    put_file("contended", files.trace_bytes(files.contended_accesses(count)))
+    yield Try(
+        "replay contended --size 64 --set tracking=1,report=1", files.contended_report(count), 400
+    )
+    yield Try("misses contended", files.contended_misses(count), 400)
+    put_file("sited", files.trace_version_3(files.by_line(files.contended_accesses(count))))
+    yield Try("blame sited", files.contended_blame(count), 400)
     if count > 32 * 64:
         # (these caches have no room for more)
         return
-    yield Try("caches fought --size 64 --sets 64 --ways 64", files.fought_caches(count), 400)
+    yield Try("caches contended --size 64 --sets 64 --ways 64", files.contended_caches(count), 400)
 
 
 def large_file_tries() -> Iterator[Try]:
     """Files of more than 32 MiB: a state, what a run puts out, its trace, and what is made."""
     count = 600_000
-    put_file("written", files.trace([(0, "W", 0x100000 + 4 * it) for it in range(count)]))
-    state = hashlib.sha256(files.written_state(count)).hexdigest()
+    put_file("written", files.trace_bytes([(0, "W", 0x100000 + 4 * it) for it in range(count)]))
+    state = hashlib.sha256(files.state_bytes(count)).hexdigest()
     yield Try(
         "replay written --size 4 --set tracking=1 --save s", ("accesses 600000",), 600, {"s": state}
     )
-    put_file("rest", files.header(first=count) + files.ending(0))
+    put_file("rest", files.trace_header(first=count) + files.trace_end(0))
     yield Try(
         "replay rest --size 4 --set tracking=1 --resume s --save r",
         ("accesses 600000",),
@@ -408,11 +423,11 @@ def find_fault(program: str, attempt: Try) -> str:
 
 def tries_by_kind(is_long: bool) -> Iterator[list[Try]]:
     """The tries of each kind, when their files are there. Those that stand together may be made at once."""
-    contended_trace("fight", LONG)
-    yield list(trace_tries("fight", LONG))
+    contended_trace("long", LONG)
+    yield list(trace_tries("long", LONG))
     yield list(merge_tries(LONG))[:1]
     yield list(merge_tries(LONG))[1:]
-    os.remove("fight")
+    os.remove("long")
     contended_trace_with_pcs("blamed", LONG)
     yield list(blame_tries(LONG))
     os.remove("blamed")
@@ -422,8 +437,8 @@ def tries_by_kind(is_long: bool) -> Iterator[list[Try]]:
     yield [*many_line_tries(TRACKS)]
     for attempt in large_file_tries():
         yield [attempt]
-    contended_trace("fight", LONGER)
-    yield list(trace_tries("fight", LONGER)) if is_long else list(trace_tries("fight", LONGER))[:1]
+    contended_trace("long", LONGER)
+    yield list(trace_tries("long", LONGER)) if is_long else list(trace_tries("long", LONGER))[:1]
 
 
 def main(words: list[str]) -> int:

@@ -93,11 +93,11 @@ def read_accesses_with_pcs(trace):
 def encode_distance(distance):
     """A number from -2^32 to 2^32, taken modulo 2^32, as it is spelled in groups of seven bits."""
     distance = (distance + 2**31) % 2**32 - 2**31
-    number, told = (2 * distance if distance >= 0 else -2 * distance - 1), []
+    number, encoded = (2 * distance if distance >= 0 else -2 * distance - 1), []
     while number >= 128:
-        told.append(number & 127 | 128)
+        encoded.append(number & 127 | 128)
         number >>= 7
-    return bytes((*told, number))
+    return bytes((*encoded, number))
 
 
 def add_pcs(trace, pc_of: Callable[[Access, int], int]):

@@ -32,13 +32,13 @@ THREADS = 2
 QUANTUM = 10
 
 
-def make_row(name: str, kind: str, useless: Sequence[int], ns: Sequence[float]) -> Row:
-    """A row whose guest makes 1000 steps, with so many useless misses in both forms, and which takes so
+def make_row(name: str, kind: str, misses: Sequence[int], ns: Sequence[float]) -> Row:
+    """A row whose guest makes 1000 steps, with so many false-sharing misses in both forms, and which takes so
     long."""
     timed = [Timed(100, it, it * 0.9, it * 1.1, 5, 5, 1, 0, 0) for it in ns]
     counts = {
         (form, quantum): Count(1000, 500, 3, number, 2 * number, 1)
-        for form, number in zip(FORMS, useless)
+        for form, number in zip(FORMS, misses)
         for quantum in (1, 10, 100, 1000)
     }
     return Row(Program(name, kind, "made up", ""), 2, 100, timed, counts, {})
@@ -111,18 +111,18 @@ def check_page(study: Study) -> Iterator[str]:
     yield from compare(
         "names", [a.meets(b) for at, a in enumerate(boxes) for b in boxes[:at]], [False] * 3
     )
-    title = "With the most useless misses, padding made the middle program 6.50 times as fast, and 1.00 times with the fewest (one)"
+    title = "With the most false-sharing misses, padding made the middle program 6.50 times as fast, and 1.00 times with the fewest (one)"
     yield from compare("the title", page_title({"one": study}), title)
     text = page({"one": study, "<other>": study})
     if text is not None:
         yield from compare("points of the page", text.count("<g transform"), 10)
         escaped = [it in text for it in ("made up &lt;&amp;&gt;", "&lt;other&gt;", "<other>")]
         yield from compare("escaped names", escaped, [True, True, False])
-        told = [
+        texts = [
             f"{row.program.name}, 2 threads: slowdown {number_text(row.slowdown())} (" in text
             for row in study.rows
         ]
-        yield from compare("what the points tell", told, [True] * 5)
+        yield from compare("the texts of the points", texts, [True] * 5)
         cells = re.findall(
             r"<code>(\w+)</code></td><td[^>]*>\w+</td><td[^>]*>2</td><td[^>]*>(.*?)</td><td[^>]*>(\S+) \(",
             text,
@@ -172,17 +172,17 @@ def check_pair(pair: Sequence[Built]) -> Iterator[str]:
     if pair[0].guest:
         counts = [count_guest(it, QUANTUM) for it in pair]
         results |= {it.result for it in counts}
-        missed = [it.useful + it.useless for it in counts]
+        missed = [it.true_sharing + it.false_sharing for it in counts]
         if program.kind == "false" and not missed[1] < missed[0] / 2:
             yield f"{program.name}: {missed[0]} misses as it is, and {missed[1]} padded"
         if (
             program.kind in ("false", "mixed")
             and program.name != "bytes"
-            and not counts[1].useless < counts[0].useless
+            and not counts[1].false_sharing < counts[0].false_sharing
         ):
-            yield f"{program.name}: {counts[0].useless} useless misses as it is, and {counts[1].useless} padded"
-        if program.kind in ("true", "none") and counts[0].useless > counts[0].steps / 1000:
-            yield f"{program.name}: {counts[0].useless} useless misses, and it is to have none"
+            yield f"{program.name}: {counts[0].false_sharing} false-sharing misses unpadded, and {counts[1].false_sharing} padded"
+        if program.kind in ("true", "none") and counts[0].false_sharing > counts[0].steps / 1000:
+            yield f"{program.name}: {counts[0].false_sharing} false-sharing misses, and it should have none"
     if len(results) > 1:
         yield f"{program.name} computes {sorted(results)}"
 
@@ -210,10 +210,10 @@ def check(only: Sequence[str]) -> int:
                 found += own
     for fault in found:
         print(fault)
-    told = (
+    summary = (
         "on this machine and as guests"
         if guests
         else "on this machine alone: clang, lld, llvm or the program isn't there"
     )
-    print(f"{len(built) // 2} pairs, {told}; {len(found)} wrong")
+    print(f"{len(built) // 2} pairs, {summary}; {len(found)} wrong")
     return 1 if found else 0

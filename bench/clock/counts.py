@@ -23,21 +23,21 @@ class Count(NamedTuple):
 
     steps: int
     accesses: int
-    useful: int
-    useless: int
+    true_sharing: int
+    false_sharing: int
     listed: int
     result: int
 
     def rate(self) -> float:
-        """Useless misses by 1000 steps, or by 1000 accesses of a recording."""
-        return 1000 * self.useless / (self.steps or self.accesses)
+        """False-sharing misses per 1,000 steps, or per 1,000 accesses of a recording."""
+        return 1000 * self.false_sharing / (self.steps or self.accesses)
 
     def listed_rate(self) -> float:
         return 1000 * self.listed / (self.steps or self.accesses)
 
 
 def count_trace(trace: str) -> tuple[int, int, int]:
-    """The accesses of a trace, and its useful and useless misses on lines of 64 bytes."""
+    """The accesses of a trace, and its true-sharing and false-sharing misses on lines of 64 bytes."""
     found = TOTAL.search(run_command([PREDATOR, "misses", trace]))
     if not found:
         raise Trouble(f"{trace}: `misses` has no total")

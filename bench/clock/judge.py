@@ -1,4 +1,4 @@
-"""What is told of measured pairs: slowdowns beside counts, rank correlations, bands, and whether a bound
+"""Numbers of measured pairs: slowdowns beside counts, rank correlations, bands, and whether a bound
 held. Nothing is measured here."""
 
 from statistics import median
@@ -12,7 +12,7 @@ from view.model.rate_bands import BANDS, at_most, band_of
 
 QUANTA = (1, 10, 100, 1000)
 USUAL = 100
-# Useless misses by 1000 steps under the usual quantum: where the bands begin.
+# False-sharing misses per 1,000 steps under the usual quantum: where the bands begin.
 EDGES = tuple(it.least for it in BANDS)
 Cell = str | int | float | None
 
@@ -40,7 +40,7 @@ class Row(NamedTuple):
         return all(it.is_quiet() for it in self.timed)
 
     def rate(self, quantum: int = USUAL, form: str = FORMS[0]) -> float | None:
-        """Useless misses by 1000 steps."""
+        """False-sharing misses per 1,000 steps."""
         found = self.counts.get((form, quantum))
         return found.rate() if found else None
 
@@ -68,9 +68,9 @@ class Row(NamedTuple):
         )
 
     def bound(self, latency: float) -> float | None:
-        """Useless misses under quantum 1 times the nanoseconds of one."""
+        """False-sharing misses under quantum 1 times the nanoseconds of one."""
         found = self.counts.get((FORMS[0], 1))
-        return found.useless * latency if found else None
+        return found.false_sharing * latency if found else None
 
     def at_most(self, latency: float, step: float) -> float | None:
         """The part of the time that view calls the most, where a step takes so many nanoseconds."""
@@ -127,12 +127,12 @@ def band_summary(rows: Sequence[Row]) -> list[list[Cell]]:
 def numbers() -> dict[str, Callable[[Row], float | None]]:
     found: dict[str, Callable[[Row], float | None]] = {}
     for quantum in QUANTA:
-        found[f"useless misses by 1000 steps, quantum {quantum}"] = lambda row, quantum=quantum: row.rate(quantum)  # type: ignore[misc]
-    found["useless misses less those of the padded form, quantum 100"] = miss_difference
-    found["useful and useless misses by 1000 steps, quantum 100"] = total_misses
-    found["useful and useless misses less those of the padded form, quantum 100"] = saved_time
-    found["the report's count by 1000 steps, quantum 100"] = invalidation_rate
-    found["recorded here: useless misses by 1000 accesses, quantum 100"] = recorded_rate
+        found[f"false-sharing misses per 1,000 steps, quantum {quantum}"] = lambda row, quantum=quantum: row.rate(quantum)  # type: ignore[misc]
+    found["false-sharing misses less those of the padded form, quantum 100"] = miss_difference
+    found["true-sharing and false-sharing misses per 1,000 steps, quantum 100"] = total_misses
+    found["true-sharing and false-sharing misses less those of the padded form, quantum 100"] = saved_time
+    found["the report's invalidations per 1,000 steps, quantum 100"] = invalidation_rate
+    found["recorded here: false-sharing misses per 1,000 accesses, quantum 100"] = recorded_rate
     return found
 
 
@@ -143,13 +143,13 @@ def miss_difference(row: Row) -> float | None:
 
 def total_misses(row: Row) -> float | None:
     found = row.counts.get((FORMS[0], USUAL))
-    return 1000 * (found.useless + found.useful) / found.steps if found else None
+    return 1000 * (found.false_sharing + found.true_sharing) / found.steps if found else None
 
 
 def saved_time(row: Row) -> float | None:
     own, padded = (row.counts.get((form, USUAL)) for form in FORMS)
     return (
-        1000 * (own.useless + own.useful - padded.useless - padded.useful) / own.steps
+        1000 * (own.false_sharing + own.true_sharing - padded.false_sharing - padded.true_sharing) / own.steps
         if own and padded
         else None
     )
@@ -190,7 +190,7 @@ def correlations(rows: Sequence[Row], threads: Sequence[int]) -> list[list[Cell]
 
 def bound_sentences(rows: Sequence[Row], latency: float, step: float) -> list[str]:
     """Sentences on the upper bound."""
-    told, held, above = [], 0, []
+    sentences, held, above = [], 0, []
     much = []
     for row in rows:
         bound = row.bound(latency)
@@ -203,12 +203,12 @@ def bound_sentences(rows: Sequence[Row], latency: float, step: float) -> list[st
         if bound > 0 and row.slowdown() > 1.05 and row.saved() > 0:
             much.append(bound / row.saved())
     if held or above:
-        told.append(
-            f"Useless misses under quantum 1 times {latency:.0f} ns, over all threads, were at least what padding saved in {held} of "
+        sentences.append(
+            f"False-sharing misses under quantum 1 times {latency:.0f} ns, over all threads, were at least what padding saved in {held} of "
             f"{held + len(above)} cases" + (f", not in {', '.join(above)}." if above else ".")
         )
     if much:
-        told.append(
+        sentences.append(
             f"Where padding saved a twentieth or more, the bound was {min(much):.1f} to {max(much):.1f} times what it saved, "
             f"in the middle {median(much):.1f} times."
         )
@@ -216,8 +216,8 @@ def bound_sentences(rows: Sequence[Row], latency: float, step: float) -> list[st
     over = [
         row.program.name for row, most in shares if most is not None and row.share() > most + 0.02
     ]
-    told.append(
+    sentences.append(
         f"As a part of the time, with {step:g} ns for a step, it was passed by more than 2 percent in {len(over)} cases"
         + (f": {', '.join(over)}." if over else ".")
     )
-    return told
+    return sentences

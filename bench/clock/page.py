@@ -1,4 +1,4 @@
-"""The page of some studies, side by side: useless misses by 1000 steps against the slowdown that padding took
+"""The page of some studies, side by side: false-sharing misses per 1,000 steps against the slowdown that padding took
 away, each program a named point. One file of HTML, which needs no network and no script; its template, which
 extends that of view/, escapes every name."""
 
@@ -17,7 +17,7 @@ WIDTH, HEIGHT, LEFT, LOWER, EDGE = 640, 600, 44, 44, 14
 # A point is within so many points of its place, a line of text is so high, and letters are so wide.
 POINT, LINE, LETTER = 5, 11, 6.9
 LETTERS = {**dict.fromkeys("ijl", 3.2), "f": 4.0, "t": 4.4, "r": 4.6, "_": 5.6, "w": 9.1, "m": 10.8}
-# What is below this, by 1000 steps, is drawn at it.
+# A rate per 1,000 steps below this is drawn at it.
 LEAST = 0.01
 COLOURS = {
     "false": "#d55e00",
@@ -129,7 +129,7 @@ def picture(rows: Sequence[Row], along: Scale, up: Scale) -> Given:
             "shape": SHAPES[point.program.kind],
             "colour": COLOURS[point.program.kind],
             "name": name,
-            "told": point_text(point),
+            "title": point_text(point),
         }
         for (x, y), point, name in zip(places, rows, names)
     ]
@@ -154,7 +154,7 @@ def picture(rows: Sequence[Row], along: Scale, up: Scale) -> Given:
 def point_text(row: Row) -> str:
     low, high = row.range()
     how = f"slowdown {number_text(row.slowdown())} ({low:.2f} to {high:.2f})"
-    return f"{row.program.name}, {row.threads} threads: {how}, {number_text(row.rate())} useless misses by 1000 steps; {row.program.text}"
+    return f"{row.program.name}, {row.threads} threads: {how}, {number_text(row.rate())} false-sharing misses per 1,000 steps; {row.program.text}"
 
 
 def page_title(studies: Mapping[str, Study]) -> str:
@@ -166,8 +166,8 @@ def page_title(studies: Mapping[str, Study]) -> str:
             most, fewest = number_text(found[-1][3]), number_text(found[0][3])
             parts.append(f"{most} times as fast, and {fewest} times with the fewest ({name})")
     if not parts:
-        return "What padding is worth, by useless misses"
-    return f"With the most useless misses, padding made the middle program {'; '.join(parts)}"
+        return "What padding is worth, by false-sharing misses"
+    return f"With the most false-sharing misses, padding made the middle program {'; '.join(parts)}"
 
 
 def page_pictures(studies: Mapping[str, Study]) -> list[Given]:
@@ -203,12 +203,12 @@ def page_rows(studies: Mapping[str, Study]) -> list[Given]:
         for name in studies:
             row = own.get(name)
             low, high = row.range() if row else (0.0, 0.0)
-            told = (
+            slowdown = (
                 f"{number_text(row.slowdown())} ({low:.2f} to {high:.2f}{'' if row.is_quiet() else '; disturbed'})"
                 if row
                 else "-"
             )
-            cells.append({"rate": number_text(row.rate()) if row else "-", "told": told})
+            cells.append({"rate": number_text(row.rate()) if row else "-", "slowdown": slowdown})
         made.append({"program": program, "threads": threads, "cells": cells})
     return made
 
@@ -236,7 +236,7 @@ def page(studies: Mapping[str, Study]) -> str | None:
             name: [[number_text(cell) for cell in row] for row in band_summary(study.quiet_rows())]
             for name, study in studies.items()
         },
-        "told": [it.told for it in BANDS],
+        "advice": [band.told for band in BANDS],
         "bound": {
             name: bound_sentences(study.quiet_rows(), study.latency(), study.step)
             for name, study in studies.items()

@@ -10,7 +10,7 @@ from typing import Iterable, NamedTuple, Sequence
 HERE = os.path.dirname(os.path.abspath(__file__))
 TOP = os.path.dirname(os.path.dirname(HERE))
 PROGRAMS = os.path.join(HERE, "programs")
-# (whose bands view tells, and whose templates are used here)
+# (for the bands and the templates of view)
 sys.path.append(TOP)
 GUESTS = os.path.join(HERE, "guests.sh")
 # What a first line may say that its program is.
@@ -54,10 +54,10 @@ def find_programs(only: Sequence[str] = ()) -> list[Program]:
             continue
         source = os.path.join(PROGRAMS, file)
         with open(source, encoding="utf-8") as text:
-            kind, _, told = text.readline().removeprefix("// ").strip().partition(": ")
+            kind, _, summary = text.readline().removeprefix("// ").strip().partition(": ")
         if kind not in KINDS:
             raise Trouble(f"{source}: the first line names none of {', '.join(KINDS)}")
-        found.append(Program(name, kind, told, source))
+        found.append(Program(name, kind, summary, source))
     missing = set(only) - {it.name for it in found}
     if missing:
         raise Trouble(f"there is no {', '.join(sorted(missing))} in {PROGRAMS}")

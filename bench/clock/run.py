@@ -128,7 +128,7 @@ def pair_forms(built: Sequence[Built]) -> Iterator[tuple[Built, Built]]:
 
 
 def measure_pairs(call: Call, built: Sequence[Built]) -> list[Row]:
-    """The times, one pair after the other. A pair that fails is told, and left out."""
+    """The times, one pair after the other. A pair that fails is reported, and left out."""
     rows: list[Row] = []
     for at, pair in enumerate(pair_forms(built), 1):
         name = (
@@ -189,7 +189,7 @@ def count_all(call: Call, built: Sequence[Built]) -> Counted:
 
 
 def put_counts(counted: Counted, pairs: Sequence[Built], rows: Sequence[Row]) -> None:
-    """Puts to each row what was counted of it. What is told where there is nothing: the sources changed, or
+    """Puts its counts to each row. A row without counts is reported: the sources changed, or
     the count failed."""
     keys = {(it.program.name, it.threads): count_key(it) for it in pairs}
     for row in rows:
@@ -269,12 +269,12 @@ def make_study(call: Call) -> Study:
             + ", ".join(f"{it} {ns:.0f}" for it, ns in lines.items())
         )
         rows = measure_pairs(call, built)
-        told = describe_machine(call)
-        told[
+        machine = describe_machine(call)
+        machine[
             "timing"
         ] = f"{time.monotonic() - began:.0f} s, in which the host kept the processors for others for {read_steal_seconds() - before:.1f} s"
         put_counts(counted, built, rows)
-    return Study(told, lines, call.step, rows)
+    return Study(machine, lines, call.step, rows)
 
 
 def main(words: Sequence[str]) -> int:

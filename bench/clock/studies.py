@@ -107,8 +107,8 @@ def parse_values(text: str) -> Study:
         if name.startswith("line ")
     }
     machine = {
-        name: told
-        for name, told in notes.items()
+        name: text
+        for name, text in notes.items()
         if not name.startswith("line ") and name != "step"
     }
     texts = {it.name: it.text for it in find_programs()}
@@ -131,7 +131,7 @@ def read_studies() -> dict[str, Study]:
 
 def bands_table(studies: Mapping[str, Study]) -> str:
     """The bands of all studies: how many cases each has, and its least, middle and greatest slowdown."""
-    heads = ["Useless misses by 1000 steps"]
+    heads = ["False-sharing misses per 1,000 steps"]
     rows: list[list[Cell]] = [[it[0]] for it in band_summary([])]
     for name, study in studies.items():
         heads += [f"{name}: cases", "least", "middle", "greatest"]
@@ -142,7 +142,7 @@ def bands_table(studies: Mapping[str, Study]) -> str:
 def rank_table(study: Study) -> list[tuple[str, Cell]]:
     """The rank correlations of the slowdown with some numbers."""
     chosen = {
-        "useless misses": rate(USUAL),
+        "false-sharing misses": rate(USUAL),
         "the same in turns of 10": rate(10),
         "the same in turns of 1": rate(1),
     }
@@ -158,9 +158,9 @@ def rate(quantum: int) -> Callable[[Row], float | None]:
 
 
 def is_true_sharing(row: Row) -> bool:
-    """Whether most misses of a program as it is are useful."""
+    """Whether most misses of the unpadded form are true-sharing misses."""
     found = row.counts[FORMS[0], USUAL]
-    return found.useful > found.useless
+    return found.true_sharing > found.false_sharing
 
 
 def bound_facts(study: Study) -> list[tuple[str, Cell]]:
@@ -186,7 +186,7 @@ def bound_facts(study: Study) -> list[tuple[str, Cell]]:
 
 
 def study_facts(study: Study) -> list[tuple[str, Cell]]:
-    """What else the document tells of a study."""
+    """Further facts of a study in the document."""
     rows, ways = study.quiet_rows(), sorted(study.lines.values())
     handed = [it for it in rows if is_true_sharing(it)]
     slower, gained = sum(it.slowdown() < 0.95 for it in handed), sum(
@@ -198,7 +198,7 @@ def study_facts(study: Study) -> list[tuple[str, Cell]]:
         *rank_table(study),
         *bound_facts(study),
         (
-            "of those with most misses useful, a pad cost 5% or more; saved it",
+            "of those with mostly true-sharing misses, a pad cost 5% or more; saved it",
             f"{slower}; {gained} of {len(handed)}",
         ),
     ]
@@ -222,7 +222,7 @@ def slowdown_text(study: Study, name: str) -> str:
 
 
 def programs_table(studies: Mapping[str, Study], names: Sequence[str], is_told: bool) -> str:
-    """Some programs: what they do, if that is told, their useless misses, and their slowdowns."""
+    """Some programs: their texts, if these are wanted, their false-sharing misses, and their slowdowns."""
     first, rows = next(iter(studies.values())), []
     for name in names:
         own = sorted(
@@ -236,7 +236,7 @@ def programs_table(studies: Mapping[str, Study], names: Sequence[str], is_told: 
     heads = [
         "Program",
         *(["What it does"] if is_told else []),
-        "Useless by 1000 steps",
+        "False per 1,000 steps",
         *[f"{it}: slowdown" for it in studies],
     ]
     return table(heads, rows, 2 if is_told else 1)
@@ -244,9 +244,9 @@ def programs_table(studies: Mapping[str, Study], names: Sequence[str], is_told: 
 
 def document_parts(studies: Mapping[str, Study]) -> dict[str, dict[str, str]]:
     """The texts between the marks of each document."""
-    told = [bands_table(studies), facts_table(studies), programs_table(studies, NAMED, False)]
+    tables = [bands_table(studies), facts_table(studies), programs_table(studies, NAMED, False)]
     return {
-        "STUDIES.md": {"clock": "\n\n".join(told)},
+        "STUDIES.md": {"clock": "\n\n".join(tables)},
         "GUIDE.md": {"clock": programs_table(studies, SHOWN, True)},
     }
 

@@ -142,9 +142,9 @@ def main_table(study: Study) -> str:
         "Threads",
         "Slowdown",
         "quarters",
-        *[f"useless, {it}" for it in QUANTA],
+        *[f"false, {it}" for it in QUANTA],
     ]
-    heads += ["padded, 100", "useful, 100", "recorded, 100", "at most", "saved"]
+    heads += ["padded, 100", "true, 100", "recorded, 100", "at most", "saved"]
     rows: list[list[Cell]] = []
     for own in sorted(study.rows, key=lambda own: -own.slowdown()):
         usual, here = own.counts.get((FORMS[0], USUAL)), own.recorded.get(FORMS[0])
@@ -160,7 +160,7 @@ def main_table(study: Study) -> str:
         ]
         row += [
             own.rate(form=FORMS[1]),
-            1000 * usual.useful / usual.steps if usual else None,
+            1000 * usual.true_sharing / usual.steps if usual else None,
             here.rate() if here else None,
         ]
         rows.append([*row, percent(own.at_most(study.latency(), study.step)), percent(own.share())])
@@ -170,7 +170,7 @@ def main_table(study: Study) -> str:
 def bands_table(study: Study) -> str:
     """The bands, over all and with each count of threads."""
     heads = [
-        "Useless misses by 1000 steps, quantum 100",
+        "False-sharing misses per 1,000 steps, quantum 100",
         "Cases",
         "Least slowdown",
         "Middle",
@@ -192,20 +192,20 @@ def ranks_table(study: Study) -> str:
 
 def exceptional_rows(study: Study) -> list[str]:
     """Rows that the usual rate would mislead on, and those that padding made slower."""
-    told = []
+    rows = []
     for own in study.quiet_rows():
         rate, name = own.rate(), f"{own.program.name} with {own.threads} threads"
         if rate is not None and rate < EDGES[1] and own.range()[0] > 1.2:
-            told.append(
-                f"{name}: {rate:.2f} useless misses by 1000 steps, and a slowdown of {own.slowdown():.2f}"
+            rows.append(
+                f"{name}: {rate:.2f} false-sharing misses per 1,000 steps, and a slowdown of {own.slowdown():.2f}"
             )
         if rate is not None and rate >= EDGES[3] and own.range()[0] < 1.1:
-            told.append(
-                f"{name}: {rate:.2f} useless misses by 1000 steps, and a slowdown of {own.slowdown():.2f} alone"
+            rows.append(
+                f"{name}: {rate:.2f} false-sharing misses per 1,000 steps, and a slowdown of {own.slowdown():.2f} alone"
             )
         if own.range()[1] < 0.97:
-            told.append(f"{name}: padding made it slower, {1 / own.slowdown():.2f} times")
-    return told
+            rows.append(f"{name}: padding made it slower, {1 / own.slowdown():.2f} times")
+    return rows
 
 
 def study_markdown(study: Study) -> str:
@@ -217,7 +217,7 @@ def study_markdown(study: Study) -> str:
         if steps
         else ""
     )
-    told = f"{middle}{steps[len(steps) // 2]:.2f} ns." if steps else ""
+    step_text = f"{middle}{steps[len(steps) // 2]:.2f} ns." if steps else ""
     parts = [
         "# What a miss is worth in time",
         "",
@@ -226,7 +226,7 @@ def study_markdown(study: Study) -> str:
     ]
     lines = ", ".join(f"{between}: {ns:.0f}" for between, ns in study.lines.items())
     parts += [
-        f"A line's way from one processor to another, in nanoseconds: {lines}. {told}",
+        f"A line's way from one processor to another, in nanoseconds: {lines}. {step_text}",
         "",
         quiet,
         "",
@@ -288,12 +288,12 @@ def study_values(study: Study) -> str:
             for quantum in QUANTA:
                 found = entry.counts.get((form, quantum))
                 cells += (
-                    [found.steps, found.useful, found.useless, found.listed]
+                    [found.steps, found.true_sharing, found.false_sharing, found.listed]
                     if found
                     else [None] * 4
                 )
             here = entry.recorded.get(form)
-            cells += [here.accesses, here.useful, here.useless] if here else [None] * 3
+            cells += [here.accesses, here.true_sharing, here.false_sharing] if here else [None] * 3
         cells += [
             entry.saved(),
             entry.bound(study.latency()),

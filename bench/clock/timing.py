@@ -16,7 +16,7 @@ SLOWER, FASTER, LONGEST = 0.1, 0.03, 0.6
 # A run is disturbed if a thread was switched of itself, or if all together had no processor for more than so
 # much of the time.
 AWAY = 0.01
-# A form of a pair has at least so many runs that nothing disturbed, or it is told to be disturbed.
+# A form of a pair has at least so many runs that nothing disturbed, or it is marked as disturbed.
 LEAST = 5
 
 

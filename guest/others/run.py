@@ -52,24 +52,24 @@ def first_rows(lines):
 
 
 def excerpt(name, run, build):
-    """The first observed lines of a report, and the lines of its misses that are the most useless."""
+    """The first observed lines of a report, and the lines with most false-sharing misses."""
     observed = run.report.lines_of_kind("observed")
-    missed = [it for it in build.missed if it.useless > 0]
+    missed = [it for it in build.missed if it.false_sharing > 0]
     return code_block(
         [
             f"{name}: lines {len(run.report.lines)}, {len(observed)} of them observed",
             *first_rows([(it.text, it.objects) for it in observed]),
         ]
         + [
-            f"{name}: lines with useless misses {len(missed)}",
+            f"{name}: lines with false-sharing misses {len(missed)}",
             *first_rows([(it.texts[0], it.texts[1:]) for it in missed]),
         ]
     )
 
 
-def count_false_sharing(told, base, size):
-    """The useless misses of all lines of a text of misses that lie in a range."""
-    found = re.findall(r"^line (\S+) cold \d+ useful \d+ useless (\d+)$", told, re.MULTILINE)
+def count_false_sharing(text, base, size):
+    """The false-sharing misses of all lines in a range, by a text of misses."""
+    found = re.findall(r"^line (\S+) cold \d+ useful \d+ useless (\d+)$", text, re.MULTILINE)
     return sum(int(count) for at, count in found if base <= int(at, 16) < base + size)
 
 
@@ -130,7 +130,7 @@ def main(words):
     if "--renew" in words and names != list(STUDIES):
         sys.exit("run.py: --renew is for all studies")
     subprocess.run([os.path.join(HERE, "build.sh"), *names], check=True)
-    runs, costs, fights, parts, wrong = {}, [], [], {}, []
+    runs, costs, conflicts, parts, wrong = {}, [], [], {}, []
     for study in names:
         shown_here = []
         for name in STUDIES[study]:
@@ -145,7 +145,7 @@ def main(words):
             ]
             costs.append([name, run.report.steps, *counts, *build.total, run.excerpt_title()])
             if build.pair and name == STUDIES[study][0]:
-                fights.append([name, f"`{address_text(build.base)}`", build.count, *build.pair])
+                conflicts.append([name, f"`{address_text(build.base)}`", build.count, *build.pair])
             shown_here.append(excerpt(name, run, build))
             wrong += [f"{name}: {it}" for it in run.wrong + build.wrong]
         parts[study] = "\n\n".join(shown_here)
@@ -156,14 +156,14 @@ def main(words):
         "Counts",
         "By word",
         "Cold",
-        "Useful",
-        "Useless",
+        "True",
+        "False",
         "Recount",
     ]
     parts["others"] = markdown_table(heads, costs)
-    parts["others' fights"] = markdown_table(
+    parts["others' conflicts"] = markdown_table(
         ["Build", "Line", "Count", "Who takes it most", "From whom", "Taken", "For the same word"],
-        fights,
+        conflicts,
     )
     heads = [
         "Build",
@@ -171,16 +171,16 @@ def main(words):
         "Predicted line",
         "Size",
         "Count",
-        "Useless there",
-        "Useless in its lines of 64",
+        "False there",
+        "False in its lines of 64",
         "Observed",
         "Count",
     ]
     parts["others foretold"] = markdown_table(
         heads, [prediction_row(it, runs) for it in PREDICTED if it in runs]
     )
-    for name, told in parts.items():
-        print(f"\n== {name}\n\n{told}")
+    for name, text in parts.items():
+        print(f"\n== {name}\n\n{text}")
     for fault in wrong:
         print(fault)
     if "--renew" in words:

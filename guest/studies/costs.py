@@ -42,7 +42,7 @@ def source_place(path, pc, name):
     words = ["llvm-symbolizer", f"--obj={path}", "--output-style=JSON", f"{pc:#x}"]
     ran = subprocess.run(words, stdout=subprocess.PIPE, text=True, check=True)
     frames = json.loads(ran.stdout)[0]["Symbol"]
-    # (the compiler gives some inlined code no line, and then the call's is told)
+    # (the compiler gives some inlined code no line: then the line of the call is used)
     lines = [
         f"`{os.path.basename(frame['FileName'])}:{frame['Line']}`"
         for frame in frames
@@ -88,18 +88,18 @@ class Build:
 
     def explain_line(self, settings):
         start = self.line.start if self.line else 0
-        told = program_output(
+        text = program_output(
             "explain", self.path, address_text(self.base), "64", str(start), "--settings", settings
         )
-        self.count = int(re.search(r"^line .* count (\d+)$", told, re.MULTILINE)[1])
+        self.count = int(re.search(r"^line .* count (\d+)$", text, re.MULTILINE)[1])
         if self.line and self.count != self.line.count:
             self.wrong.append(
                 f"{self.path}: the report counts {self.line.count} of {address_text(self.base)}, and explain {self.count}"
             )
-        found = re.search(r"^pair (\S+) (\S+) taken (\d+) same (\d+)$", told, re.MULTILINE)
+        found = re.search(r"^pair (\S+) (\S+) taken (\d+) same (\d+)$", text, re.MULTILINE)
         if found is None:
             return None
-        names = dict(re.findall(r"^site (\S+) .* (\S+)$", told, re.MULTILINE))
+        names = dict(re.findall(r"^site (\S+) .* (\S+)$", text, re.MULTILINE))
         places = [source_place(self.path, int(it, 16), names[it]) for it in found.groups()[:2]]
         return [*reversed(places), *found.groups()[2:]]
 
@@ -107,10 +107,10 @@ class Build:
 class MissLine:
     """A line of the text of misses, with what stands on it."""
 
-    def __init__(self, told):
-        self.texts = [it for it in told.splitlines() if it.split()[0] in ("line", "object", "site")]
+    def __init__(self, text):
+        self.texts = [it for it in text.splitlines() if it.split()[0] in ("line", "object", "site")]
         words = self.texts[0].split()
-        self.base, self.useful, self.useless = int(words[1], 16), int(words[5]), int(words[7])
+        self.base, self.true_sharing, self.false_sharing = int(words[1], 16), int(words[5]), int(words[7])
 
 
 def main(words):
@@ -118,7 +118,7 @@ def main(words):
     names = [it for it in words if it != "--renew"] or list(studies)
     if "--renew" in words and names != list(studies):
         sys.exit("costs.py: --renew is for all studies")
-    costs, fights, wrong = [], [], []
+    costs, conflicts, wrong = [], [], []
     with tempfile.TemporaryDirectory() as work:
         # (with line tables; the instructions are those of the builds without)
         subprocess.run([os.path.join(TOP, "guest", "build.sh"), "studies", work], check=True)
@@ -126,7 +126,7 @@ def main(words):
             build = Build(os.path.join(work, f"{name}.elf"), SETTINGS.get(name.split("-")[0], ""))
             costs.append([name, *build.total])
             if build.pair:
-                fights.append([name, f"`{address_text(build.base)}`", build.count, *build.pair])
+                conflicts.append([name, f"`{address_text(build.base)}`", build.count, *build.pair])
             wrong += build.wrong
     heads = [
         "Build",
@@ -138,11 +138,11 @@ def main(words):
         "For the same word",
     ]
     parts = {
-        "costs": markdown_table(["Build", "Cold", "Useful", "Useless"], costs),
-        "fights": markdown_table(heads, fights),
+        "costs": markdown_table(["Build", "Cold", "True", "False"], costs),
+        "conflicts": markdown_table(heads, conflicts),
     }
-    for name, told in parts.items():
-        print(f"\n== {name}\n\n{told}")
+    for name, text in parts.items():
+        print(f"\n== {name}\n\n{text}")
     for fault in wrong:
         print(fault)
     if "--renew" in words:

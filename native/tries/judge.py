@@ -78,10 +78,10 @@ def read_records(trace, all_of_it):
             yield "symbol", kind, addr, size, name.decode(errors="replace")
             place += 12 + length
         elif tag == 6:
-            outcome, cause, hart, value, steps, told = struct.unpack_from(
+            outcome, cause, hart, value, steps, total = struct.unpack_from(
                 "<BBHIQQ", data, place + 1
             )
-            if told != accesses or place + 25 != len(data) or (cause, hart, steps) != (0, 0, 0):
+            if total != accesses or place + 25 != len(data) or (cause, hart, steps) != (0, 0, 0):
                 sys.exit(f"a wrong end at {place}")
             yield "end", outcome, value, accesses
             return
@@ -165,22 +165,22 @@ def parse_table(table):
 def list_sites(trace, name, behind):
     all_records = list(read_records(trace, True))
     at = find_object(all_records, name) + int(behind)
-    told = parse_table(f"{trace}.table")
+    sites_by_pc = parse_table(f"{trace}.table")
     texts = []
     for pc in sorted({it[5] for it in all_records if it[0] == "access" and at <= it[3] < at + 4}):
         texts.append(
             " < ".join(
                 f"{own[1]} {own[2].rpartition('/')[2]}"
-                for own in told.get(pc, [("", "unknown", "unknown")])
+                for own in sites_by_pc.get(pc, [("", "unknown", "unknown")])
             )
         )
     return "; ".join(sorted(set(texts)))
 
 
 def count_unnamed(trace):
-    told = parse_table(f"{trace}.table")
+    sites_by_pc = parse_table(f"{trace}.table")
     pcs = {it[5] for it in read_records(trace, True) if it[0] == "access"}
-    return sum(sum(own[0] == "site" for own in told.get(it, [])) != 1 for it in pcs)
+    return sum(sum(own[0] == "site" for own in sites_by_pc.get(it, [])) != 1 for it in pcs)
 
 
 def main(words):

@@ -1,4 +1,4 @@
-"""Makes calls of the program over files of its own, and tells how they ended and which calls of the system
+"""Makes calls of the program over files of its own, and how they ended and which calls of the system
 they made."""
 
 import collections
@@ -7,7 +7,7 @@ import subprocess
 from typing import Iterator, NamedTuple, Sequence
 
 import files
-from files import Case
+from cases import Case, all_cases
 
 Fault = str
 # What stands under the name of an output before the call: more bytes than any output has, and no front of
@@ -68,7 +68,7 @@ class Bench:
     def __init__(self, program: str, work: str, shim: str, planted: dict[str, str]) -> None:
         self.program, self.work, self.shim, self.planted = program, work, shim, planted
         self.folder, self.log = os.path.join(work, "files"), os.path.join(work, "log")
-        self.cases = files.all_cases()
+        self.cases = all_cases()
         self.tried: collections.Counter[tuple[str, str]] = collections.Counter()
         self.failed: list[str] = []
         os.makedirs(self.folder, exist_ok=True)
@@ -183,9 +183,9 @@ class Bench:
 
     def print_summary(self) -> str:
         """How many tries passed and failed, and how many there were of each call and errno."""
-        told = collections.defaultdict(list)
+        errors = collections.defaultdict(list)
         for (call, how), number in sorted(self.tried.items()):
-            told[call].append(f"{how} {number}" if how else str(number))
+            errors[call].append(f"{how} {number}" if how else str(number))
         all_of = sum(self.tried.values())
-        by_call = "; ".join(f"{call}: {', '.join(hows)}" for call, hows in told.items())
+        by_call = "; ".join(f"{call}: {', '.join(hows)}" for call, hows in errors.items())
         return f"{all_of - len(self.failed)} passed, {len(self.failed)} failed ({by_call})"

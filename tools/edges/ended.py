@@ -5,7 +5,7 @@ import subprocess
 from typing import Sequence
 
 from bench import SECONDS, Bench, Fault, read_content
-from files import Case
+from cases import Case
 from judge import find_faults, expected_end
 
 IN_USE = "the same file is in use under another name, and stays as it is"

@@ -1,5 +1,5 @@
-"""The files that tools/edges/main.py has the program read, and what it is to print and write of each, by
-docs/FORMATS.md and the cases of crates/worked_runs/data. None of it is taken from the program."""
+"""The files that the program reads for tools/edges/main.py, and the texts and files that it makes of each, by
+docs/FORMATS.md and the cases of crates/worked_runs/data. None of it comes from the program."""
 
 import os
 import struct
@@ -8,7 +8,6 @@ from typing import Iterable, NamedTuple
 
 sys.path.insert(0, os.path.join(os.path.dirname(os.path.abspath(__file__)), ".."))
 
-from message_files import FORM, NO_PCS  # noqa: E402
 from traces import encode_distance  # noqa: E402
 
 DATA = os.path.join(
@@ -28,46 +27,6 @@ STATE = bytes.fromhex(
     "001000000000000001000000000000000002030005000000001000000000000000000000000000000000000000000000010000000000000001000000000000"
     "00feff000000000000000000000000000000000000"
 )
-
-
-class Case(NamedTuple):
-    """A call, and what it is to do: how it ends, what it prints and says, which files it reads, and what it
-    writes, in their order."""
-
-    words: tuple[str, ...]
-    status: int
-    printed: bytes
-    reads: tuple[str, ...]
-    writes: tuple[tuple[str, bytes], ...] = ()
-    said: bytes = b""
-    # the trace that is read more than once, that which is read while the output is written, and the file that
-    # is standard input
-    again: str = ""
-    along: str = ""
-    piped: str = ""
-    # whether it writes although it is refused: what of its trace comes before the fault
-    leaves: bool = False
-
-    def is_refused(self) -> bool:
-        return self.status in (1, 2, 3, 4, 5, 6, 13, 14)
-
-    def keeps_outputs(self) -> bool:
-        """Whether each output is to stay as it was."""
-        return self.is_refused() and not self.leaves
-
-    def renamed(self, name: str, other: str) -> "Case":
-        """The same call over a file of another name."""
-
-        def by(word: str) -> str:
-            return other if word == name else word
-
-        return self._replace(
-            words=tuple(map(by, self.words)),
-            reads=tuple(map(by, self.reads)),
-            again=by(self.again),
-            along=by(self.along),
-            writes=tuple((by(it), whole) for it, whole in self.writes),
-        )
 
 
 def join_lines(*texts: str) -> bytes:
@@ -245,14 +204,14 @@ def contended_blame(count: int) -> bytes:
             f"pair {other} {one} taken 1 same 0",
         ]
         rows += ["from 0 to 1 taken 2", "from 1 to 0 taken 1"]
-    told = (
+    rows = (
         f"accesses {4 * count}",
         "layout 64 0",
         f"lines {count}",
         *rows,
         f"total takings {3 * count}",
     )
-    return join_lines("predator blame 1", *told, "end")
+    return join_lines("predator blame 1", *rows, "end")
 
 
 def contended_caches(count: int) -> bytes:
@@ -269,15 +228,15 @@ def contended_caches(count: int) -> bytes:
 def state_bytes(count: int) -> bytes:
     """The state of a trace in which hart 0 writes so many words, each of which is a line, and whose tracking
     begins at the first write."""
-    told = struct.pack("<8sIIQQH6xQQQ", b"PRDSTA01", 4, 0, 1, 0, 8, count, count, count)
-    told += b"".join(struct.pack("<QQ", 0x100000 + 4 * it, 1) for it in range(count))
+    head = struct.pack("<8sIIQQH6xQQQ", b"PRDSTA01", 4, 0, 1, 0, 8, count, count, count)
+    head += b"".join(struct.pack("<QQ", 0x100000 + 4 * it, 1) for it in range(count))
     tracks = (
         struct.pack(
             "<BBHHHqQQQQHH", 0, 1, 0, 0xFFFF, 0, 0x100000 + 4 * number, number, 0, 0, 1, 0, 0
         )
         for number in range(count)
     )
-    return told + b"".join(tracks) + bytes(16)
+    return head + b"".join(tracks) + bytes(16)
 
 
 # ---- A program for a run: it writes a word over and over, puts out bytes, and exits.
@@ -375,30 +334,30 @@ def guest(writes: int, pieces: int, rest: int, code: int = 0) -> Guest:
 LONG, SMALL = guest(WRITES, PIECES, REST), guest(3, 0, REST)
 
 
-def _data(name: str) -> bytes:
+def read_data(name: str) -> bytes:
     with open(os.path.join(DATA, name), "rb") as file:
         return file.read()
 
 
 def usage_text() -> bytes:
-    return _data("usage.txt")
+    return read_data("usage.txt")
 
 
 def input_files() -> dict[str, bytes]:
     """The files that calls read."""
-    pair, fights = [(0, "W", 0x1000), (1, "W", 0x1004), (0, "W", 0x1000)], contended_accesses(LINES)
+    pair, shared = [(0, "W", 0x1000), (1, "W", 0x1004), (0, "W", 0x1000)], contended_accesses(LINES)
     return {
         "long.elf": LONG.file,
         "small.elf": SMALL.file,
-        "plain.elf": _data("plain.elf"),
-        "adds.elf": _data("adds_bytes.elf"),
-        "waits.elf": _data("waits_for_ever.elf"),
-        "traps.elf": _data("traps.elf"),
+        "plain.elf": read_data("plain.elf"),
+        "adds.elf": read_data("adds_bytes.elf"),
+        "waits.elf": read_data("waits_for_ever.elf"),
+        "traps.elf": read_data("traps.elf"),
         "settings": b"tracking = 1\nreport = 1\n",
         "schedule": b"0 5\n",
         "table": TABLE,
         "made": trace_bytes(generated_accesses(MADE)),
-        "fought": trace_bytes(fights),
+        "contended": trace_bytes(shared),
         "short": trace_bytes(generated_accesses(200)),
         "two": trace_bytes(pair, symbol_record(0x1000, 8, b"pair")),
         "taken": trace_bytes(
@@ -406,7 +365,7 @@ def input_files() -> dict[str, bytes]:
         ),
         "turns": trace_bytes(pair + [(1, "W", 0x1004)]),
         "written": trace_bytes([(0, "W", 0x100000 + 4 * it) for it in range(LINES)]),
-        "sited": trace_version_3(by_line(fights)),
+        "sited": trace_version_3(by_line(shared)),
         "few": trace_version_3(alternate(3)),
         "state": STATE,
         "rest": trace_header(first=2) + trace_end(0),
@@ -416,312 +375,3 @@ def input_files() -> dict[str, bytes]:
         "late": trace_bytes(with_late_access(MADE)),
         "cut": trace_bytes(generated_accesses(MADE))[:CUT_AT],
     }
-
-
-def writing_cases() -> list[Case]:
-    """Calls that write, most of them more than one piece."""
-    first, second = split_trace(generated_accesses(MADE), CUT)
-    plain = report_text("exit 0", LONG.steps, WRITES, "64 0", "16 64 100")
-    small = report_text("exit 0", SMALL.steps, 3, "64 0", "1 64 1")
-    short, all_words = (
-        generated_accesses(200),
-        "run small.elf --settings settings --schedule schedule --set quantum=3 --trace t --output o".split(),
-    )
-    kept = report_text("exit 0", LINES, LINES, "4 0", "1 none 1")
-    return [
-        Case(
-            ("run", "long.elf", "--trace", "t", "--output", "o"),
-            0,
-            plain,
-            ("long.elf",),
-            (("t", LONG.trace), ("o", LONG.output)),
-        ),
-        Case(
-            tuple(all_words),
-            0,
-            small,
-            ("settings", "small.elf", "schedule"),
-            (("t", SMALL.trace), ("o", SMALL.output)),
-        ),
-        Case(
-            ("run", "long.elf", "--trace", "t"),
-            0,
-            plain,
-            ("long.elf",),
-            (("t", LONG.trace),),
-            LONG.output + b"\n",
-        ),
-        Case(
-            ("run", "small.elf", "--output", "o", "--set", "budget=5"),
-            10,
-            report_text("budget", 5, 1, "64 0", "16 64 100"),
-            ("small.elf",),
-            (("o", b""),),
-            b"predator: `budget` in the settings allows more steps, up to 68719476736\n",
-        ),
-        Case(
-            ("run", "long.elf", "--trace", "t", "--pcs", "--output", "o"),
-            0,
-            plain,
-            ("long.elf",),
-            (("t", LONG.sited), ("o", LONG.output)),
-        ),
-        Case(
-            ("gen", str(MADE), "f"),
-            0,
-            worked_text("gen.case", f"gen {MADE} f"),
-            (),
-            (("f", trace_bytes(generated_accesses(MADE))),),
-        ),
-        Case(
-            ("gen", "0", "f"), 0, worked_text("gen.case", "gen 0 f"), (), (("f", trace_bytes([])),)
-        ),
-        Case(
-            ("split", "made", str(CUT), "a", "b"),
-            0,
-            join_lines(f"split {CUT} {MADE - CUT}"),
-            ("made",),
-            (("a", first), ("b", second)),
-            again="made",
-        ),
-        Case(
-            ("split", "short", "0", "a", "b"),
-            0,
-            b"split 0 200\n",
-            ("short",),
-            tuple(zip("ab", split_trace(short, 0))),
-            again="short",
-        ),
-        Case(
-            ("convert", "made", "c"),
-            0,
-            join_lines(f"convert 2 {MADE}"),
-            ("made",),
-            (("c", trace_version_2(generated_accesses(MADE))),),
-            again="made",
-        ),
-        Case(
-            ("move", "made", "table", "m"),
-            0,
-            join_lines(f"move {MADE} {sum(it[2] == 0x10000 for it in generated_accesses(MADE))}"),
-            ("table", "made"),
-            (("m", trace_bytes(move_accesses(generated_accesses(MADE)))),),
-            along="made",
-        ),
-        Case(
-            ("replay", "written", "--size", "4", "--settings", "settings", "--save", "s"),
-            0,
-            kept,
-            ("settings", "written"),
-            (("s", state_bytes(LINES)),),
-        ),
-        Case(
-            (
-                "replay",
-                "rest",
-                "--size",
-                "4",
-                "--settings",
-                "settings",
-                "--resume",
-                "state",
-                "--save",
-                "s",
-            ),
-            0,
-            report_text("exit 0", 0, 2, "4 0", "1 none 1"),
-            ("settings", "state", "rest"),
-            (("s", STATE),),
-        ),
-        # (what is refused within the trace leaves the records before that)
-        *unfinished_cases(),
-    ]
-
-
-def unfinished_cases() -> list[Case]:
-    before = trace_header() + access_records(move_accesses(generated_accesses(MADE)[:15000]))
-    cut = f"cut: it ends after {CUT_AT} bytes, before the trace does: write or copy it again"
-    first = trace_header() + access_records(move_accesses(with_late_access(MADE)[:-10]))
-    taken = (
-        "late: an access at this address isn't moved, and others would be moved to where it is: give them another place, or give "
-        "this address a line of its own"
-    )
-    return [
-        Case(
-            ("move", "cut", "table", "m"),
-            5,
-            join_lines(f"predator: trace Truncated {CUT_AT}"),
-            ("table", "cut"),
-            (("m", before),),
-            join_lines(f"predator: {cut}"),
-            along="cut",
-            leaves=True,
-        ),
-        Case(
-            ("move", "late", "over", "m"),
-            14,
-            join_lines(f"predator: table Occupied {WAY:#010x}"),
-            ("over", "late"),
-            (("m", first),),
-            join_lines(f"predator: {taken}"),
-            along="late",
-            leaves=True,
-        ),
-    ]
-
-
-def printing_cases() -> list[Case]:
-    """Calls that write nothing. Some of them print more than 64 KiB."""
-    none_taken = join_lines(
-        "predator blame 1", "accesses 3", "layout 4 0", "lines 0", "total takings 0", "end"
-    )
-    replay = ("--size", "64", "--settings", "settings")
-    caches = ("--size", "64", "--sets", "64", "--ways", "64")
-    explain = ("explain", "adds.elf", "0x00011000", "64", "0", "--set", "quantum=1")
-    shown = report_text("exit 0", SMALL.steps, 3, "64 0", "16 64 100")
-    return [
-        Case(("replay", "fought", *replay), 0, contended_report(LINES), ("settings", "fought")),
-        Case(
-            ("replay", "-", *replay),
-            0,
-            contended_report(LINES),
-            ("settings", "/dev/stdin"),
-            piped="fought",
-        ),
-        Case(("misses", "fought"), 0, contended_misses(LINES), ("fought",)),
-        Case(
-            ("misses", "-"),
-            0,
-            worked_text("misses.case", "misses t"),
-            ("/dev/stdin",),
-            piped="turns",
-        ),
-        Case(("blame", "sited"), 0, contended_blame(LINES), ("sited",)),
-        Case(("blame", "-", "--size", "4"), 0, none_taken, ("/dev/stdin",), piped="few"),
-        Case(("caches", "fought", *caches), 0, contended_caches(LINES), ("fought",)),
-        Case(
-            ("sweep", "two", "--size", "8"),
-            0,
-            worked_text("sweep.case", "sweep t --size 8"),
-            ("two",),
-        ),
-        Case(
-            ("place", "two", "pair"),
-            0,
-            worked_text("place.case", "place t pair"),
-            ("two",),
-            again="two",
-        ),
-        Case(("check", "plain.elf"), 0, worked_text("programs.case", "check p"), ("plain.elf",)),
-        Case(
-            explain,
-            0,
-            worked_text("explain.case", "explain p 0x00011000 64 0 --settings one"),
-            ("adds.elf",),
-        ),
-        Case(("run", "small.elf"), 0, shown, ("small.elf",), said=SMALL.output + b"\n"),
-    ]
-
-
-def refused_cases() -> list[Case]:
-    """Calls that are refused before an output is begun, and so write nothing. What is said may be worded
-    anew; then it is to be so here."""
-    outputs = ("--trace", "t", "--output", "o")
-    both, state = (("t", b""), ("o", b"")), (("s", b""),)
-    cut = "it ends after 10 bytes, before the trace does: write or copy it again"
-    none = "no object symbol of the trace has this name, nor was exactly one block made at that address"
-    rows = [
-        (
-            ("gen", "03", "f"),
-            1,
-            usage_text(),
-            (),
-            (("f", b""),),
-            "'03' has a leading zero: N is a whole number up to 1000000000",
-        ),
-        (
-            ("run", "script", *outputs),
-            2,
-            b"predator: elf TooShort\n",
-            ("script",),
-            both,
-            "script: a script: guest/build.sh builds for RV32IMA",
-        ),
-        (
-            ("run", "small.elf", "--schedule", "bad", *outputs),
-            3,
-            b"predator: schedule BadLine 1\n",
-            ("small.elf", "bad"),
-            both,
-            "bad: line 1 isn't a hart, one space and a count, as `0 500`",
-        ),
-        (
-            ("run", "small.elf", "--settings", "bad", *outputs),
-            4,
-            b"predator: settings OutOfRange harts\n",
-            ("bad",),
-            both,
-            "bad: `harts` is a whole number from 1 to 256",
-        ),
-        (
-            ("replay", "bad", "--save", "s"),
-            5,
-            b"predator: trace Truncated 10\n",
-            ("bad",),
-            state,
-            f"bad: {cut}",
-        ),
-        (("blame", "short"), 5, b"predator: trace NoPcs\n", ("short",), (), f"short: {NO_PCS}"),
-        (
-            ("split", "bad", "3", "a", "b"),
-            5,
-            b"predator: trace Truncated 10\n",
-            ("bad",),
-            (("a", b""), ("b", b"")),
-            f"bad: {cut}",
-        ),
-        (
-            ("convert", "script", "c"),
-            5,
-            b"predator: trace Truncated 10\n",
-            ("script",),
-            (("c", b""),),
-            f"script: {cut}",
-        ),
-        (
-            ("replay", "short", "--resume", "bad", "--save", "s"),
-            6,
-            b"predator: state BadState 0\n",
-            ("bad",),
-            state,
-            "bad: not a saved state, or only part of one: byte 0 is wrong",
-        ),
-        (("place", "two", "none"), 13, b"predator: place NoObject\n", ("two",), (), none),
-        (
-            ("move", "made", "bad", "m"),
-            14,
-            b"predator: table BadLine 1\n",
-            ("bad",),
-            (("m", b""),),
-            f"bad: line 1 {FORM}",
-        ),
-        (
-            ("move", "script", "table", "m"),
-            5,
-            b"predator: trace Truncated 10\n",
-            ("table", "script"),
-            (("m", b""),),
-            f"script: {cut}",
-        ),
-    ]
-    made_of = [Case(*row[:5], said=f"predator: {row[5]}\n".encode()) for row in rows]
-    return [
-        case._replace(again=case.reads[0])
-        if case.words[0] in ("split", "convert", "place")
-        else case
-        for case in made_of
-    ]
-
-
-def all_cases() -> list[Case]:
-    return writing_cases() + printing_cases() + refused_cases()

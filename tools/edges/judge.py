@@ -6,7 +6,7 @@ import os
 from typing import Iterator, NamedTuple
 
 from bench import Call, Ending, Fault
-from files import Case
+from cases import Case
 
 
 # How many bytes are asked for at once at most.

@@ -8,7 +8,7 @@ Each call of the program is made as it is, and then again for each call of the s
 files: that one fails with an errno that it can have, or moves fewer bytes than it was asked to. between.c
 stands between the program and the C library for that; cc builds it. What is wanted after each:
 
-- the exit status, all that is printed, and the fault on standard error are those that docs/FORMATS.md tells;
+- the exit status, all that is printed, and the fault on standard error are those of docs/FORMATS.md;
 - each output is as it was, a front of what it is to be, or whole, and whole where the work is done. It has
   the bytes that were handed over in writes that the system answered, and no others;
 - no other file is changed or made, and nothing is left open or running;
@@ -21,7 +21,7 @@ stands between the program and the C library for that; cc builds it. What is wan
   changes nothing else.
 
 tries.py, names.py and streams.py try what needs no failing call: names of files, streams, full disks, traces
-that change, and what `main` does. files.py has what each call is to print and write, worked out apart from
+that change, and what `main` does. cases.py has what each call is to print and write, worked out apart from
 the program.
 
 The short form takes EINTR and some of the other errnos in turn, and of calls that are alike the first two and
@@ -34,7 +34,7 @@ what is shown is that such a mistake would be seen; the program itself isn't cha
 --open tries what one would expect and the program doesn't do, and nothing else: it fails as long as that is
 so.
 
-A write that the system answers and then loses can't be told from a good one. It ends with 1 where anything is
+A write that the system answers and then loses looks like a good one. It ends with 1 where anything is
 wrong. The last line counts the tries by call and errno."""
 
 import collections
@@ -48,7 +48,7 @@ from typing import Iterator, NamedTuple
 import names
 import tries
 from bench import Bench, Call
-from files import Case
+from cases import Case
 from judge import Wanted, find_faults, expected_end
 from streams import READ_ONCE
 
@@ -82,8 +82,8 @@ class Failure(NamedTuple):
     lasts: bool = False
 
     def environment(self, number: int) -> dict[str, str]:
-        told = {"EDGES_AT": str(number), "EDGES_ERROR": str(self.error), "EDGES_SHARE": self.share}
-        return told | ({"EDGES_LASTS": "1"} if self.lasts else {})
+        env = {"EDGES_AT": str(number), "EDGES_ERROR": str(self.error), "EDGES_SHARE": self.share}
+        return env | ({"EDGES_LASTS": "1"} if self.lasts else {})
 
 
 def call_purpose(case: Case, calls: list[Call], number: int) -> str:
@@ -286,8 +286,8 @@ def try_first_outputs(bench: Bench) -> None:
 
 def try_good(bench: Bench) -> None:
     for case in bench.cases:
-        told = {"EDGES_NAME": case.writes[-1][0]} if case.writes else {}
-        ending = bench.call(case, told)
+        env = {"EDGES_NAME": case.writes[-1][0]} if case.writes else {}
+        ending = bench.call(case, env)
         bench.count("as it is", "", case.words, find_faults(case, ending, expected_end(case)))
 
 

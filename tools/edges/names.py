@@ -17,7 +17,7 @@ from ended import (
     try_case,
     check_outputs,
 )
-from files import Case
+from cases import Case
 from judge import find_faults, expected_end
 
 
@@ -124,20 +124,20 @@ def try_outputs_by_link(bench: Bench) -> None:
 
 
 def try_inodes(bench: Bench) -> None:
-    """Files are told apart by all of their numbers and by their devices, and one under two names is found by
+    """Files are env apart by all of their numbers and by their devices, and one under two names is found by
     both."""
     for numbers in ("long", "devices"):
-        told = {"EDGES_INODES": numbers}
+        env = {"EDGES_INODES": numbers}
         for case in (it for it in bench.writing_cases() if it.reads or len(it.writes) > 1):
             bench.count(
                 "names",
                 f"{numbers} numbers",
                 case.words,
-                find_faults(case, bench.call(case, told), expected_end(case)),
+                find_faults(case, bench.call(case, env), expected_end(case)),
             )
         words = ["convert", "short", "hard"]
         os.link("short", "hard")
-        ended = Ended(bench, words, env=bench.environment(told))
+        ended = Ended(bench, words, env=bench.environment(env))
         found = ended.faults(8, WRITE_FAULT, fault_line("hard", IN_USE)) + compare_bytes(
             "short", files.input_files()["short"]
         )

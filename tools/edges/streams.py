@@ -24,7 +24,7 @@ from ended import (
     remove_files,
     check_outputs,
 )
-from files import Case
+from cases import Case
 
 BROKEN, NO_SPACE, NO_STREAM = "Broken pipe", "No space left on device", "Bad file descriptor"
 READ_ONCE = "a pipe or a terminal can be read once; write it to a file first"

@@ -8,6 +8,7 @@ import resource
 import shutil
 import socket
 import subprocess
+from dataclasses import replace
 from typing import Callable, Iterator
 
 import files
@@ -16,7 +17,8 @@ import streams
 from commands import read_commands
 from bench import Bench, read_content
 from ended import READ_FAULT, WRITE_FAULT, Ended, fault_line, put_file, remove_files, try_case
-from files import Case, SMALL, report_text
+from cases import Case
+from files import SMALL, report_text
 from judge import find_faults, expected_end
 from streams import DISK
 
@@ -178,8 +180,11 @@ def try_dash(bench: Bench) -> None:
             bench,
             "main",
             "-",
-            case.renamed(trace, "/dev/stdin")._replace(
-                words=(command, "-", *others), piped=trace, said=said
+            replace(
+                case.renamed(trace, "/dev/stdin"),
+                words=(command, "-", *others),
+                piped=trace,
+                said=said,
             ),
         )
     remove_files("-")
@@ -218,7 +223,7 @@ def try_files_of_that_name(bench: Bench) -> None:
         for name in case.reads + tuple(dict(case.writes)):
             if case.words[0] in FROM_INPUT and name == case.words[1]:
                 continue
-            called = case.renamed(name, "-")._replace(piped="bad")
+            called = replace(case.renamed(name, "-"), piped="bad")
             if name in case.reads:
                 shutil.copy(name, "-")
                 bench.kept = bench.stat_inputs()
@@ -230,7 +235,7 @@ def try_files_of_that_name(bench: Bench) -> None:
                     fault_line("-", "No such file or directory"),
                     called.reads[: called.reads.index("-")],
                 )
-                missing = called._replace(status=7, printed=READ_FAULT, reads=before, said=said)
+                missing = replace(called, status=7, printed=READ_FAULT, reads=before, said=said)
                 found = find_faults(
                     missing, bench.call(missing), expected_end(missing)._replace(outputs="stay")
                 )

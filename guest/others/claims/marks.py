@@ -19,8 +19,8 @@ STACKS = 0x4010000 - 128 * 65536
 
 def mark_addresses(program):
     """The addresses of the two words."""
-    told = subprocess.run(["llvm-nm", program], capture_output=True, text=True, check=True).stdout
-    symbols = {it[2]: int(it[0], 16) for it in map(str.split, told.splitlines()) if len(it) == 3}
+    text = subprocess.run(["llvm-nm", program], capture_output=True, text=True, check=True).stdout
+    symbols = {it[2]: int(it[0], 16) for it in map(str.split, text.splitlines()) if len(it) == 3}
     return symbols["call_begins"], symbols["call_ends"]
 
 
