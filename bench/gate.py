@@ -137,7 +137,8 @@ def main(names):
     with open(PAGE, "w") as file:
         file.write(text)
     print(
-        f"gate.py: {wall:.1f} minutes of wall time, {sum(seconds.values()) / 60:.1f} of the processors, for {len(took)} crates"
+        f"gate.py: {wall:.1f} minutes of wall time, {sum(seconds.values()) / 60:.1f} of the"
+        f" processors, for {len(took)} crates"
     )
     return gate.returncode
 

@@ -136,7 +136,8 @@ def measure(program: str, work: str, are_apart: bool) -> None:
     )
     print("a pc of its own for each line:" if are_apart else "any pc at any line:")
     print(
-        f"{os.path.getsize(three) / MADE:.2f} bytes an access in version 3, {os.path.getsize(two) / MADE:.2f} in version 2"
+        f"{os.path.getsize(three) / MADE:.2f} bytes an access in version 3,"
+        f" {os.path.getsize(two) / MADE:.2f} in version 2"
     )
     for name, took in least.items():
         beside = took / least["replay"], took / least["replay of version 2"]
@@ -152,7 +153,8 @@ def measure_pairs(program: str, work: str) -> None:
     took, memory = measure_call([program, "blame", write_trace(f"{work}/pairs", paired_touches())])
     missed = "" if memory <= ROOM else ": missed"
     print(
-        f"blame of {SIDE * SIDE} pairs: {took:.2f} s, {memory / 1e6:.0f} MB, at most {ROOM / 1e6:.0f}{missed}"
+        f"blame of {SIDE * SIDE} pairs: {took:.2f} s, {memory / 1e6:.0f} MB, at most"
+        f" {ROOM / 1e6:.0f}{missed}"
     )
 
 

@@ -73,7 +73,8 @@ def main():
         same = all(run[1] == report for run in runs)
         parts = min(run[0] for run in runs)
         print(
-            f"| ten parts with nine states, beside the whole of {MADE:,} accesses | {parts / whole:.2f} | 1.3 |"
+            f"| ten parts with nine states, beside the whole of {MADE:,} accesses |"
+            f" {parts / whole:.2f} | 1.3 |"
         )
         print(f"the report is {'the same' if same else 'ANOTHER ONE'}")
         settings = f"{work}/settings"
@@ -89,7 +90,8 @@ def main():
         print(f"the state has {os.path.getsize(state):,} bytes")
         sums = measure_least(["sha256sum", state])
         print(
-            f"| a state of {LINES:,} lines saved, beside sha256sum of it | {(saved - measure_least(plain)) / sums:.2f} | 4 |"
+            f"| a state of {LINES:,} lines saved, beside sha256sum of it |"
+            f" {(saved - measure_least(plain)) / sums:.2f} | 4 |"
         )
         print(f"| and taken up again | {measure_least(resumed) / sums:.2f} | 4 |")
 

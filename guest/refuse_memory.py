@@ -169,7 +169,8 @@ def try_call(words):
         else:
             went_on += 1
     print(
-        f"{' '.join(words)}: status {good[0]}, {good[3]} allocations; refused, {ended} ended with 9 and {went_on} went on"
+        f"{' '.join(words)}: status {good[0]}, {good[3]} allocations; refused, {ended} ended with 9"
+        f" and {went_on} went on"
     )
     return wrong
 

@@ -80,7 +80,10 @@ def main(words):
         return 3
     if room is None:
         print(
-            f"predator: {path}: there is no room for words of its own: guest/build.sh and guest/cc leave it in programs with a C library",
+            (
+                f"predator: {path}: there is no room for words of its own: guest/build.sh and"
+                " guest/cc leave it in programs with a C library"
+            ),
             file=sys.stderr,
         )
         return 1

@@ -201,20 +201,22 @@ def value_text(setting: Row) -> str:
 def format_parts(table: dict[str, list[Row]]) -> dict[str, str]:
     """The parts of docs/FORMATS.md, by the names of their marks."""
     keys = [
-        f"| `{setting['key']}`{setting.get('also', '')} | {value_text(setting)} | {setting['usual']}{setting.get('usually', '')} |"
+        f"| `{setting['key']}`{setting.get('also', '')} | {value_text(setting)} |"
+        f" {setting['usual']}{setting.get('usually', '')} |"
         for setting in table["setting"]
     ]
     statuses = [
-        f"| {exit_status['number']} | {plain_text(exit_status['comes'])} | {plain_text(exit_status['printed'])} |"
+        f"| {exit_status['number']} | {plain_text(exit_status['comes'])} |"
+        f" {plain_text(exit_status['printed'])} |"
         for exit_status in table["status"]
     ]
     return {
         "usage": "".join(f"    predator {it['name']} {it['usage']}\n" for it in table["command"]),
         "settings": "\n".join(["| Key | Values | Usual |", "|---|---|---|", *keys]) + "\n",
-        "statuses": "\n".join(
-            ["| Exit status | Comes where | Printed |", "|---|---|---|", *statuses]
-        )
-        + "\n",
+        "statuses": (
+            "\n".join(["| Exit status | Comes where | Printed |", "|---|---|---|", *statuses])
+            + "\n"
+        ),
     }
 
 
@@ -269,7 +271,10 @@ def launcher_parts(table: dict[str, list[Row]]) -> dict[str, str]:
     readers = " ".join(it["name"] for it in table["command"] if "TRACE" in it.get("reads", ()))
     keys = " ".join(it["key"] for it in table["setting"])
     return {
-        "words": f"declare -gA names_before=({counts})\nwritten_options=({outputs})\nbare_options=({' '.join(flag_names(table))})\n",
+        "words": (
+            "declare -gA"
+            f" names_before=({counts})\nwritten_options=({outputs})\nbare_options=({' '.join(flag_names(table))})\n"
+        ),
         "hints": f'trace_readers="{readers}"\nsetting_keys=({keys})\n',
     }
 
@@ -304,9 +309,12 @@ def view_parts(table: dict[str, list[Row]]) -> dict[str, str]:
     return {
         "usual": "USUAL = {\n" + "\n".join(f"    {it}" for it in lines) + ",\n}\n",
         "keys": f"KEYS = ({keys})\n",
-        "options": f"ASKED = ({', '.join(map(quote, asked))})\nWRITTEN = ({', '.join(map(quote, written))})\n"
-        + f"BARE = ({', '.join(map(quote, bare))},)\n"
-        + f"OPTIONS = {{\n{own}}}\n",
+        "options": (
+            f"ASKED = ({', '.join(map(quote, asked))})\nWRITTEN ="
+            f" ({', '.join(map(quote, written))})\n"
+            + f"BARE = ({', '.join(map(quote, bare))},)\n"
+            + f"OPTIONS = {{\n{own}}}\n"
+        ),
     }
 
 
@@ -406,7 +414,10 @@ def check_settings(program: str, table: dict[str, list[Row]]) -> Iterator[str]:
             ]
             ran = subprocess.run(words, capture_output=True, text=True, stdin=subprocess.DEVNULL)
             if (ran.stdout != f"predator: settings OutOfRange {setting['key']}\n") != is_allowed:
-                yield f"commands.toml: the program {'refuses' if is_allowed else 'takes'} {setting['key']} = {value}"
+                yield (
+                    "commands.toml: the program"
+                    f" {'refuses' if is_allowed else 'takes'} {setting['key']} = {value}"
+                )
 
 
 def check_pages(table: dict[str, list[Row]]) -> Iterator[str]:
@@ -521,7 +532,8 @@ def main(words: list[str]) -> int:
     print(*wrong, sep="\n", end="\n" if wrong else "")
     also = "" if program else ", and without the program's ranges, since it isn't built"
     print(
-        f"commands: {len(PLACES)} places and {len(table['command'])} commands, {len(wrong)} differences{also}"
+        f"commands: {len(PLACES)} places and {len(table['command'])} commands,"
+        f" {len(wrong)} differences{also}"
     )
     return 1 if wrong else 0
 

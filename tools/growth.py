@@ -41,11 +41,17 @@ from traces import add_pcs
 MOST = 6.0
 # The cases of which it is known that they grow as a square, and why.
 KNOWN = {
-    "blocks dead before": "a listed line looks at each block that lay over it, and only then at when it lived",
-    "lines turned round": "a table is read by putting each place among those before it, and it has at most 1 MiB",
+    "blocks dead before": (
+        "a listed line looks at each block that lay over it, and only then at when it lived"
+    ),
+    "lines turned round": (
+        "a table is read by putting each place among those before it, and it has at most 1 MiB"
+    ),
     "guest: noted blocks, more and wider": "the call `block` looks at each page of its bytes",
     "program file: segments": "each header is compared with all behind it",
-    "program file: names in one": "each name is looked through to its end, however much of it is kept",
+    "program file: names in one": (
+        "each name is looked through to its end, however much of it is kept"
+    ),
 }
 # A call may take so many seconds of a processor.
 LONGEST = 40
@@ -353,7 +359,10 @@ def missing_lines(text: str, begins: list[tuple[str, int]]) -> str:
     for begin, wanted in begins:
         number = sum(it == begin or it.startswith(begin + " ") for it in found)
         if number != wanted and not number >= -wanted > 0:
-            return f"{number} lines begin with '{begin[:60]}', and not {abs(wanted)}{' or more' if wanted < 0 else ''}"
+            return (
+                f"{number} lines begin with '{begin[:60]}', and not"
+                f" {abs(wanted)}{' or more' if wanted < 0 else ''}"
+            )
     return ""
 
 
@@ -453,7 +462,10 @@ class Row(NamedTuple):
             return f"{what}: {self.fault}"
         if self.greater is None:
             return f"{what}: {self.lesser / by:.2f} {unit}, and then more than {LONGEST} s"
-        return f"{what}: {self.lesser / by:.2f} and {self.greater / by:.2f} {unit}, {self.growth():.1f} times"
+        return (
+            f"{what}: {self.lesser / by:.2f} and {self.greater / by:.2f} {unit},"
+            f" {self.growth():.1f} times"
+        )
 
 
 class Measures:
@@ -506,7 +518,10 @@ class Measures:
         if greater.cost is None:
             return row
         if greater.cost - nothing.cost < self.way.least:
-            fault = f"it does too little to tell: {greater.cost - nothing.cost:g} beyond {nothing.cost:g} of next to nothing"
+            fault = (
+                f"it does too little to tell: {greater.cost - nothing.cost:g} beyond"
+                f" {nothing.cost:g} of next to nothing"
+            )
         return row._replace(greater=greater.cost - nothing.cost, fault=fault)
 
 
@@ -548,8 +563,8 @@ def main() -> int:
             print(row.cost_text(way.unit), flush=True)
     faults, known, named = judge_rows(rows)
     print(
-        f"{len(rows)} calls, by {way.name}: {len(faults)} have a fault, {len(known)} are known to grow, and "
-        f"{len(named)} more grew by more than {MOST:g} where the size grew by 4"
+        f"{len(rows)} calls, by {way.name}: {len(faults)} have a fault, {len(known)} are known to"
+        f" grow, and {len(named)} more grew by more than {MOST:g} where the size grew by 4"
     )
     for row in known:
         print(f"known: {row.cost_text(way.unit)}: {KNOWN[row.case]}")

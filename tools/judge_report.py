@@ -201,7 +201,10 @@ def object_rows(line, symbols, blocks, end, name_of):
             and entry.addr < line.base + line.size
             and line.base < entry.addr + entry.size
         ):
-            yield f"object symbol {printable_name(entry.name)} {address_text(entry.addr)} {entry.size}"
+            yield (
+                "object symbol"
+                f" {printable_name(entry.name)} {address_text(entry.addr)} {entry.size}"
+            )
     for owner, born, died in blocks:
         meets = (
             owner.size > 0
@@ -209,7 +212,10 @@ def object_rows(line, symbols, blocks, end, name_of):
             and line.base < owner.addr + owner.size
         )
         if meets and max(born, line.start) < (end if died is None else min(died, end)):
-            yield f"object block {address_text(owner.addr)} {owner.size} born {born} {'live' if died is None else f'died {died}'}"
+            yield (
+                f"object block {address_text(owner.addr)} {owner.size} born"
+                f" {born} {'live' if died is None else f'died {died}'}"
+            )
             yield from (
                 f"site {address_text(site)} {name_of(site)}" for site in owner.sites if site
             )
@@ -239,7 +245,10 @@ def report_text(case):
     name_of = site_names(symbols)
     for count, row in rows:
         words = word_uses(case.accesses, *row[1:])
-        yield f"line {KINDS[row.kind]} {address_text(row.base)} {row.size} start {row.start} count {count} verdict {verdict(words)}"
+        yield (
+            f"line {KINDS[row.kind]} {address_text(row.base)} {row.size} start {row.start} count"
+            f" {count} verdict {verdict(words)}"
+        )
         yield from object_rows(row, symbols, blocks, len(case.accesses), name_of)
         for at, word in words.items():
             owner = "many" if len(word.harts) > 1 else f"hart {min(word.harts)}"
@@ -283,8 +292,8 @@ def random_accesses(dice, harts, base, span, native):
         dice.choice((0.2, 0.5, 0.8, 1)),
     )
     for _ in range(dice.choice((0, 1, 5, 20, 60, 120, 250))):
-        at, size = dice.choice(hot) if dice.random() < 0.9 else 4 * dice.randrange(
-            span // 4
+        at, size = (
+            dice.choice(hot) if dice.random() < 0.9 else 4 * dice.randrange(span // 4)
         ), dice.choice((1, 2, 4, 4))
         hart = own[at] if at in own and keeps and dice.random() < 0.9 else dice.randrange(harts)
         yield Access(hart, dice.random() < share, base + at + dice.randrange(0, 4, size), size)
@@ -376,7 +385,8 @@ def main(program, count=1000, seed=1):
                 file.write(trace_bytes(case))
             with open(f"{folder}/settings", "w", encoding="utf-8") as file:
                 file.write(
-                    f"tracking = {case.tracking}\nprediction = {case.prediction}\nreport = {case.report}\nline = {case.native}\n"
+                    f"tracking = {case.tracking}\nprediction = {case.prediction}\nreport ="
+                    f" {case.report}\nline = {case.native}\n"
                 )
             words = (
                 ["--size", str(case.layout[0]), "--shift", str(case.layout[1])]

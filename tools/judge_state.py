@@ -3,8 +3,9 @@
 program.
 
 usage: tools/judge_state.py STATE                      prints `good`, or the place of the first unit at fault
-       tools/judge_state.py STATE PROGRAM TRACE WORDS  changes and cuts the state in many ways, replays TRACE from each by PROGRAM
-                                                       with WORDS (settings, a layout), and reports where it says another thing"""
+       tools/judge_state.py STATE PROGRAM TRACE WORDS
+           changes and cuts the state in many ways, replays TRACE from each by PROGRAM with WORDS (settings, a
+           layout), and reports where it prints another result"""
 import os
 import struct
 import subprocess

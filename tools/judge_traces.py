@@ -163,7 +163,8 @@ def write_case(folder, case):
     settings = os.path.join(folder, "settings")
     with open(settings, "w", encoding="utf-8") as file:
         file.write(
-            f"tracking = {case.tracking}\nprediction = {case.prediction}\nreport = {case.report}\nline = {case.native}\n"
+            f"tracking = {case.tracking}\nprediction = {case.prediction}\nreport ="
+            f" {case.report}\nline = {case.native}\n"
         )
     return [
         "--settings",

@@ -22,7 +22,8 @@ WIDTH, LENGTH = 100, 600
 # What these hold is found by its place.
 ANSWERS = ("Answers.antt", "Invariants.antt", "Proof.antt", "Lib.antt")
 ITEM = re.compile(
-    r"^( *)(?:pub )?(?:(?:abbrev|unfoldable|data|record|ruleset|axiom) (?:pub )?)*(?:pub )?([^\s(){}\[\]:,;]+)\s*(?=[:({])"
+    r"^( *)(?:pub )?(?:(?:abbrev|unfoldable|data|record|ruleset|axiom) (?:pub )?)*(?:pub"
+    r" )?([^\s(){}\[\]:,;]+)\s*(?=[:({])"
 )
 # Words that begin a line and no item.
 NOT_ITEMS = {

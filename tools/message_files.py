@@ -24,6 +24,11 @@ NO_PCS = (
 AGAIN = "the file is damaged or cut off; link it again"
 SCRIPT = "guest/link.ld is a linker script that works"
 ENTRY = "the entry is the address of an instruction; guest/start.S has one"
+# The message of a table that moves an access onto another one.
+OCCUPIED = (
+    "t: an access at this address isn't moved, and others would be moved to where it is: "
+    "give them another place, or give this address a line of its own"
+)
 
 
 def trace(records: bytes, accesses: int, first: int = 0, harts: int = 8) -> bytes:
@@ -99,8 +104,10 @@ PROGRAMS = {
     "flags.elf": (
         patch_program(36, "<I", 1),
         "BadFlags",
-        "it has compressed instructions, floating-point registers or RV32E's registers: "
-        "compile for little-endian RV32, with -march=rv32ima -mabi=ilp32",
+        (
+            "it has compressed instructions, floating-point registers or RV32E's registers: "
+            "compile for little-endian RV32, with -march=rv32ima -mabi=ilp32"
+        ),
     ),
     "headers.elf": (
         patch_program(42, "<H", 31),
@@ -131,8 +138,10 @@ PROGRAMS = {
     "high.elf": (
         patch_program(SECOND + 8, "<I", 1 << 31),
         "SegmentOutsideMemory",
-        "its segments, the stacks and a heap have no room in the "
-        "memory: set more `memory`, fewer `harts` or less `stack` in the settings",
+        (
+            "its segments, the stacks and a heap have no room in the "
+            "memory: set more `memory`, fewer `harts` or less `stack` in the settings"
+        ),
     ),
     "odd.elf": (
         patch_program(24, "<I", CODE + 2),
@@ -203,8 +212,10 @@ SCHEDULES = {
     "hart": (
         b"8 1\n",
         "HartOutOfRange 1",
-        "line 1 names a hart that there isn't: harts are numbered from 0 on, and `harts` in the "
-        "settings says how many, usually 8",
+        (
+            "line 1 names a hart that there isn't: harts are numbered from 0 on, and `harts` in the"
+            " settings says how many, usually 8"
+        ),
     ),
     "zero": (
         b"0 1\n0 0\n",
@@ -214,8 +225,9 @@ SCHEDULES = {
     "lines": (b"0 1\n" * ((1 << 18) + 1), "TooLong", "a schedule has at most 1 MiB"),
 }
 FORM = (
-    "isn't FROM SIZE TO, as `0x11004 4 0x11040`, with one space between each two: multiples of 4, SIZE at least 4, FROM + SIZE "
-    "and TO + SIZE at most 2^32, and FROM at or above the end of the range before it"
+    "isn't FROM SIZE TO, as `0x11004 4 0x11040`, with one space between each two: multiples of 4,"
+    " SIZE at least 4, FROM + SIZE and TO + SIZE at most 2^32, and FROM at or above the end of the"
+    " range before it"
 )
 TABLES = {
     "odd.moves": (b"\n0 6 8\n", "BadLine 2", f"line 2 {FORM}"),
@@ -223,8 +235,10 @@ TABLES = {
     "meet.moves": (
         b"0 8 64\n8 4 68\n",
         "Overlap 2",
-        "the place that line 2 moves to and that of an earlier line have bytes in common: "
-        "move it elsewhere",
+        (
+            "the place that line 2 moves to and that of an earlier line have bytes in common: "
+            "move it elsewhere"
+        ),
     ),
     "long.moves": (b"\n" * ((1 << 20) + 1), "TooLong", "a table has at most 1 MiB"),
 }
@@ -319,10 +333,13 @@ def list_faults() -> Iterator[Fault]:
         "t",
         "way",
         "a",
-    ], 14, "table Occupied 0x00001004", "t: an access at this address isn't moved, and others would be moved to where it is: give them another place, or give this " "address a line of its own"
+    ], 14, "table Occupied 0x00001004", OCCUPIED
     for name in ("t", "second"):
         yield ["blame", name], 5, "trace NoPcs", f"{name}: {NO_PCS}"
-    none = "no object symbol of the trace has this name, nor was exactly one block made at that address"
+    none = (
+        "no object symbol of the trace has this name, nor was exactly one block made at that"
+        " address"
+    )
     yield ["place", "t", "none"], 13, "place NoObject", none
     yield [
         "place",

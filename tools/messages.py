@@ -247,8 +247,9 @@ def number_message(name: str, at: str, value: int) -> str:
     if name == "explain":
         words = " ".join(str(value) if it == at else USUAL[it] for it in ("BASE", "SIZE", "START"))
         return (
-            f"'{words}' is no line and start: BASE is a multiple of {number_options('BASE', name)['step']} below {power('BASE', name)}, "
-            f"SIZE {range_text('SIZE', name)}, START a number below {power('START', name)}"
+            f"'{words}' is no line and start: BASE is a multiple of"
+            f" {number_options('BASE', name)['step']} below {power('BASE', name)}, SIZE"
+            f" {range_text('SIZE', name)}, START a number below {power('START', name)}"
         )
     if name == "sweep":
         return f"'--size {value}' is no size to sweep: it is {range_text('--size', name)}"
@@ -256,18 +257,27 @@ def number_message(name: str, at: str, value: int) -> str:
         return f"'--size {value}' is no size of a line: it is {range_text('--size', name)}"
     if name == "caches":
         given = dict(zip(WANTED[name][::2], WANTED[name][1::2])) | {at: str(value)}
-        return f"'{' '.join(f'{it} {word}' for it, word in given.items())}' is no shape of caches: {shapes()}"
+        return (
+            f"'{' '.join(f'{it} {word}' for it, word in given.items())}' is no shape of caches:"
+            f" {shapes()}"
+        )
     size, shift = (value, 0) if at == "--size" else (64, value)
     return f"'--size {size} --shift {shift}' is no layout: {layouts(name)}"
 
 
 def shapes() -> str:
     sets = range_text("--sets", "caches").removeprefix("a power of two ")
-    return f"--size is {range_text('--size', 'caches')}, --sets one {sets}, --ways {range_text('--ways', 'caches')}, and sets times ways at most 4096"
+    return (
+        f"--size is {range_text('--size', 'caches')}, --sets one {sets}, --ways"
+        f" {range_text('--ways', 'caches')}, and sets times ways at most 4096"
+    )
 
 
 def layouts(name: str) -> str:
-    return f"--size is {range_text('--size', name)}, --shift a multiple of {number_options('--shift', name)['step']} below the size"
+    return (
+        f"--size is {range_text('--size', name)}, --shift a multiple of"
+        f" {number_options('--shift', name)['step']} below the size"
+    )
 
 
 def boundary_numbers(row: Row) -> Iterator[tuple[int, bool]]:
@@ -483,7 +493,10 @@ def find_fault(program: str, attempt: Try) -> str:
     wanted = attempt.status, text, f"predator: {attempt.said}\n" if attempt.said else ""
     if (ran.returncode, printed, said) == wanted:
         return ""
-    return f"it ended with {ran.returncode}, printed {printed[:80]!r}, said {said!r}; wanted are {attempt.status}, {text[:80]!r}, {wanted[2]!r}"
+    return (
+        f"it ended with {ran.returncode}, printed {printed[:80]!r}, said {said!r}; wanted are"
+        f" {attempt.status}, {text[:80]!r}, {wanted[2]!r}"
+    )
 
 
 def find_failures(program: str, tries: Iterable[Try]) -> Iterator[str]:

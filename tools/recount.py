@@ -40,7 +40,9 @@ def main(words):
     with open(words[0], "rb") as file:
         for base, start, count in recount_lines(file.read(), *numbers):
             print(
-                f"line observed {'-' if base < 0 else ''}0x{abs(base):08x} {(numbers + [64])[0]} start {start} count {count}"
+                "line observed"
+                f" {'-' if base < 0 else ''}0x{abs(base):08x} {(numbers + [64])[0]} start"
+                f" {start} count {count}"
             )
     return 0
 

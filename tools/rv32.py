@@ -6,7 +6,10 @@ from contextlib import contextmanager
 from typing import Iterator, NamedTuple
 
 CODE = 0x10000
-REGISTERS = "zero ra sp gp tp t0 t1 t2 s0 s1 a0 a1 a2 a3 a4 a5 a6 a7 s2 s3 s4 s5 s6 s7 s8 s9 s10 s11 t3 t4 t5 t6".split()
+REGISTERS = (
+    "zero ra sp gp tp t0 t1 t2 s0 s1 a0 a1 a2 a3 a4 a5 a6 a7 "
+    "s2 s3 s4 s5 s6 s7 s8 s9 s10 s11 t3 t4 t5 t6"
+).split()
 NUMBERS = {name: number for number, name in enumerate(REGISTERS)}
 # What of an R instruction its register fields leave: funct7 << 25 | funct3 << 12.
 OPERATIONS = {"add": 0, "sub": 1 << 30, "mul": 1 << 25, "and": 7 << 12, "srl": 5 << 12}

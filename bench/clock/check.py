@@ -111,7 +111,10 @@ def check_page(study: Study) -> Iterator[str]:
     yield from compare(
         "names", [a.meets(b) for at, a in enumerate(boxes) for b in boxes[:at]], [False] * 3
     )
-    title = "With the most false-sharing misses, padding made the middle program 6.50 times as fast, and 1.00 times with the fewest (one)"
+    title = (
+        "With the most false-sharing misses, padding made the middle program 6.50 times as fast,"
+        " and 1.00 times with the fewest (one)"
+    )
     yield from compare("the title", page_title({"one": study}), title)
     text = page({"one": study, "<other>": study})
     if text is not None:
@@ -124,7 +127,9 @@ def check_page(study: Study) -> Iterator[str]:
         ]
         yield from compare("the texts of the points", texts, [True] * 5)
         cells = re.findall(
-            r"<code>(\w+)</code></td><td[^>]*>\w+</td><td[^>]*>2</td><td[^>]*>(.*?)</td><td[^>]*>(\S+) \(",
+            (
+                r"<code>(\w+)</code></td><td[^>]*>\w+</td><td[^>]*>2</td><td[^>]*>(.*?)</td><td[^>]*>(\S+) \("
+            ),
             text,
         )
         wanted = [
@@ -180,9 +185,15 @@ def check_pair(pair: Sequence[Built]) -> Iterator[str]:
             and program.name != "bytes"
             and not counts[1].false_sharing < counts[0].false_sharing
         ):
-            yield f"{program.name}: {counts[0].false_sharing} false-sharing misses unpadded, and {counts[1].false_sharing} padded"
+            yield (
+                f"{program.name}: {counts[0].false_sharing} false-sharing misses unpadded, and"
+                f" {counts[1].false_sharing} padded"
+            )
         if program.kind in ("true", "none") and counts[0].false_sharing > counts[0].steps / 1000:
-            yield f"{program.name}: {counts[0].false_sharing} false-sharing misses, and it should have none"
+            yield (
+                f"{program.name}: {counts[0].false_sharing} false-sharing misses, and it should"
+                " have none"
+            )
     if len(results) > 1:
         yield f"{program.name} computes {sorted(results)}"
 

@@ -1,6 +1,7 @@
 """Numbers of measured pairs: slowdowns beside counts, rank correlations, bands, and whether a bound
 held. Nothing is measured here."""
 
+import functools
 from statistics import median
 from typing import Callable, NamedTuple, Sequence
 
@@ -123,14 +124,21 @@ def band_summary(rows: Sequence[Row]) -> list[list[Cell]]:
     return made
 
 
-# The numbers that are held against the slowdown: what they are called, and what they are of a row.
+def false_sharing_rate(row: Row, quantum: int) -> float | None:
+    return row.rate(quantum)
+
+
+# The numbers that are correlated with the slowdown, by their names, each as a function of a row.
 def numbers() -> dict[str, Callable[[Row], float | None]]:
     found: dict[str, Callable[[Row], float | None]] = {}
     for quantum in QUANTA:
-        found[f"false-sharing misses per 1,000 steps, quantum {quantum}"] = lambda row, quantum=quantum: row.rate(quantum)  # type: ignore[misc]
+        name = f"false-sharing misses per 1,000 steps, quantum {quantum}"
+        found[name] = functools.partial(false_sharing_rate, quantum=quantum)
     found["false-sharing misses less those of the padded form, quantum 100"] = miss_difference
     found["true-sharing and false-sharing misses per 1,000 steps, quantum 100"] = total_misses
-    found["true-sharing and false-sharing misses less those of the padded form, quantum 100"] = saved_time
+    found[
+        "true-sharing and false-sharing misses less those of the padded form, quantum 100"
+    ] = saved_time
     found["the report's invalidations per 1,000 steps, quantum 100"] = invalidation_rate
     found["recorded here: false-sharing misses per 1,000 accesses, quantum 100"] = recorded_rate
     return found
@@ -149,7 +157,9 @@ def total_misses(row: Row) -> float | None:
 def saved_time(row: Row) -> float | None:
     own, padded = (row.counts.get((form, USUAL)) for form in FORMS)
     return (
-        1000 * (own.false_sharing + own.true_sharing - padded.false_sharing - padded.true_sharing) / own.steps
+        1000
+        * (own.false_sharing + own.true_sharing - padded.false_sharing - padded.true_sharing)
+        / own.steps
         if own and padded
         else None
     )
@@ -204,20 +214,21 @@ def bound_sentences(rows: Sequence[Row], latency: float, step: float) -> list[st
             much.append(bound / row.saved())
     if held or above:
         sentences.append(
-            f"False-sharing misses under quantum 1 times {latency:.0f} ns, over all threads, were at least what padding saved in {held} of "
-            f"{held + len(above)} cases" + (f", not in {', '.join(above)}." if above else ".")
+            f"False-sharing misses under quantum 1 times {latency:.0f} ns, over all threads, were"
+            f" at least what padding saved in {held} of {held + len(above)} cases"
+            + (f", not in {', '.join(above)}." if above else ".")
         )
     if much:
         sentences.append(
-            f"Where padding saved a twentieth or more, the bound was {min(much):.1f} to {max(much):.1f} times what it saved, "
-            f"in the middle {median(much):.1f} times."
+            f"Where padding saved a twentieth or more, the bound was {min(much):.1f} to"
+            f" {max(much):.1f} times what it saved, in the middle {median(much):.1f} times."
         )
     shares = [(row, row.at_most(latency, step)) for row in rows]
     over = [
         row.program.name for row, most in shares if most is not None and row.share() > most + 0.02
     ]
     sentences.append(
-        f"As a part of the time, with {step:g} ns for a step, it was passed by more than 2 percent in {len(over)} cases"
-        + (f": {', '.join(over)}." if over else ".")
+        f"As a part of the time, with {step:g} ns for a step, it was passed by more than 2 percent"
+        f" in {len(over)} cases" + (f": {', '.join(over)}." if over else ".")
     )
     return sentences

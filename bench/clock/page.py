@@ -154,7 +154,10 @@ def picture(rows: Sequence[Row], along: Scale, up: Scale) -> Given:
 def point_text(row: Row) -> str:
     low, high = row.range()
     how = f"slowdown {number_text(row.slowdown())} ({low:.2f} to {high:.2f})"
-    return f"{row.program.name}, {row.threads} threads: {how}, {number_text(row.rate())} false-sharing misses per 1,000 steps; {row.program.text}"
+    return (
+        f"{row.program.name}, {row.threads} threads: {how}, {number_text(row.rate())} false-sharing"
+        f" misses per 1,000 steps; {row.program.text}"
+    )
 
 
 def page_title(studies: Mapping[str, Study]) -> str:
@@ -204,7 +207,8 @@ def page_rows(studies: Mapping[str, Study]) -> list[Given]:
             row = own.get(name)
             low, high = row.range() if row else (0.0, 0.0)
             slowdown = (
-                f"{number_text(row.slowdown())} ({low:.2f} to {high:.2f}{'' if row.is_quiet() else '; disturbed'})"
+                f"{number_text(row.slowdown())} ({low:.2f} to"
+                f" {high:.2f}{'' if row.is_quiet() else '; disturbed'})"
                 if row
                 else "-"
             )

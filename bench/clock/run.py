@@ -101,7 +101,8 @@ class Call:
         self.out, self.again, self.counted = given["--out"], given["--again"], given["--counted"]
         if not self.threads or any(it % 2 for it in self.threads) or self.runs < 1:
             raise Trouble(
-                "--threads are even numbers, none above that of the processors, and --runs is 1 or more"
+                "--threads are even numbers, none above that of the processors, and --runs is 1 or"
+                " more"
             )
 
 
@@ -115,7 +116,10 @@ def describe_machine(call: Call) -> dict[str, str]:
         models = [it.partition(": ")[2].strip() for it in text if it.startswith("model name")]
     return {
         "date": time.strftime("%Y-%m-%d %H:%M"),
-        "processor": f"{models[0] if models else os.uname().machine}, of which {','.join(map(str, call.cpus))} were used",
+        "processor": (
+            f"{models[0] if models else os.uname().machine}, of which"
+            f" {','.join(map(str, call.cpus))} were used"
+        ),
         "system": f"{os.uname().sysname} {os.uname().release}",
         "compiler": run_command(["gcc", "--version"]).splitlines()[0],
         "runs": f"{call.runs} of each form, padded to {call.line} bytes",
@@ -232,7 +236,8 @@ def write_study(study: Study, out: str) -> None:
     for name, own in made.items():
         if own is None:
             warn(
-                f"{name} wants python3-jinja2: apt-get install python3-jinja2, and then --again {out}"
+                f"{name} wants python3-jinja2: apt-get install python3-jinja2, and then --again"
+                f" {out}"
             )
         else:
             store_text(own, out, name)
@@ -246,7 +251,8 @@ def make_study(call: Call) -> Study:
     guests = not call.counted and can_run()
     if not guests and not call.counted:
         warn(
-            "bin/predator has no program for these sources (PREDATOR_PROGRAM names one), so nothing is counted"
+            "bin/predator has no program for these sources (PREDATOR_PROGRAM names one), so nothing"
+            " is counted"
         )
     with tempfile.TemporaryDirectory() as folder:
         warn(f"building {len(chosen)} pairs for {' and '.join(map(str, call.threads))} threads")
@@ -270,9 +276,10 @@ def make_study(call: Call) -> Study:
         )
         rows = measure_pairs(call, built)
         machine = describe_machine(call)
-        machine[
-            "timing"
-        ] = f"{time.monotonic() - began:.0f} s, in which the host kept the processors for others for {read_steal_seconds() - before:.1f} s"
+        machine["timing"] = (
+            f"{time.monotonic() - began:.0f} s, in which the host kept the processors for others"
+            f" for {read_steal_seconds() - before:.1f} s"
+        )
         put_counts(counted, built, rows)
     return Study(machine, lines, call.step, rows)
 

@@ -93,7 +93,10 @@ def count_key(counted: Built) -> str:
     for name in (counted.program.source, os.path.join(HERE, "clock.h")):
         with open(name, "rb") as file:
             made.update(file.read())
-    return f"{counted.program.name} with {counted.threads} threads, lines of {counted.line} bytes, {made.hexdigest()[:12]}"
+    return (
+        f"{counted.program.name} with {counted.threads} threads, lines of {counted.line} bytes,"
+        f" {made.hexdigest()[:12]}"
+    )
 
 
 def counts_json(counted: Counted) -> str:
@@ -197,11 +200,13 @@ def exceptional_rows(study: Study) -> list[str]:
         rate, name = own.rate(), f"{own.program.name} with {own.threads} threads"
         if rate is not None and rate < EDGES[1] and own.range()[0] > 1.2:
             rows.append(
-                f"{name}: {rate:.2f} false-sharing misses per 1,000 steps, and a slowdown of {own.slowdown():.2f}"
+                f"{name}: {rate:.2f} false-sharing misses per 1,000 steps, and a slowdown of"
+                f" {own.slowdown():.2f}"
             )
         if rate is not None and rate >= EDGES[3] and own.range()[0] < 1.1:
             rows.append(
-                f"{name}: {rate:.2f} false-sharing misses per 1,000 steps, and a slowdown of {own.slowdown():.2f} alone"
+                f"{name}: {rate:.2f} false-sharing misses per 1,000 steps, and a slowdown of"
+                f" {own.slowdown():.2f} alone"
             )
         if own.range()[1] < 0.97:
             rows.append(f"{name}: padding made it slower, {1 / own.slowdown():.2f} times")
@@ -210,10 +215,14 @@ def exceptional_rows(study: Study) -> list[str]:
 
 def study_markdown(study: Study) -> str:
     """The whole text."""
-    quiet = f"{len(study.quiet_rows())} of {len(study.rows)} rows are of runs that nothing disturbed; the bands and ranks are of these."
+    quiet = (
+        f"{len(study.quiet_rows())} of {len(study.rows)} rows are of runs that nothing disturbed;"
+        " the bands and ranks are of these."
+    )
     steps = sorted(it for row in study.quiet_rows() for it in [row.step()] if it is not None)
     middle = (
-        f"A step of the padded forms without handovers took {steps[0]:.2f} to {steps[-1]:.2f} ns, in the middle "
+        f"A step of the padded forms without handovers took {steps[0]:.2f} to {steps[-1]:.2f} ns,"
+        " in the middle "
         if steps
         else ""
     )

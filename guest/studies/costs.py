@@ -94,7 +94,8 @@ class Build:
         self.count = int(re.search(r"^line .* count (\d+)$", text, re.MULTILINE)[1])
         if self.line and self.count != self.line.count:
             self.wrong.append(
-                f"{self.path}: the report counts {self.line.count} of {address_text(self.base)}, and explain {self.count}"
+                f"{self.path}: the report counts {self.line.count} of {address_text(self.base)},"
+                f" and explain {self.count}"
             )
         found = re.search(r"^pair (\S+) (\S+) taken (\d+) same (\d+)$", text, re.MULTILINE)
         if found is None:
@@ -110,7 +111,11 @@ class MissLine:
     def __init__(self, text):
         self.texts = [it for it in text.splitlines() if it.split()[0] in ("line", "object", "site")]
         words = self.texts[0].split()
-        self.base, self.true_sharing, self.false_sharing = int(words[1], 16), int(words[5]), int(words[7])
+        self.base, self.true_sharing, self.false_sharing = (
+            int(words[1], 16),
+            int(words[5]),
+            int(words[7]),
+        )
 
 
 def main(words):

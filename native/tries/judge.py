@@ -1,18 +1,24 @@
 #!/usr/bin/env python3
-"""What the tries of native/ ask of a trace of version 1 or 3, read by the formats' description alone.
+"""The answers to what the tries of native/ ask of a trace of version 1 or 3. It judges: it reads the bytes by
+docs/FORMATS.md alone, and shares no code with the program, with view/ and with tools/.
 
-    judge.py end TRACE            the end of a trace that is whole: `exit CODE` or `part`
+    judge.py end TRACE            the end of a complete trace: `exit CODE` or `part`
     judge.py accesses TRACE       the number of accesses
-    judge.py taken TRACE NAME     how many writes to the line of 64 bytes at a symbol found it in the cache of another hart
-    judge.py word TRACE NAME AT   `READS WRITES HARTS` of the word of 4 bytes, AT bytes behind a symbol; an access counts once
-    judge.py place TRACE NAME     where a symbol lies in the trace
-    judge.py blocks TRACE NAME    the sizes of the blocks that were made by a call that a function of this name made, each with
-                                  `live` or `freed`
+    judge.py taken TRACE NAME     how many writes to the 64-byte line at a symbol found it in the cache of
+                                  another hart
+    judge.py word TRACE NAME AT   `READS WRITES HARTS` of the 4-byte word AT bytes after a symbol; an access
+                                  counts once
+    judge.py place TRACE NAME     the address of a symbol in the trace
+    judge.py blocks TRACE NAME    the sizes of the blocks whose allocation a function of this name called,
+                                  each with `live` or `freed`
     judge.py turns TRACE          the longest turn of a hart while another one has accesses before and after
-    judge.py alike TRACE OTHER    `alike` where a trace of version 3 without its instructions has the records of one of version 1
-    judge.py sites TRACE NAME AT  which instructions touch the word, by the table back: of each its rows in TRACE.table as
-                                  `FUNCTION LINE`, and behind it the frames that are inlined there, the innermost first
-    judge.py untold TRACE         how many distinct instructions have not exactly one row of their own in TRACE.table
+    judge.py alike TRACE OTHER    `alike` where a trace of version 3 has, without its instructions, the
+                                  records of one of version 1
+    judge.py sites TRACE NAME AT  which instructions access the word, by the address map: for each its rows
+                                  in TRACE.table as `FUNCTION LINE`, then the frames that are inlined
+                                  there, the innermost first
+    judge.py untold TRACE         how many distinct instructions have not exactly one row of their own in
+                                  TRACE.table
     judge.py each TRACE           bytes for each access, times 100
 """
 

@@ -201,8 +201,8 @@ def unfinished_cases() -> list[Case]:
     cut = f"cut: it ends after {CUT_AT} bytes, before the trace does: write or copy it again"
     first = trace_header() + access_records(move_accesses(with_late_access(MADE)[:-10]))
     taken = (
-        "late: an access at this address isn't moved, and others would be moved to where it is: give them another place, or give "
-        "this address a line of its own"
+        "late: an access at this address isn't moved, and others would be moved to where it is:"
+        " give them another place, or give this address a line of its own"
     )
     return [
         Case(
@@ -289,7 +289,10 @@ def refused_cases() -> list[Case]:
     outputs = ("--trace", "t", "--output", "o")
     both, state = (("t", b""), ("o", b"")), (("s", b""),)
     cut = "it ends after 10 bytes, before the trace does: write or copy it again"
-    none = "no object symbol of the trace has this name, nor was exactly one block made at that address"
+    none = (
+        "no object symbol of the trace has this name, nor was exactly one block made at that"
+        " address"
+    )
     rows = [
         (
             ("gen", "03", "f"),
@@ -376,9 +379,11 @@ def refused_cases() -> list[Case]:
     ]
     made_of = [Case(*row[:5], said=f"predator: {row[5]}\n".encode()) for row in rows]
     return [
-        replace(case, again=case.reads[0])
-        if case.words[0] in ("split", "convert", "place")
-        else case
+        (
+            replace(case, again=case.reads[0])
+            if case.words[0] in ("split", "convert", "place")
+            else case
+        )
         for case in made_of
     ]
 

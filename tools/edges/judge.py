@@ -83,7 +83,8 @@ def find_faults(case: Case, ending: Ending, wanted: Wanted) -> list[Fault]:
     )
     if not is_right:
         found.append(
-            f"it printed {ending.printed[:60]!r}.., {len(ending.printed)} bytes, and wanted are {wanted.printed[:60]!r}.."
+            f"it printed {ending.printed[:60]!r}.., {len(ending.printed)} bytes, and wanted are"
+            f" {wanted.printed[:60]!r}.."
         )
     if not has_right_message(case, ending, wanted):
         found.append(f"it said {ending.said[-200:]!r}, and wanted is {wanted.line!r}")
@@ -154,7 +155,8 @@ def call_faults(case: Case, ending: Ending) -> list[Fault]:
             f"{handed['<1>']} bytes were answered as printed, and {len(ending.printed)} are there"
         )
     found += [
-        f"{handed[name]} bytes were answered as written to {name}, and {len(ending.files[name] or b'')} are there"
+        f"{handed[name]} bytes were answered as written to {name}, and"
+        f" {len(ending.files[name] or b'')} are there"
         for name in seen.emptied
         if name in outputs and len(ending.files[name] or b"") != handed[name]
     ]

@@ -32,7 +32,8 @@ STOOD_BEFORE = {"open", "close", "read", "write", "lseek", "ftruncate", "statx"}
 PAST = re.compile(
     r"(p?(read|write)v?2?|open|creat|openat2?|lseek|f?truncate|[fl]?stat|f?statat|newfstatat|__[fl]?xstat|fdopen|fopen|"
     r"freopen|fread|fwrite|fputs|fputc|puts|f?printf|fflush|unlink(at)?|remove|(sym)?link(at)?|mkdir(at)?|"
-    r"rename(at2?)?|rmdir|mmap|sendfile|copy_file_range|splice|tee|dup[23]?|fcntl|ioctl|f(data)?sync|(posix_)?fallocate|"
+    r"rename(at2?)?|rmdir|mmap|sendfile|copy_file_range|splice|tee|dup[23]?|fcntl|ioctl|"
+    r"f(data)?sync|(posix_)?fallocate|"
     r"syscall|readlink(at)?|v?fork|exec[lvpe]+|posix_spawnp?|system|popen|socket|send|recv|io_uring_\w+)(64)?"
 )
 
@@ -69,7 +70,10 @@ def max_files(name: str) -> tuple[int, int]:
     table = read_commands()
     row = next(it for it in table["command"] if it["name"] == name)
     options = [it for it in table["option"] if it["name"] in row["usage"].replace("[", " ").split()]
-    return tuple(len(row.get(what, ())) + sum(what in it for it in options) for what in ("reads", "writes"))  # type: ignore[return-value]
+    reads, writes = (
+        len(row.get(what, ())) + sum(what in it for it in options) for what in ("reads", "writes")
+    )
+    return reads, writes
 
 
 def try_commands(bench: Bench) -> None:
@@ -189,7 +193,10 @@ def try_dash(bench: Bench) -> None:
         )
     remove_files("-")
     bench.kept = bench.stat_inputs()
-    cut = b"predator: standard input: it ends after 10 bytes, before the trace does: write or copy it again\n"
+    cut = (
+        b"predator: standard input: it ends after 10 bytes, before the trace does: write or copy it"
+        b" again\n"
+    )
     for words in (
         "replay -",
         "misses -",
