@@ -13,15 +13,19 @@ import socket
 import sys
 import time
 from concurrent.futures import ThreadPoolExecutor
+from typing import Iterable, Iterator
+
+# What a client sends, and the answer that it wants.
+Exchange = tuple[bytes, bytes]
 
 
-def memcached(key, value):
+def memcached(key: bytes, value: bytes) -> Iterator[Exchange]:
     """What is asked, and the answers that are wanted."""
     yield b"set %s 0 0 %d\r\n%s\r\n" % (key, len(value), value), b"STORED\r\n"
     yield b"get %s\r\n" % key, b"VALUE %s 0 %d\r\n%s\r\nEND\r\n" % (key, len(value), value)
 
 
-def redis(key, value):
+def redis(key: bytes, value: bytes) -> Iterator[Exchange]:
     yield b"*3\r\n$3\r\nSET\r\n$%d\r\n%s\r\n$%d\r\n%s\r\n" % (
         len(key),
         key,
@@ -34,11 +38,11 @@ def redis(key, value):
     )
 
 
-def http(key, value):
+def http(key: bytes, value: bytes) -> Iterator[Exchange]:
     yield b"GET /%s HTTP/1.1\r\nHost: here\r\n\r\n" % key, b"HTTP/1.1 200 OK\r\n"
 
 
-def dns(key, value):
+def dns(key: bytes, value: bytes) -> Iterator[Exchange]:
     question = b"".join(bytes([len(it)]) + it for it in (key, b"here")) + b"\0\0\1\0\1"
     asked = b"\x12\x34\1\0\0\1\0\0\0\0\0\0" + question
     reply = (
@@ -51,7 +55,7 @@ def dns(key, value):
     yield len(asked).to_bytes(2, "big") + asked, len(reply).to_bytes(2, "big") + reply
 
 
-def connect(port, until):
+def connect(port: int, until: float) -> socket.socket:
     while True:
         try:
             return socket.create_connection(("127.0.0.1", port), timeout=600)
@@ -61,7 +65,7 @@ def connect(port, until):
             time.sleep(0.1)
 
 
-def receive(client, count):
+def receive(client: socket.socket, count: int) -> bytes:
     """So many bytes."""
     found = b""
     while len(found) < count:
@@ -72,24 +76,24 @@ def receive(client, count):
     return found
 
 
-def check_answer(client, wanted):
+def check_answer(client: socket.socket, wanted: bytes) -> None:
     if receive(client, len(wanted)) != wanted:
         sys.exit("a wrong answer")
 
 
-def exchange_each(client, own):
+def exchange_each(client: socket.socket, own: Iterable[Exchange]) -> None:
     for asked, wanted in own:
         client.sendall(asked)
         check_answer(client, wanted)
 
 
-def exchange_anew(port, until, own):
+def exchange_anew(port: int, until: float, own: Iterable[Exchange]) -> None:
     for exchange in own:
         with connect(port, until) as client:
             exchange_each(client, [exchange])
 
 
-def exchange_in_step(clients, asked):
+def exchange_in_step(clients: list[socket.socket], asked: list[list[Exchange]]) -> None:
     for step in zip(*asked):
         for client, (text, _) in zip(clients, step):
             client.sendall(text)
@@ -97,7 +101,7 @@ def exchange_in_step(clients, asked):
             check_answer(client, wanted)
 
 
-def main(words, options):
+def main(words: list[str], options: set[str]) -> None:
     kind, port, count, times = KINDS[words[0]], *map(int, words[1:])
     until = time.monotonic() + 60
     keys = [

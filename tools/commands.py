@@ -126,7 +126,7 @@ def roff_text(text: str) -> str:
 
 
 def first_sentence(row: Row) -> str:
-    return row["does"] + (". " + row["more"] if "more" in row else ".")
+    return str(row["does"] + (". " + row["more"] if "more" in row else "."))
 
 
 def synopsis(command: Row) -> str:

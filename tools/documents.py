@@ -22,17 +22,18 @@ It ends with 1 where there are any."""
 import os
 import re
 import sys
+from typing import Iterator
 
 TOP = os.path.abspath(os.path.join(os.path.dirname(os.path.abspath(__file__)), ".."))
 PARTS = ("src", "specs", "proofs", "must-fail", "data")
 
 
-def read(path):
+def read(path: str) -> str:
     with open(os.path.join(TOP, path), encoding="utf-8") as file:
         return file.read()
 
 
-def find_documents():
+def find_documents() -> Iterator[str]:
     for folder, folders, files in os.walk(TOP):
         folders[:] = [
             name
@@ -49,7 +50,7 @@ def find_documents():
 class Crate:
     """What a crate defines: the text of its sources, and the names of its clauses."""
 
-    def __init__(self, name):
+    def __init__(self, name: str) -> None:
         self.texts = {part: "" for part in PARTS}
         for part in ("src", "specs", "proofs"):
             for folder, _, files in os.walk(os.path.join(TOP, "crates", name, part)):
@@ -65,7 +66,7 @@ class Crate:
             re.findall(r"\b(?:ensures\*?|requires|ghost) (\w+)\s*[{=:]", self.texts["src"])
         )
 
-    def has_item(self, name):
+    def has_item(self, name: str) -> bool:
         kinds = r"fn|struct|enum|trait|const|static|type|mod"
         reexported = rf"pub use [^;]*\b{name}\b"
         return bool(
@@ -76,18 +77,18 @@ class Crate:
             )
         )
 
-    def defines(self, name):
+    def defines(self, name: str) -> bool:
         return name in self.defined
 
 
-def has_path(path):
+def has_path(path: str) -> bool:
     """Whether a path below crates/ is there, with or without its ending, or names an item's folder of
     proofs."""
     full = os.path.join(TOP, "crates", path)
     return any(os.path.exists(full + it) for it in ("", ".rt", ".antt"))
 
 
-def source_words():
+def source_words() -> set[str]:
     """Every word of the files that aren't documents."""
     found = set()
     for folder, folders, files in os.walk(TOP):
@@ -121,14 +122,14 @@ def source_words():
     return found
 
 
-def heading_anchors(text):
+def heading_anchors(text: str) -> set[str]:
     return {
         re.sub(r"[^\w\- ]", "", heading.lower()).replace(" ", "-")
         for heading in re.findall(r"^#+ (.*)$", text, re.MULTILINE)
     }
 
 
-def broken_links(name, line):
+def broken_links(name: str, line: str) -> Iterator[str]:
     for to in re.findall(r"\]\(([^)\s]+)\)", line):
         if "://" in to:
             continue
@@ -140,21 +141,21 @@ def broken_links(name, line):
             yield to
 
 
-def broken_paths(line, about):
+def broken_paths(line: str, about: list[str]) -> list[str]:
     """Paths of a line that none of some crates has."""
     found = re.findall(r"(?<![\w/.])((?:src|specs|proofs)/[A-Za-z_][\w/]*(?:\.rt|\.antt)?)", line)
     found += [f"src/{it}" for it in re.findall(r"(?<![\w/.])([a-z_]+\.rt)\b", line)]
     return [it for it in found if about and not any(has_path(f"{crate}/{it}") for crate in about)]
 
 
-def unknown_quotes(text, crates):
+def unknown_quotes(text: str, crates: dict[str, Crate]) -> Iterator[tuple[int, str]]:
     """The lines at which the quotes of a document begin that no source has, whatever its spaces and
     comments."""
     sources = [
         " ".join(re.sub(r"(?m)^\s*//.*$", "", crate.texts["src"]).split())
         for crate in crates.values()
     ]
-    begin, quote = 0, []
+    begin, quote = 0, list[str]()
     for number, line in enumerate([*text.split("\n"), ""], 1):
         if line.startswith("    ") and line.strip() != "..":
             begin = begin if quote else number
@@ -165,7 +166,7 @@ def unknown_quotes(text, crates):
             quote = []
 
 
-def crate_layers():
+def crate_layers() -> dict[str, int]:
     """How many crates the longest chain has that ends with a crate, by crates.txt."""
     below = {
         row.split(":")[0].split()[0]: row.split(":")[1].split()
@@ -173,13 +174,13 @@ def crate_layers():
         if re.match(r"[a-z]", row)
     }
 
-    def floor(name):
+    def floor(name: str) -> int:
         return 1 + max((floor(it) for it in below[name] if it in below), default=0)
 
     return {it: floor(it) for it in below}
 
 
-def wrong_layers(text):
+def wrong_layers(text: str) -> list[str]:
     layers = {
         name: int(floor)
         for floor, name in re.findall(r"^\| (\d) \| `(\w+)` \|", text, re.MULTILINE)
@@ -191,7 +192,9 @@ def wrong_layers(text):
     ]
 
 
-def check_promise(line, crates, before):
+def check_promise(
+    line: str, crates: dict[str, Crate], before: list[str]
+) -> tuple[list[str], list[str]]:
     """What a row of docs/PROMISES.md names in vain, and the crates that it is about."""
     cells = [it.strip() for it in line.strip().strip("|").split(" | ")]
     if len(cells) < 3 or cells[0] == "Promise":
@@ -205,7 +208,7 @@ def check_promise(line, crates, before):
     return wrong, about
 
 
-def repeated_words(page):
+def repeated_words(page: str) -> list[str]:
     """The words of the glossary that stand there more than once, each in bold type in the first cell of a
     row."""
     rows = re.findall(
@@ -215,9 +218,11 @@ def repeated_words(page):
     return sorted({it for it in words if words.count(it) > 1})
 
 
-def find_wrong_names(name, crates, everywhere):
+def find_wrong_names(
+    name: str, crates: dict[str, Crate], everywhere: set[str]
+) -> Iterator[tuple[int, dict[str, None]]]:
     """The lines of a document, each with what it names in vain."""
-    about, heading, paragraph, columns = [], [], [], ""
+    about, heading, paragraph, columns = list[str](), list[str](), list[str](), ""
     for number, line in enumerate(read(name).split("\n"), 1):
         columns = (columns or line) if line.startswith("|") else ""
         named = [it for it in crates if re.search(rf"(?<![\w]){it}(?![\w])", line)]
@@ -252,7 +257,7 @@ def find_wrong_names(name, crates, everywhere):
         yield number, dict.fromkeys(found)
 
 
-def main(words):
+def main(words: list[str]) -> int:
     if "--help" in words or "-h" in words:
         print(__doc__)
         return 0

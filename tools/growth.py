@@ -324,21 +324,26 @@ class Case:
         self.lock = threading.Lock()
         self.kept: dict[int, tuple[str, TraceCaseFile | Guest]] = {}
 
-    def cost_of_size(self, size: int) -> tuple[str, TraceCaseFile | Guest]:
+    def made_file(self, size: int) -> tuple[str, TraceCaseFile | Guest]:
         """The place of the file, which is made once, and what it is."""
         with self.lock:
             if size not in self.kept:
                 made = self.made.make(size)
-                content = "trace" if isinstance(made, TraceCaseFile) else "program"
                 path = os.path.join(self.folder, f"{re.sub('[^a-z0-9]+', '_', self.name)}.{size}")
                 with open(path, "wb") as file:
-                    file.write(getattr(made, content))
-                self.kept[size] = path, made._replace(**{content: b""})
+                    file.write(made.trace if isinstance(made, TraceCaseFile) else made.program)
+                self.kept[size] = path, (
+                    made._replace(trace=b"")
+                    if isinstance(made, TraceCaseFile)
+                    else made._replace(program=b"")
+                )
             return self.kept[size]
 
     def call(self, command: str, size: int) -> Call:
-        path, made = self.cost_of_size(size)
-        return (OF_TRACES if isinstance(made, TraceCaseFile) else OF_GUESTS)[command](path, made)
+        path, made = self.made_file(size)
+        if isinstance(made, TraceCaseFile):
+            return OF_TRACES[command](path, made)
+        return OF_GUESTS[command](path, made)
 
     def commands(self, wants_all: bool) -> list[str]:
         if not wants_all:
@@ -482,9 +487,16 @@ class Measures:
         if case.made.least:
             return self.pool.submit(self.cost_of_size, case, command, case.made.least)
         if (command, settings) not in self.nothing:
-            make = made_traces.symbols_apart if command in OF_TRACES else made_guests.ends
-            kind = TraceCase if command in OF_TRACES else GuestCase
-            small = kind("nothing", lambda n: make(n)._replace(settings=settings), 1, "")
+            small: TraceCase | GuestCase = GuestCase(
+                "nothing", lambda n: made_guests.ends(n)._replace(settings=settings), 1, ""
+            )
+            if command in OF_TRACES:
+                small = TraceCase(
+                    "nothing",
+                    lambda n: made_traces.symbols_apart(n)._replace(settings=settings),
+                    1,
+                    "",
+                )
             self.nothing[command, settings] = self.pool.submit(
                 self.cost_of_size, Case(small, tempfile.mkdtemp(dir=self.folder)), command, 1
             )
@@ -498,17 +510,17 @@ class Measures:
 
     def rows(self, chosen: list[tuple[Case, str]], times: int) -> Iterator[Row]:
         """One after the other, as they are there."""
-        asked = []
+        asked: list[tuple[str, str, list[Future[Cost]]]] = []
         for case, command in chosen:
             size = min(case.made.size * times, case.made.most // 4)
-            nothing = self.cost_of_nothing(case, command, case.cost_of_size(size)[1].settings)
+            nothing = self.cost_of_nothing(case, command, case.made_file(size)[1].settings)
             sizes = [
                 self.pool.submit(self.cost_of_size, case, command, number)
                 for number in (size, 4 * size)
             ]
-            asked.append((case.name, command, nothing, *sizes))
-        for name, command, *costs in asked:
-            yield self.row(Row(name, command, 0, None, ""), *(it.result() for it in costs))
+            asked.append((case.name, command, [nothing, *sizes]))
+        for name, command, costs in asked:
+            yield self.row(Row(name, command, 0, None, ""), *[cost.result() for cost in costs])
 
     def row(self, row: Row, nothing: Cost, lesser: Cost, greater: Cost) -> Row:
         fault = nothing.fault or lesser.fault or greater.fault
@@ -526,7 +538,8 @@ class Measures:
 
 
 def choose_cases(words: argparse.Namespace, folder: str) -> list[tuple[Case, str]]:
-    cases = [Case(it, folder) for it in [*made_traces.CASES, *made_guests.CASES]]
+    made: list[TraceCase | GuestCase] = [*made_traces.CASES, *made_guests.CASES]
+    cases = [Case(it, folder) for it in made]
     wanted = [it for it in cases if not words.names or any(name in it.name for name in words.names)]
     return [(case, command) for case in wanted for command in case.commands(words.all)]
 

@@ -11,12 +11,16 @@ lines that nothing is left of; `rt fmt` lays out what remains."""
 import os
 import re
 import sys
-from typing import NamedTuple
+from typing import Iterable, Iterator, NamedTuple
 
 TOP = os.path.abspath(os.path.join(os.path.dirname(os.path.abspath(__file__)), ".."))
 # What stands between two words of antt: all other signs are letters of a name.
 BETWEEN = re.compile(r"[\s(){}\[\],;]+")
 OPENING, CLOSING = "({[", ")}]"
+
+
+# A part of a text, by where it begins and ends.
+Span = tuple[int, int]
 
 
 class Import(NamedTuple):
@@ -26,19 +30,19 @@ class Import(NamedTuple):
     module: str
     start: int
     end: int
-    statement: tuple
-    scope: tuple
+    statement: Span
+    scope: Span
 
 
-def blank(text):
+def blank(text: str) -> str:
     return re.sub(r"[^\n]", " ", text)
 
 
-def blank_range(text, start, end):
+def blank_range(text: str, start: int, end: int) -> str:
     return text[:start] + blank(text[start:end]) + text[end:]
 
 
-def without_comments(text, is_rust):
+def without_comments(text: str, is_rust: bool) -> str:
     """The text with blanks in the place of comments and of what strings hold."""
     comment = r"//[^\n]*|/\*.*?\*/" if is_rust else r"(?<!\S)--[^\n]*|\{-.*?-\}"
     quoted = r'"(?:\\.|[^"\\])*"'
@@ -47,7 +51,7 @@ def without_comments(text, is_rust):
     return re.sub(f"{comment}|{quoted}", lambda match: blank(match[0]), text, flags=re.DOTALL)
 
 
-def closing_end(text, at):
+def closing_end(text: str, at: int) -> int:
     """Behind the bracket that closes the one at a place."""
     depth = 0
     for place in range(at, len(text)):
@@ -57,7 +61,7 @@ def closing_end(text, at):
     return len(text)
 
 
-def ghost_parts(text):
+def ghost_parts(text: str) -> Iterator[Span]:
     """Where clauses, ghost members and attributes stand in Rust's text."""
     for found in re.finditer(r"\b(?:requires|ensures)\b\*?\s*\w*\s*(?=\{)", text):
         yield found.start(), closing_end(text, found.end())
@@ -71,7 +75,7 @@ def ghost_parts(text):
         yield found.start(), at
 
 
-def block_around(text, at):
+def block_around(text: str, at: int) -> Span:
     """The innermost block of braces around a place, or the whole text."""
     depth = 0
     for place in range(at - 1, -1, -1):
@@ -81,7 +85,7 @@ def block_around(text, at):
     return 0, len(text)
 
 
-def imports_of(text, is_rust):
+def imports_of(text: str, is_rust: bool) -> list[Import]:
     """The imports of a text, and the places of their statements."""
     word = r"^[ \t]*ghost use\s+" if is_rust else r"^[ \t]*use\s+"
     found = []
@@ -105,7 +109,7 @@ def imports_of(text, is_rust):
     return found
 
 
-def words_of(text):
+def words_of(text: str) -> set[str]:
     """The words of a text, and the fronts of dotted ones. What stands behind a dot names a field, unless the
     dot ends a lambda."""
     text = re.sub(r"λ[^.\n]*\.", lambda match: match[0][:-1] + " ", text)
@@ -117,11 +121,11 @@ def words_of(text):
     return found
 
 
-def is_used(name, words):
+def is_used(name: str, words: set[str]) -> bool:
     return all(part in words for part in name.split("◌") if part) or name.strip("«»") in words
 
 
-def find_unused(text, is_rust):
+def find_unused(text: str, is_rust: bool) -> list[Import]:
     """The imports whose names nothing in their reach has, or that one before has brought."""
     plain = without_comments(text, is_rust)
     found, brought, again = imports_of(plain, is_rust), set(), []
@@ -132,7 +136,7 @@ def find_unused(text, is_rust):
     return sorted({*again, *filter_unused(plain, found, is_rust)}, key=lambda own: own.start)
 
 
-def filter_unused(plain, found, is_rust):
+def filter_unused(plain: str, found: list[Import], is_rust: bool) -> list[Import]:
     """Those of the imports whose names nothing in their reach has."""
     rest = plain
     for span in {it.statement for it in found}:
@@ -142,7 +146,7 @@ def filter_unused(plain, found, is_rust):
         return [it for it in found if not is_used(it.name, words)]
     parts = list(ghost_parts(rest))
 
-    def words_in(scopes, but):
+    def words_in(scopes: Span, but: list[Span]) -> set[str]:
         """The words of the parts that stand in a scope and in none of the others."""
         taken = [part for part in parts if scopes[0] <= part[0] < scopes[1]]
         return words_of(
@@ -161,18 +165,18 @@ def filter_unused(plain, found, is_rust):
     return left
 
 
-def remove_imports(text, gone):
+def remove_imports(text: str, gone: Iterable[Import]) -> str:
     """The text without some of its imports."""
-    by_statement = {}
+    by_statement: dict[Span, list[Import]] = {}
     for own in gone:
         by_statement.setdefault(own.statement, []).append(own)
     for span, names in sorted(by_statement.items(), reverse=True):
         statement = text[span[0] : span[1]]
         kept = None
         if "{" in statement and names[0].start != span[0]:
-            head, inside, behind = re.fullmatch(
-                r"([^{]*\{)([^}]*)(\}.*)", statement, re.DOTALL
-            ).groups()
+            found = re.fullmatch(r"([^{]*\{)([^}]*)(\}.*)", statement, re.DOTALL)
+            assert found
+            head, inside, behind = found.groups()
             begin, gone_at = span[0] + len(head), {it.start for it in names}
             parts = [
                 (begin + match.start() + len(match[0]) - len(match[0].lstrip()), match[0].strip())
@@ -192,7 +196,7 @@ def remove_imports(text, gone):
     return text
 
 
-def files_below(names):
+def files_below(names: Iterable[str]) -> Iterator[str]:
     for name in names:
         if os.path.isfile(name):
             yield name
@@ -204,7 +208,7 @@ def files_below(names):
             )
 
 
-def main(words):
+def main(words: list[str]) -> int:
     if "--help" in words or "-h" in words:
         print(__doc__)
         return 0

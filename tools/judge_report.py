@@ -14,7 +14,7 @@ import subprocess
 import sys
 import tempfile
 from functools import cache
-from typing import NamedTuple
+from typing import Any, Callable, Iterable, Iterator, Mapping, NamedTuple, Sequence
 
 from traces import FUNCTION, OBJECT, Alloc, Free, Symbol
 
@@ -52,24 +52,27 @@ class Ending(NamedTuple):
 
     text: str
     steps: int
-    fields: tuple
+    fields: tuple[int, int, int, int]
 
 
 class Case(NamedTuple):
-    accesses: list
-    records: list  # pairs of a number of accesses and the record that comes after so many
+    accesses: list[Access]
+    # (pairs of a number of accesses and the record that comes after so many)
+    records: list[tuple[int, Alloc | Free | Symbol]]
     ending: Ending
     harts: int
     tracking: int
     prediction: int
     report: int
     native: int
-    layout: tuple  # size and offset, or none where no layout is named
+    # (size and offset, or none where no layout is named)
+    layout: tuple[int, int] | None
 
 
-def count_invalidations(accesses, base, size, start):
+def count_invalidations(accesses: Sequence[Access], base: int, size: int, start: int) -> int:
     """The writes after the start that found another hart holding the line."""
-    holders, count = set(), 0
+    holders: set[int] = set()
+    count = 0
     for position, access in enumerate(accesses):
         if base <= access.addr < base + size:
             if access.writes:
@@ -79,17 +82,22 @@ def count_invalidations(accesses, base, size, start):
     return count
 
 
-class Word:
-    def __init__(self):
-        self.reads, self.writes, self.harts = 0, 0, set()
+# A block, when it was allocated, and when it was freed or replaced, each as a number of accesses.
+BlockLife = list[Any]
 
-    def total(self):
+
+class Word:
+    def __init__(self) -> None:
+        self.reads = self.writes = 0
+        self.harts: set[int] = set()
+
+    def total(self) -> int:
         return self.reads + self.writes
 
 
-def word_uses(accesses, base, size, start):
+def word_uses(accesses: Sequence[Access], base: int, size: int, start: int) -> dict[int, Word]:
     """The words of a range with an access from the start on, by address."""
-    words = {}
+    words: dict[int, Word] = {}
     for touch in accesses[start:]:
         if base <= touch.addr < base + size:
             word = words.setdefault(touch.addr // 4 * 4, Word())
@@ -99,7 +107,9 @@ def word_uses(accesses, base, size, start):
     return dict(sorted(words.items()))
 
 
-def hot_pairs(accesses, line, size, starts):
+def hot_pairs(
+    accesses: Sequence[Access], line: int, size: int, starts: Mapping[int, int]
+) -> list[tuple[int, int]]:
     """The hot pairs of a line and the next, the best one first."""
     hot = []
     for base in (line, line + size):
@@ -114,7 +124,14 @@ def hot_pairs(accesses, line, size, starts):
     return [(x, y) for _, x, y in sorted(found)]
 
 
-def openings(accesses, line, size, starts, writes, prediction):
+def openings(
+    accesses: Sequence[Access],
+    line: int,
+    size: int,
+    starts: Mapping[int, int],
+    writes: Mapping[int, list[int]],
+    prediction: int,
+) -> list[tuple[int, int, int, int]]:
     """What a line and the next open: kind, base and size of each line, and the position of its opening."""
     at = [
         own[k - 1]
@@ -133,9 +150,9 @@ def openings(accesses, line, size, starts, writes, prediction):
     return [it for it in (shifted, doubled) if it]
 
 
-def tracked_lines(case, size, offset):
+def tracked_lines(case: Case, size: int, offset: int) -> list[Line]:
     """The observed lines, and the predicted ones that have a start."""
-    writes = {}
+    writes: dict[int, list[int]] = {}
     for position, access in enumerate(case.accesses):
         if access.writes:
             writes.setdefault((access.addr - offset) // size * size + offset, []).append(position)
@@ -155,21 +172,25 @@ def tracked_lines(case, size, offset):
     return found
 
 
-def address_text(number):
+def address_text(number: int) -> str:
     return f"{'-' if number < 0 else ''}0x{abs(number):08x}"
 
 
-def printable_name(name):
+def printable_name(name: bytes) -> str:
     return (
         "".join(chr(it) if 0x21 <= it <= 0x7E and it != 0x5C else f"\\x{it:02x}" for it in name)
         or "?"
     )
 
 
-def object_table(records):
+def object_table(
+    records: Iterable[tuple[int, Alloc | Free | Symbol]]
+) -> tuple[list[Symbol], list[BlockLife]]:
     """The symbols, without those whose kind, address and size an earlier one has, and the blocks, each with
     its life."""
-    symbols, blocks, live = {}, [], {}
+    symbols: dict[tuple[int, int, int], Symbol] = {}
+    blocks: list[BlockLife] = []
+    live: dict[int, BlockLife] = {}
     for position, record in records:
         if isinstance(record, Symbol):
             symbols.setdefault(record[:3], record)
@@ -182,7 +203,7 @@ def object_table(records):
     return list(symbols.values()), blocks
 
 
-def site_names(symbols):
+def site_names(symbols: Iterable[Symbol]) -> Callable[[int], str]:
     """Of an address the first function that holds it."""
     functions = [it for it in symbols if it.kind == FUNCTION]
     return cache(
@@ -193,7 +214,13 @@ def site_names(symbols):
     )
 
 
-def object_rows(line, symbols, blocks, end, name_of):
+def object_rows(
+    line: Line,
+    symbols: Iterable[Symbol],
+    blocks: Iterable[BlockLife],
+    end: int,
+    name_of: Callable[[int], str],
+) -> Iterator[str]:
     """The objects that stand on a line, as a report lists them."""
     for entry in symbols:
         if (
@@ -221,12 +248,12 @@ def object_rows(line, symbols, blocks, end, name_of):
             )
 
 
-def verdict(words):
+def verdict(words: Mapping[int, Word]) -> str:
     shared = [it.writes > 0 and len(it.harts) > 1 for it in words.values() if it.writes]
     return "false" if not any(shared) else "true" if all(shared) else "mixed"
 
 
-def report_text(case):
+def report_text(case: Case) -> Iterator[str]:
     """The whole text."""
     size, offset = case.layout or (case.native, 0)
     rows = sorted(
@@ -256,7 +283,7 @@ def report_text(case):
     yield "end"
 
 
-def record_bytes(record):
+def record_bytes(record: Alloc | Free | Symbol) -> bytes:
     if isinstance(record, Symbol):
         return struct.pack("<BBIIH", 5, *record[:3], len(record.name)) + record.name
     if isinstance(record, Alloc):
@@ -264,7 +291,7 @@ def record_bytes(record):
     return struct.pack("<BI", 4, record.addr)
 
 
-def trace_bytes(case):
+def trace_bytes(case: Case) -> bytes:
     parts, left = [struct.pack("<8sQHH", b"PRDTRC01", 0, case.harts, 0)], list(case.records)
     for position in range(len(case.accesses) + 1):
         while left and left[0][0] == position:
@@ -279,7 +306,9 @@ def trace_bytes(case):
     return b"".join(parts)
 
 
-def random_accesses(dice, harts, base, span, native):
+def random_accesses(
+    dice: random.Random, harts: int, base: int, span: int, native: int
+) -> Iterator[Access]:
     """Accesses to a few words of a few lines, those at the lines' edges among them; most words may have a
     hart of their own."""
     hot = [4 * dice.randrange(span // 4) for _ in range(dice.choice((1, 2, 3, 4, 6, 12)))]
@@ -299,7 +328,7 @@ def random_accesses(dice, harts, base, span, native):
         yield Access(hart, dice.random() < share, base + at + dice.randrange(0, 4, size), size)
 
 
-def random_record(dice, base, span):
+def random_record(dice: random.Random, base: int, span: int) -> Alloc | Free | Symbol:
     block = (base + 16 * dice.randrange(max(1, span // 16))) % 2**32
     which = dice.random()
     if which < 0.4:
@@ -329,7 +358,7 @@ def random_record(dice, base, span):
     return Free(block)
 
 
-def random_ending(dice, harts):
+def random_ending(dice: random.Random, harts: int) -> Ending:
     steps, code, hart = dice.randrange(2**40), dice.randrange(2**32), dice.randrange(harts)
     pc, cause = 4 * dice.randrange(2**30), dice.randrange(8)
     trap = Ending(
@@ -347,7 +376,7 @@ def random_ending(dice, harts):
     )
 
 
-def random_case(dice):
+def random_case(dice: random.Random) -> Case:
     harts, native, lines = (
         dice.choice((1, 2, 2, 3, 4, 8, 256)),
         dice.choice((64, 64, 64, 32, 128, 256)),
@@ -376,7 +405,7 @@ def random_case(dice):
     )
 
 
-def main(program, count=1000, seed=1):
+def main(program: str, count: str | int = 1000, seed: str | int = 1) -> bool:
     dice, wrong = random.Random(int(seed)), 0
     with tempfile.TemporaryDirectory() as folder:
         for number in range(int(count)):

@@ -11,16 +11,21 @@ import struct
 import subprocess
 import sys
 import tempfile
+from typing import Iterator
 
 NO_HART, MANY, NONE = 0xFFFF, 0xFFFE, 2**64 - 1
 NATIVE = (32, 64, 128, 256)
 
 
+# Size, offset, tracking, prediction, harts, position, and the numbers of lines and tracks.
+Header = tuple[int, int, int, int, int, int, int, int]
+
+
 class Fault(Exception):
-    pass
+    """The place of the first unit at fault."""
 
 
-def read_header(b):
+def read_header(b: bytes) -> Header:
     if len(b) < 64 or b[:8] != b"PRDSTA01" or any(b[34:40]):
         raise Fault(0)
     size, offset, tracking, prediction, harts = struct.unpack_from("<IIQQH", b, 8)
@@ -34,14 +39,14 @@ def read_header(b):
     return size, offset, tracking, prediction, harts, position, lines, tracks
 
 
-def word_total(b, at, harts):
+def word_total(b: bytes, at: int, harts: int) -> int | None:
     reads, writes, owner, zero = struct.unpack_from("<QQHH", b, at)
     n = reads + writes
     owned = owner == NO_HART if n == 0 else owner < harts or (owner == MANY and n >= 2)
     return n if owned and zero == 0 else None
 
 
-def read_track(b, at, head):
+def read_track(b: bytes, at: int, head: Header) -> tuple[int, int, int, int]:
     """Kind, base and start of the track by itself, and its end."""
     size, offset, tracking, prediction, harts, position, _, _ = head
     if at + 32 > len(b):
@@ -56,13 +61,14 @@ def read_track(b, at, head):
     totals = [word_total(b, at + 32 + 20 * i, harts) for i in range(words)]
     if None in totals:
         raise Fault(at)
+    sum_of_words = sum(total or 0 for total in totals)
     if start == NONE:
         good = (
             count_of == 0
             and first == NO_HART
             and second == NO_HART
             and count == 0
-            and sum(totals) == 0
+            and sum_of_words == 0
         )
     else:
         good = (
@@ -74,16 +80,17 @@ def read_track(b, at, head):
             good
             and start < position
             and count <= position - start - 1
-            and sum(totals) <= position - start
+            and sum_of_words <= position - start
         )
     if not good:
         raise Fault(at)
     return kind, base, start, end
 
 
-def check_detector(b):
+def check_detector(b: bytes) -> tuple[Header, int]:
     head = size, offset, tracking, prediction, harts, position, lines, tracks = read_header(b)
-    at, last, due = 64, None, []
+    at, due = 64, list[int]()
+    last: int | None = None
     for _ in range(lines):
         if at + 16 > len(b):
             raise Fault(at)
@@ -100,7 +107,8 @@ def check_detector(b):
         if writes >= tracking:
             due.append(base)
         at += 16
-    before, seen, crossed = None, 0, set()
+    before: tuple[int, int] | None = None
+    seen, crossed = 0, set[int]()
     for _ in range(tracks):
         kind, base, start, end = read_track(b, at, head)
         good = before is None or before < (kind, base)
@@ -111,7 +119,7 @@ def check_detector(b):
             line = base // size * size
             good = (
                 good
-                and prediction
+                and prediction > 0
                 and seen == len(due)
                 and base >= 0
                 and line in due
@@ -130,11 +138,11 @@ def check_detector(b):
     return head, at
 
 
-def check_objects(b, at, position):
+def check_objects(b: bytes, at: int, position: int) -> None:
     if at + 16 > len(b):
         raise Fault(at)
     symbols, blocks = struct.unpack_from("<QQ", b, at)
-    at, places, live = at + 16, set(), set()
+    at, places, live = at + 16, set[tuple[int, int, int]](), set[int]()
     for _ in range(symbols):
         if at + 12 > len(b) or b[at] != 5:
             raise Fault(at)
@@ -163,7 +171,7 @@ def check_objects(b, at, position):
         raise Fault(at)
 
 
-def judge_state(b):
+def judge_state(b: bytes) -> tuple[Header | None, int | None]:
     """The header of a good state, or the place of the first unit at fault."""
     try:
         head, at = check_detector(b)
@@ -173,7 +181,7 @@ def judge_state(b):
         return None, fault.args[0]
 
 
-def changed_states(b):
+def changed_states(b: bytes) -> Iterator[bytes]:
     for place in range(len(b)):
         for value in (0, 1, 0x7F, 0xFF):
             if b[place] != value:
@@ -186,14 +194,14 @@ def changed_states(b):
             yield bytes(b[:place]) + struct.pack("<Q", number) + bytes(b[place + 8 :])
 
 
-def call_replay(program, trace, words, state):
+def call_replay(program: str, trace: str, words: list[str], state: str) -> tuple[int, str]:
     done = subprocess.run(
         [program, "replay", trace, "--resume", state, *words], capture_output=True, text=True
     )
     return done.returncode, done.stdout
 
 
-def judge_changes(name, program, trace, words):
+def judge_changes(name: str, program: str, trace: str, words: list[str]) -> tuple[int, int]:
     """Replays a trace from each change of a state: how many there are, and of how many the program says
     another thing."""
     with open(name, "rb") as file:
@@ -213,11 +221,11 @@ def judge_changes(name, program, trace, words):
     return tried, wrong
 
 
-def is_right_ending(own, changed, status, text, good):
+def is_right_ending(own: Header | None, changed: bytes, status: int, text: str, good: int) -> bool:
     """Whether a replay from a changed state ends as that state says, where the trace goes on from a state
     with the header `own`, and ends with the status `good` from a good one."""
     head, place = judge_state(changed)
-    if place is not None:
+    if head is None or own is None:
         return text == f"predator: state BadState {place}\n" and status == 6
     differs = [at for at, mine, its in zip((8, 12, 16, 24, 32), own[:5], head[:5]) if mine != its]
     if differs:
@@ -227,7 +235,7 @@ def is_right_ending(own, changed, status, text, good):
     return text.startswith("predator report 1\n") and status == good
 
 
-def main(words):
+def main(words: list[str]) -> int:
     if not words or words[0] in ("--help", "-h"):
         print(__doc__)
         return 0 if words else 1

@@ -17,27 +17,28 @@ import random
 import subprocess
 import sys
 import tempfile
+from typing import Callable, Iterator
 
 import judge_state
 import recount_blame
 import recount_move
-from judge_report import random_case, trace_bytes
+from judge_report import Case, random_case, trace_bytes
 from recount import recount_lines
-from traces import read_accesses_with_pcs, add_pcs
+from traces import Access, add_pcs, read_accesses_with_pcs
 
 # Of so many traces one has its state changed in each byte, if that has no more bytes than this.
 EACH, MOST = 50, 400
 
 
-def program_output(program, *words):
+def program_output(program: str, *words: str) -> str:
     return subprocess.run([program, *words], capture_output=True, encoding="latin-1").stdout
 
 
-def base_text(base):
+def base_text(base: int) -> str:
     return f"{'-' if base < 0 else ''}0x{abs(base):08x}"
 
 
-def agrees_with_recount(case, trace, report):
+def agrees_with_recount(case: Case, trace: bytes, report: str) -> bool:
     """Whether the observed lines of a report are those of a recount."""
     size, shift = case.layout or (case.native, 0)
     found = [
@@ -52,7 +53,7 @@ def agrees_with_recount(case, trace, report):
     ]
 
 
-def resumes_right(program, folder, words, cut, report):
+def resumes_right(program: str, folder: str, words: list[str], cut: int, report: str) -> bool:
     """Whether a trace that is cut has a good state, and the report of the whole."""
     names = [os.path.join(folder, it) for it in ("trace", "first", "second", "state")]
     program_output(program, "split", names[0], str(cut), names[1], names[2])
@@ -65,10 +66,10 @@ def resumes_right(program, folder, words, cut, report):
     )
 
 
-def random_pcs(dice):
+def random_pcs(dice: random.Random) -> Callable[[Access, int], int]:
     """Random pcs, some of which are near to the one before, or are the same as others."""
 
-    def pc_of(_, before):
+    def pc_of(_: Access, before: int) -> int:
         near = (before + 4 * dice.randrange(-40, 40)) % 2**32
         return dice.choice(
             (before, near, dice.randrange(2**32), 4 * dice.randrange(4), 0, 2**32 - 1)
@@ -77,12 +78,14 @@ def random_pcs(dice):
     return pc_of
 
 
-def read(name):
+def read(name: str) -> bytes:
     with open(name, "rb") as file:
         return file.read()
 
 
-def keeps_pcs(program, folder, words, cut, made, report):
+def keeps_pcs(
+    program: str, folder: str, words: list[str], cut: int, made: bytes, report: str
+) -> bool:
     """Whether a trace with pcs has the report of the one without them, and is split and converted as
     docs/FORMATS.md says."""
     plain, whole, first, second, *copies = (
@@ -102,7 +105,7 @@ def keeps_pcs(program, folder, words, cut, made, report):
     )
 
 
-def blames_right(program, folder, case, made):
+def blames_right(program: str, folder: str, case: Case, made: bytes) -> bool:
     """Whether `blame` prints of a trace with pcs, which is there, and of the one without them, what a recount
     does."""
     layout = case.layout or (64, 0)
@@ -115,7 +118,7 @@ def blames_right(program, folder, case, made):
     )
 
 
-def random_table(dice, made):
+def random_table(dice: random.Random, made: bytes) -> bytes:
     """Ranges of words that are accessed, or lie beside these. They go to each other's places, to free ones or
     beside. Some have a fault."""
     words = sorted(
@@ -136,7 +139,7 @@ def random_table(dice, made):
     return "\n".join(lines).encode()
 
 
-def moves_right(program, folder, table):
+def moves_right(program: str, folder: str, table: bytes) -> bool:
     """Whether the trace is moved by a table as a recount moves it, in version 1, 2 and 3, which are there."""
     text, out = os.path.join(folder, "table"), os.path.join(folder, "moved")
     with open(text, "wb") as file:
@@ -156,7 +159,7 @@ def moves_right(program, folder, table):
     return True
 
 
-def write_case(folder, case):
+def write_case(folder: str, case: Case) -> list[str]:
     """Puts a trace and its settings into files, and gives the words of a replay behind the trace."""
     with open(os.path.join(folder, "trace"), "wb") as file:
         file.write(trace_bytes(case))
@@ -173,7 +176,9 @@ def write_case(folder, case):
     ]
 
 
-def find_faults(program, folder, dice, case, words):
+def find_faults(
+    program: str, folder: str, dice: random.Random, case: Case, words: list[str]
+) -> Iterator[str]:
     """What is wrong with what the program says of a trace."""
     report = program_output(program, "replay", os.path.join(folder, "trace"), *words)
     if not agrees_with_recount(case, trace_bytes(case), report):
@@ -190,7 +195,7 @@ def find_faults(program, folder, dice, case, words):
         yield "its halves have another report, or a bad state"
 
 
-def main(program, count=200, seed=1):
+def main(program: str, count: str | int = 200, seed: str | int = 1) -> bool:
     dice, wrong, changed = random.Random(int(seed)), recount_move.try_worked(), 0
     with tempfile.TemporaryDirectory() as folder:
         for number in range(int(count)):

@@ -164,7 +164,8 @@ def places_in_holes(n: int) -> int:
     """The sum of the places of the blocks that holes_of_all_sizes makes last, each the least one that is
     free."""
     sizes, state = random_numbers(n, 1)
-    holes, at, total = [], 0, 0
+    holes: list[list[int]] = []
+    at = total = 0
     # (the last one is what lies behind all of them)
     for size in [*sizes, 2**32 + 16]:
         if size & 16 and holes and sum(holes[-1]) == at:

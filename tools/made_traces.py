@@ -51,7 +51,7 @@ class Trace:
     def symbol(self, kind: int, addr: int, size: int, name: bytes) -> None:
         self.bytes += struct.pack("<BBIIH", 5, kind, addr, size, len(name)) + name
 
-    def alloc(self, addr: int, size: int, sites: tuple[int, int, int, int] = SITES) -> None:
+    def alloc(self, addr: int, size: int, sites: tuple[int, ...] = SITES) -> None:
         self.bytes += struct.pack("<BII4I", 3, addr, size, *sites)
 
     def free(self, addr: int) -> None:

@@ -17,7 +17,10 @@ import sys
 import tempfile
 import threading
 import time
+from typing import Callable, Iterator
 
+# A name, the words of a call, its status, the form of its lines, what the work comes to, and whether a line has that.
+Try = tuple[str, list[str], int, re.Pattern[str], Callable[[], int], bool]
 READ = re.compile(r"predator: (\d+) of (\d+) MiB read")
 WRITTEN = re.compile(r"predator: (\d+) MiB written")
 STEPS = re.compile(r"predator: (\d+) of at most (\d+) million steps")
@@ -28,12 +31,12 @@ LOOP = struct.pack(
 LOOP += struct.pack("<IIIIIIII", 1, 84, 0x10000, 0, 4, 4, 5, 4) + struct.pack("<I", 0x6F)
 
 
-def record_terminal(words):
+def record_terminal(words: list[str]) -> tuple[str, float, int]:
     """What the program shows on a terminal, the seconds that it took, and its status."""
     ours, theirs = pty.openpty()
     said = []
 
-    def listen():
+    def listen() -> None:
         try:
             while part := os.read(ours, 4096):
                 said.append(part)
@@ -54,7 +57,9 @@ def record_terminal(words):
     return b"".join(said).decode(errors="replace"), took, status
 
 
-def find_faults(what, shown, took, form, whole, has_total):
+def find_faults(
+    what: str, shown: str, took: float, form: re.Pattern[str], whole: int, has_total: bool
+) -> list[str]:
     """What is wrong with the lines of a form. `whole` is what the work comes to, and `has_total` whether a line
     has that too."""
     lines = [list(map(int, it.groups())) for it in form.finditer(shown)]
@@ -74,7 +79,7 @@ def find_faults(what, shown, took, form, whole, has_total):
     return found
 
 
-def scale_work(seconds, few, words):
+def scale_work(seconds: float, few: int, words: Callable[[int], list[str]]) -> int:
     """How much work lasts so many seconds here, by the time that little of it takes."""
     began = time.monotonic()
     subprocess.run(
@@ -87,7 +92,7 @@ def scale_work(seconds, few, words):
     return int(few * seconds / (time.monotonic() - began))
 
 
-def list_tries(program, seconds, folder):
+def list_tries(program: str, seconds: float, folder: str) -> Iterator[Try]:
     trace, guest = (os.path.join(folder, it) for it in ("trace", "guest"))
     with open(guest, "wb") as file:
         file.write(LOOP)
@@ -107,7 +112,7 @@ def list_tries(program, seconds, folder):
     ], 10, STEPS, lambda: steps // 1_000_000, True
 
 
-def main(program, seconds=3.0):
+def main(program: str, seconds: str | float = 3.0) -> int:
     found = []
     with tempfile.TemporaryDirectory() as folder:
         for what, words, wanted, form, whole, has_total in list_tries(

@@ -12,9 +12,14 @@ import sys
 from traces import read_accesses
 
 
-def recount_lines(trace, size=64, shift=0, tracking=16, report=100):
+def recount_lines(
+    trace: bytes, size: int = 64, shift: int = 0, tracking: int = 16, report: int = 100
+) -> list[tuple[int, int, int]]:
     """The listed observed lines, as (base, start, count), by count falling and then by base rising."""
-    holders, writes, starts, counts = {}, {}, {}, {}
+    holders: dict[int, set[int]] = {}
+    writes: dict[int, int] = {}
+    starts: dict[int, int] = {}
+    counts: dict[int, int] = {}
     for position, (hart, addr, is_write) in enumerate(read_accesses(trace)):
         base = (addr - shift) // size * size + shift
         held = holders.setdefault(base, set())
@@ -32,7 +37,7 @@ def recount_lines(trace, size=64, shift=0, tracking=16, report=100):
     )
 
 
-def main(words):
+def main(words: list[str]) -> int:
     if not words or words[0] in ("--help", "-h"):
         print(__doc__)
         return 0 if words else 1

@@ -10,7 +10,7 @@ has no pcs."""
 
 import sys
 from collections import Counter
-from typing import NamedTuple
+from typing import Iterable, Iterator, NamedTuple
 
 from judge_report import address_text
 from traces import Access, read_accesses_with_pcs
@@ -58,18 +58,27 @@ WORKED = [
 ]
 
 
+# Two instructions, how often the second takes a line from the first, and how often for the same word.
+Pair = tuple[int, int, int, int]
+# Two harts, and how often the second takes a line from the first.
+Handover = tuple[int, int, int]
+# A line that is taken: its address, how often, its pairs and its harts.
+LineRow = tuple[int, int, list[Pair], list[Handover]]
+
+
 class Line(NamedTuple):
     """A line: the harts whose caches hold it; the pc and the word of each hart's latest access, in the order
     of these; and its takings, by the pcs of victim and taker, those of one word among them, and by their
     harts."""
 
-    holders: set
-    latest: dict
-    pairs: Counter
-    same: Counter
-    harts: Counter
+    holders: set[int]
+    latest: dict[int, tuple[int, int]]
+    pairs: Counter[tuple[int, int]]
+    same: Counter[tuple[int, int]]
+    harts: Counter[tuple[int, int]]
 
-    def note(self, access):
+    def note(self, access: Access) -> None:
+        assert access.pc is not None, "the trace has pcs"
         if access.writes:
             if self.holders - {access.hart}:
                 victim = next(hart for hart in reversed(self.latest) if hart != access.hart)
@@ -83,7 +92,7 @@ class Line(NamedTuple):
         self.latest.pop(access.hart, None)
         self.latest[access.hart] = access.pc, access.addr // 4
 
-    def rows(self):
+    def rows(self) -> tuple[int, list[Pair], list[Handover]]:
         """How many takings there are, and the pairs and the harts in the order of the text."""
         pairs = ((*both, count, self.same[both]) for both, count in self.pairs.items())
         harts = ((*both, count) for both, count in self.harts.items())
@@ -94,10 +103,13 @@ class Line(NamedTuple):
         )
 
 
-def count_invalidations(accesses, size=64, shift=0):
+def count_invalidations(
+    accesses: Iterable[Access], size: int = 64, shift: int = 0
+) -> tuple[int, list[LineRow]]:
     """How many accesses there are, and each line that is taken as (base, takings, pairs, harts), in the order
     of the text."""
-    lines, count = {}, 0
+    lines: dict[int, Line] = {}
+    count = 0
     for access in accesses:
         count += 1
         base = (access.addr - shift) // size * size + shift
@@ -109,7 +121,7 @@ def count_invalidations(accesses, size=64, shift=0):
     return count, sorted(found, key=lambda row: (-row[1], row[0]))
 
 
-def blame_text(trace, size=64, shift=0):
+def blame_text(trace: bytes, size: int = 64, shift: int = 0) -> Iterator[str]:
     """The whole text, or what is said of a trace without pcs."""
     if trace[:8] in (b"PRDTRC01", b"PRDTRC02"):
         yield "predator: trace NoPcs"
@@ -129,14 +141,14 @@ def blame_text(trace, size=64, shift=0):
     yield "end"
 
 
-def parse_accesses(text):
+def parse_accesses(text: str) -> Iterator[Access]:
     """A worked list."""
     for touch in text.split(", ") if text else ():
         hart, addr, pc = touch.split()
         yield Access(int(hart[1:]), int(addr, 16), hart[0] == "W", int(pc, 16))
 
 
-def try_worked():
+def try_worked() -> int:
     """How many of the worked lists give something else."""
     wrong = 0
     for text, layout, wanted in WORKED:
@@ -148,7 +160,7 @@ def try_worked():
     return wrong
 
 
-def main(words):
+def main(words: list[str]) -> int:
     if words == ["--try"]:
         return 1 if try_worked() else 0
     options = {"--size": 64, "--shift": 0}

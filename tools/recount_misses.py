@@ -10,10 +10,14 @@ prints what `predator misses` prints."""
 
 import sys
 from bisect import bisect_left, bisect_right
+from typing import Iterable, Iterator, TypeVar
 
 from judge_report import Line, address_text, object_rows, site_names, object_table
-from traces import Alloc, Free, Symbol, read_records
+from traces import Alloc, Free, Symbol, Touch, read_records
 
+# A record that is no access, after so many accesses.
+Placed = tuple[int, Alloc | Free | Symbol]
+Own = TypeVar("Own")
 # Accesses, words of the call, and for each line its base with its cold, useful and useless misses, by what
 # docs/RULES.md says.
 WORKED = [
@@ -29,9 +33,15 @@ WORKED = [
 ]
 
 
-def count_misses(accesses, size=64, shift=0):
+def count_misses(
+    accesses: Iterable[Touch], size: int = 64, shift: int = 0
+) -> dict[int, tuple[int, ...]]:
     """Of each line its cold, useful and useless misses, in the order of the first accesses."""
-    holders, came, loaded, written, counts = {}, set(), {}, {}, {}
+    holders: dict[int, set[int]] = {}
+    came: set[tuple[int, int]] = set()
+    loaded: dict[tuple[int, int], int] = {}
+    written: dict[int, dict[int, int]] = {}
+    counts: dict[int, list[int]] = {}
     for position, (hart, addr, is_write) in enumerate(accesses):
         line, word = (addr - shift) // size, addr // 4
         own = (hart, line)
@@ -55,7 +65,7 @@ def count_misses(accesses, size=64, shift=0):
     return {base: tuple(row) for base, row in counts.items()}
 
 
-def split_accesses(trace, others):
+def split_accesses(trace: bytes, others: list[Placed]) -> Iterator[Touch]:
     """The accesses of a trace, while the other records are put to the others, each behind so many
     accesses."""
     count = 0
@@ -65,12 +75,14 @@ def split_accesses(trace, others):
         else:
             count += 1
             yield record
-    others.append((count, None))
+    others.append((count, Free(0)))
 
 
-def objects_by_line(objects, bases, size):
+def objects_by_line(
+    objects: Iterable[tuple[Symbol | Alloc, Own]], bases: list[int], size: int
+) -> dict[int, list[Own]]:
     """Of each line those objects that meet it, each given with its record, in their order; the bases rise."""
-    found = {base: [] for base in bases}
+    found: dict[int, list[Own]] = {base: [] for base in bases}
     for record, own in objects:
         for at in range(
             bisect_right(bases, record.addr - size), bisect_left(bases, record.addr + record.size)
@@ -79,31 +91,32 @@ def objects_by_line(objects, bases, size):
     return found
 
 
-def misses_text(trace, size, shift):
+def misses_text(trace: bytes, size: int, shift: int) -> Iterator[str]:
     """The whole text."""
-    others = []
+    others: list[Placed] = []
     counts = count_misses(split_accesses(trace, others), size, shift)
     end, _ = others.pop()
     rows = sorted(((-row[2], -row[1], base) for base, row in counts.items() if row[1] or row[2]))
     bases = sorted(base for _, _, base in rows)
     symbols, blocks = object_table(others)
     name_of = site_names(symbols)
-    symbols, blocks = objects_by_line([(it, it) for it in symbols], bases, size), objects_by_line(
-        [(it[0], it) for it in blocks], bases, size
-    )
+    symbols_of = objects_by_line([(it, it) for it in symbols], bases, size)
+    blocks_of = objects_by_line([(it[0], it) for it in blocks], bases, size)
     yield f"misses {size} {shift}"
     yield f"accesses {end}"
     yield f"lines {len(rows)}"
     for useless, useful, base in rows:
         yield f"line {address_text(base)} cold {counts[base][0]} useful {-useful} useless {-useless}"
-        yield from object_rows(Line(0, base, size, 0), symbols[base], blocks[base], end, name_of)
+        yield from object_rows(
+            Line(0, base, size, 0), symbols_of[base], blocks_of[base], end, name_of
+        )
     yield "total cold {} useful {} useless {}".format(
         *(sum(row[at] for row in counts.values()) for at in range(3))
     )
     yield "end"
 
 
-def try_worked():
+def try_worked() -> int:
     """How many of the worked lists give something else."""
     wrong = 0
     for text, size, wanted in WORKED:
@@ -117,7 +130,7 @@ def try_worked():
     return wrong
 
 
-def main(words):
+def main(words: list[str]) -> int:
     if words == ["--try"]:
         return 1 if try_worked() else 0
     options = {"--size": 64, "--shift": 0}

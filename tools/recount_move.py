@@ -132,7 +132,7 @@ def try_worked() -> int:
         ]
         if (printed, addrs_of) != (line, wanted and [int(it, 16) for it in wanted.split()]):
             wrong += 1
-            print(f"{text!r} over {addrs}: {printed}, {addrs_of}")
+            print(f"{text!r} over {addrs}: {printed}, {addrs_of!r}")
     print(f"{len(WORKED)} worked lists, {wrong} wrong")
     return 1 if wrong else 0
 

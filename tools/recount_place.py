@@ -10,9 +10,10 @@ prints what `predator place` prints, also where it refuses."""
 
 import re
 import sys
+from typing import Iterable, Mapping, Sequence
 
 from judge_report import address_text, printable_name
-from traces import OBJECT, Alloc, Free, Symbol, read_records
+from traces import OBJECT, Alloc, Free, Symbol, Touch, read_records
 
 # The address and size of an object, accesses, the size of a line, and by docs/RULES.md the places of its
 # words, the area and the three sums.
@@ -38,7 +39,7 @@ WORKED = [
 ]
 
 
-def find_object(name, items):
+def find_object(name: bytes, items: Iterable[object]) -> tuple[int, int] | None:
     """The address and the size of the object that a name means."""
     for item in items:
         if isinstance(item, Symbol) and item.kind == OBJECT and item.name == name:
@@ -49,9 +50,10 @@ def find_object(name, items):
     return blocks[0] if len(blocks) == 1 and blocks[0][1] else None
 
 
-def count_lines(accesses, size):
+def count_lines(accesses: Iterable[Touch], size: int) -> dict[int, int]:
     """Of each line that is written its count since its first write, by where the line begins."""
-    holders, found = {}, {}
+    holders: dict[int, set[int]] = {}
+    found: dict[int, int] = {}
     for hart, addr, is_write in accesses:
         base = addr // size * size
         held = holders.setdefault(base, set())
@@ -62,17 +64,21 @@ def count_lines(accesses, size):
     return found
 
 
-def place_words(accesses, begin, length, size):
+def place_words(
+    accesses: Iterable[Touch], begin: int, length: int, size: int
+) -> tuple[dict[int, set[int]], dict[int, int], tuple[int, int], range]:
     """Who touches each word of the object, and the place of each; with them the area and the lines of the
     words of many harts."""
     words = range(begin // 4 * 4, min(begin + length, 2**32), 4)
-    touched = {}
+    touched: dict[int, set[int]] = {}
     for hart, addr, _ in accesses:
         touched.setdefault(addr // 4 * 4, set()).add(hart)
     start = at = -(-max((word + 4 for word in touched), default=0) // size) * size
-    many, places, groups = range(0), {}, {}
+    many = range(0)
+    places: dict[int, int] = {}
+    groups: dict[int, list[int]] = {}
     for word in words:
-        harts = touched.get(word, ())
+        harts = touched.get(word, set())
         group = 257 if not harts else 256 if len(harts) > 1 else min(harts)
         groups.setdefault(group, []).append(word)
     for group in sorted(groups):
@@ -82,7 +88,9 @@ def place_words(accesses, begin, length, size):
     return touched, dict(sorted(places.items())), (start, at - start), many
 
 
-def sum_counts(accesses, places, many, size):
+def sum_counts(
+    accesses: Sequence[Touch], places: Mapping[int, int], many: range, size: int
+) -> tuple[int, int, int]:
     """What the list counts, what the moved one does, and the part of that on the lines of the words of many
     harts."""
     moved = [
@@ -97,7 +105,7 @@ def sum_counts(accesses, places, many, size):
     )
 
 
-def place_text(trace, name, size):
+def place_text(trace: bytes, name: bytes, size: int) -> list[str]:
     """The whole text, or why there is none."""
     items = list(read_records(trace))
     accesses = [it for it in items if not isinstance(it, (Symbol, Alloc, Free))]
@@ -110,7 +118,7 @@ def place_text(trace, name, size):
     owners = {
         word: "many" if len(harts) > 1 else f"hart {min(harts)}" for word, harts in touched.items()
     }
-    before, after, many = sum_counts(accesses, places, many, size)
+    before, after, rest = sum_counts(accesses, places, many, size)
     return [
         f"place {printable_name(name)} {address_text(found[0])} {found[1]} line {size}",
         f"words {len(places)}",
@@ -120,11 +128,11 @@ def place_text(trace, name, size):
             if word in owners
         ),
         f"area {address_text(area[0])} {area[1]}",
-        *(f"before {before}", f"after {after}", f"many {many}", "end"),
+        *(f"before {before}", f"after {after}", f"many {rest}", "end"),
     ]
 
 
-def try_worked():
+def try_worked() -> int:
     """How many of the worked lists give something else."""
     wrong = 0
     for (begin, length), text, size, *wanted in WORKED:
@@ -138,7 +146,7 @@ def try_worked():
     return wrong
 
 
-def main(words):
+def main(words: list[str]) -> int:
     if words == ["--try"]:
         return 1 if try_worked() else 0
     if len(words) not in (2, 4) or words[2:3] not in ([], ["--size"]):
@@ -147,7 +155,7 @@ def main(words):
     with open(words[0], "rb") as file:
         sys.stdout.writelines(
             f"{line}\n"
-            for line in place_text(file.read(), words[1].encode(), int((words[3:] or [64])[0]))
+            for line in place_text(file.read(), words[1].encode(), int((words[3:] or ["64"])[0]))
         )
     return 0
 

@@ -19,16 +19,19 @@ line, or, with --split, taken apart into such accesses from its lowest byte on."
 
 import struct
 import sys
+from typing import Iterable, Iterator, NoReturn
 
 PAGE = 4096
 MOST = 2**40
+# The hart, tag, address and size of an access.
+TaggedAccess = tuple[int, int, int, int]
 
 
-def fail(why):
+def fail(why: str) -> NoReturn:
     sys.exit(f"to_trace.py: {why}")
 
 
-def split_access(addr, size):
+def split_access(addr: int, size: int) -> Iterator[tuple[int, int]]:
     """The aligned accesses of 4, 2 or 1 bytes that an access is made of."""
     while size > 0:
         piece = 4 if addr % 4 == 0 and size >= 4 else 2 if addr % 2 == 0 and size >= 2 else 1
@@ -36,17 +39,20 @@ def split_access(addr, size):
         addr, size = addr + piece, size - piece
 
 
-def read_accesses(lines, splits):
+def read_accesses(lines: Iterable[str], splits: bool) -> tuple[list[TaggedAccess], int]:
     """The hart, tag, address and size of each access, and how many harts there are."""
-    found, harts = [], {}
+    found: list[TaggedAccess] = []
+    harts: dict[str, int] = {}
     for number, line in enumerate(lines, 1):
         words = line.split()
         if not words:
             continue
         try:
-            hart, kind, addr, size = words
-            tag, addr, size = {"R": 1, "W": 2}[kind], int(addr, 16), int(size)
-        except (ValueError, KeyError):
+            hart, kind, *numbers = words
+            tag, addr, size = {"R": 1, "W": 2}[kind], int(numbers[0], 16), int(numbers[1])
+            if len(words) != 4:
+                raise ValueError
+        except (ValueError, KeyError, IndexError):
             fail(f"line {number} is no `HART KIND ADDRESS SIZE`: {line.strip()}")
         if not 0 <= addr < addr + size <= 2**64:
             fail(f"line {number} lies outside 64 bits, or has no bytes: {line.strip()}")
@@ -61,9 +67,10 @@ def read_accesses(lines, splits):
     return found, max(len(harts), 1)
 
 
-def page_table(found):
+def page_table(found: list[TaggedAccess]) -> dict[int, int]:
     """Which page of 32 bits each page becomes. The first is page 16, at 0x10000."""
-    table, free, last = {}, 15, None
+    table: dict[int, int] = {}
+    free, last = 15, None
     for page in sorted({addr // PAGE for _, _, addr, _ in found}):
         free += 1 if last == page - 1 else 2 if last is not None else 1
         table[page], last = free, page
@@ -72,7 +79,7 @@ def page_table(found):
     return table
 
 
-def write_trace(found, harts, table, path):
+def write_trace(found: list[TaggedAccess], harts: int, table: dict[int, int], path: str) -> None:
     if len(found) > MOST:
         fail(f"{len(found)} accesses, and a trace has at most {MOST}")
     with open(path, "wb") as out:
@@ -85,17 +92,18 @@ def write_trace(found, harts, table, path):
         out.write(struct.pack("<B8xQQ", 6, 0, len(found)))
 
 
-def translate_back(path, words):
-    pages, code = {}, {}
+def translate_back(path: str, words: list[str]) -> None:
+    pages: dict[int, int] = {}
+    code: dict[int, int] = {}
     with open(path, errors="surrogateescape") as file:
         # (of a program of this machine other lines say more, and some name instructions: docs/FORMATS.md)
         for line in file:
             if line.startswith("0x"):
-                place, was = line.split()
-                pages[int(place, 16)] = int(was, 16)
+                place, former = line.split()
+                pages[int(place, 16)] = int(former, 16)
             elif line.startswith("site "):
-                _, number, was, *_ = line.split()
-                code[int(number, 16)] = int(was, 16)
+                _, number, former, *_ = line.split()
+                code[int(number, 16)] = int(former, 16)
     for word in words:
         addr = int(word, 16)
         page = pages.get(addr // PAGE * PAGE)
@@ -103,7 +111,7 @@ def translate_back(path, words):
         print(word, "is no address of the trace" if was is None else f"was {was:#x}")
 
 
-def main(words):
+def main(words: list[str]) -> None:
     if words[:1] in (["--help"], ["-h"]):
         print(__doc__)
         return

@@ -323,7 +323,8 @@ def must_find(bench: Bench, which: str) -> set[str]:
     writing, reading = {it.words[0] for it in bench.writing_cases()}, {
         case.words[0] for case in bench.cases if case.reads
     }
-    return {"writing": writing, "reading": reading, "both": writing & reading, "any": set()}[which]
+    sets = {"writing": writing, "reading": reading, "both": writing & reading}
+    return sets.get(which, set())
 
 
 def try_plants(bench: Bench) -> None:
