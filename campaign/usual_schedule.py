@@ -157,7 +157,9 @@ def renew_document(campaign: Record, observations: Observations) -> None:
         "Others",
         *COUNT_HEADS[7:],
     )
-    parts = {"usual": report.markdown_table(numbers, fold_quanta(map(with_quantum, by_lines.counts)))}
+    parts = {
+        "usual": report.markdown_table(numbers, fold_quanta(map(with_quantum, by_lines.counts)))
+    }
     objects = ("Program", "`quantum`", "Object", "Usual invalidations", "Seeds")
     for name, rows in (("worst", by_objects.worst), ("apart", by_objects.different)):
         named = [(*row[:2], f"`{row[2]}`", *row[3:]) for row in map(with_quantum, rows)]

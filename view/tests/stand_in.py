@@ -165,9 +165,7 @@ def run(names, options):
     if "--trace" in options:
         with open(options["--trace"], "wb") as file:
             pcs, trace = iter([it[4] for it in machine.accesses]), judge_report.trace_bytes(case)
-            file.write(
-                traces.add_pcs(trace, lambda *_: next(pcs)) if "--pcs" in options else trace
-            )
+            file.write(traces.add_pcs(trace, lambda *_: next(pcs)) if "--pcs" in options else trace)
     yield from judge_report.report_text(case)
 
 
@@ -243,7 +241,9 @@ def blame(names, options):
 
 
 def place(names, options):
-    lines = recount_place.place_text(read(names[0]), names[1].encode(), int(options.get("--size", 64)))
+    lines = recount_place.place_text(
+        read(names[0]), names[1].encode(), int(options.get("--size", 64))
+    )
     if lines[0].startswith("predator: "):
         raise LookupError(lines[0])
     return lines
