@@ -50,20 +50,21 @@ _predator() {
         'misses') options="--size --shift" ;;
         'blame') options="--size --shift" ;;
         'explain') options="--settings --set --schedule" ;;
-        'view') options="--top --object --words --library --predicted --no-predicted --explain --type --sources --html --json --sarif --against --fail-above --by --patch --program --back" ;;
+        'view') options="--top --object --words --library --predicted --no-predicted --explain --type --sources --html --json --json-version --sarif --against --fail-above --by --patch --program --map" ;;
         'campaign') options="--to --profile --cores --html --check" ;;
         'native') options="--built --quantum --all --marked --child --pcs --no-pcs --most --trace --table --report --settings --size --shift --mend --build" ;;
-        'view run') options="--top --object --words --library --predicted --no-predicted --explain --type --sources --html --json --sarif --against --fail-above --by --patch --latency --settings --set --schedule --trace --pcs --output" ;;
-        'view replay') options="--top --object --words --library --predicted --no-predicted --explain --type --sources --html --json --sarif --against --fail-above --by --patch --program --back --settings --set --size --shift --save --resume" ;;
+        'view run') options="--top --object --words --library --predicted --no-predicted --explain --type --sources --html --json --json-version --sarif --against --fail-above --by --patch --latency --settings --set --schedule --trace --pcs --output" ;;
+        'view replay') options="--top --object --words --library --predicted --no-predicted --explain --type --sources --html --json --json-version --sarif --against --fail-above --by --patch --program --map --settings --set --size --shift --save --resume" ;;
         'view sweep') options="--size --top --html" ;;
         'view caches') options="--shape --top --html" ;;
-        'view native') options="--top --object --words --library --predicted --no-predicted --explain --type --sources --html --json --sarif --against --fail-above --by --patch --built --quantum --all --marked --child --pcs --no-pcs --most --settings --set --size --shift" ;;
+        'view native') options="--top --object --words --library --predicted --no-predicted --explain --type --sources --html --json --json-version --sarif --against --fail-above --by --patch --built --quantum --all --marked --child --pcs --no-pcs --most --settings --set --size --shift" ;;
     # (so far)
         *) return ;;
     esac
     local known
     case $before in
-        --by) known="useless count" ;;
+        --by) known="false-sharing invalidations" ;;
+        --json-version) known="1 2" ;;
         --profile) known="slurm ssh $(compgen -d -- "$word")" ;;
         --object | --type | --top | --shape | --explain | --latency | --fail-above | --cores | --quantum | --most) known= ;;
     # commands.toml: values

@@ -136,8 +136,23 @@ def fold_quanta(rows: Iterable[Row]) -> list[Row]:
     return [(name, ", ".join(own), *rest) for (name, *rest), own in found.items()]
 
 
+def join_quanta(rows: Iterable[Row]) -> tuple[list[str], list[Row]]:
+    """A table of each program's objects, with a column for each quantum: the usual invalidations, and the
+    range over the seeds."""
+    cells: dict[Row, dict[str, str]] = {}
+    for program, quantum, name, usual, _, least, _, greatest, _ in rows:
+        own = cells.setdefault((program, f"`{name}`"), {})
+        own[quantum] = f"{usual}; {least} to {greatest}"
+    quanta = dict.fromkeys(quantum for own in cells.values() for quantum in own)
+    return (
+        ["Program", "Object", *(f"`quantum` {quantum}" for quantum in quanta)],
+        [(*key, *(own.get(quantum, "-") for quantum in quanta)) for key, own in cells.items()],
+    )
+
+
 def renew_document(campaign: Record, observations: Observations) -> None:
-    """Puts the numbers of lines, and the objects, into the tables of docs/STUDIES.md."""
+    """Puts the numbers of lines, and the objects with the most invalidations, into the tables of
+    docs/STUDIES.md."""
     # (only here, since a campaign elsewhere has no page of studies)
     sys.path.append(os.path.join(HERE, "..", "guest", "studies"))
     import report
@@ -151,19 +166,16 @@ def renew_document(campaign: Record, observations: Observations) -> None:
     numbers = (
         "Program",
         "`quantum`",
-        "Seeds",
         "Usual",
         *COUNT_HEADS[4:6],
-        "Others",
+        "Seeds alone",
         *COUNT_HEADS[7:],
     )
+    counts = [(*row[:2], *row[3:]) for row in fold_quanta(map(with_quantum, by_lines.counts))]
     parts = {
-        "usual": report.markdown_table(numbers, fold_quanta(map(with_quantum, by_lines.counts)))
+        "usual": report.markdown_table(numbers, counts),
+        "worst": report.markdown_table(*join_quanta(map(with_quantum, by_objects.worst))),
     }
-    objects = ("Program", "`quantum`", "Object", "Usual invalidations", "Seeds")
-    for name, rows in (("worst", by_objects.worst), ("apart", by_objects.different)):
-        named = [(*row[:2], f"`{row[2]}`", *row[3:]) for row in map(with_quantum, rows)]
-        parts[name] = report.markdown_table((*objects, "min", "median", "max", "Worst seed"), named)
     report.renew_document(parts)
 
 

@@ -57,7 +57,7 @@ cp "$work/packages/"*.deb "$system/root/predator.deb"
 share=/usr/share/predator
 try "the version" 0 "came with the release" "predator --version"
 try "the report" 0 "count 4007" "predator run $share/guest/built/counters.elf"
-try "the view" 0 "counters.c:13 (count) takes the line" "predator view run $share/guest/built/counters.elf"
+try "the view" 0 "counters.c:13 (count) invalidates counters.c:13 (count)" "predator view run $share/guest/built/counters.elf"
 try "the picture" 0 "counters" "predator view run $share/guest/built/counters.elf --html page.html && grep -c counters page.html && cat page.html"
 try "a guest's build" 0 "count" "cp $share/guest/examples/counters.c . && $share/guest/build.sh my.elf counters.c && predator run my.elf"
 try "the recorders, before they are built" 126 "predator native --build" "predator native -- /bin/true"

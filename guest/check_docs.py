@@ -1,13 +1,12 @@
 #!/usr/bin/env python3
-"""Runs the commands of the documents and compares what they print with what stands there: check_docs.py
-[--renew] [FILE ..].
+"""Runs the commands of the documents and compares their output with the documents: check_docs.py [--renew]
+[FILE ..].
 
-A command is an indented line that begins with `$ `, and what it is to print are the lines of the same block
-behind it. All commands of a document run in one folder, which has what stands at the top of the repository. A
-command that lacks a tool of this machine (named in brackets behind `#`, as `# [valgrind]`; `# [view]` wants
-the packages of view/) is left out. In the manual page commands stand between .nf and .fi. --renew puts what
-was printed into the documents, to be read through before it is committed. It ends with 1 if anything
-differs."""
+A command is an indented line that begins with `$ `, and the lines of the same block after it are its output;
+a blank line may be part of a block. All commands of a document run in one folder, which has the folders of
+the repository. A command that needs something that this machine lacks (NEEDS) is left out. In the manual page
+commands stand between .nf and .fi. --renew writes the output into the documents, to be read before it is
+committed. The status is 1 if anything differs."""
 
 import os
 import re
@@ -29,6 +28,19 @@ FILES = [
 ]
 BLOCK = "    "
 MANUAL = "docs/predator.1"
+# What commands need, by a pattern that they contain: tools of this machine, `view` for the packages of view/,
+# and `recorders` for what `predator native --build` builds.
+NEEDS = {
+    r"\bpredator view ": ["view"],
+    r"\bpredator (native|view) (-- )?\./": ["recorders"],
+    r"\bpredator campaign |\bfirst\.campaign/": ["snakemake"],
+    r"\bguest/build\.sh ": ["clang", "ld.lld"],
+    r"\bllvm-symbolizer ": ["llvm-symbolizer"],
+    r"\bgcc ": ["gcc"],
+}
+# Commands whose numbers aren't compared, nor where their lines end: the compiler and the C library of this
+# machine decide them.
+NATIVE = r"\bpredator (native|view) (-- )?\./"
 
 
 def run(command, work):
@@ -43,14 +55,50 @@ def run(command, work):
 
 
 def is_installed(tool):
-    """Whether a tool is installed; of `view` whether its packages are."""
-    if tool != "view":
+    """Whether a tool is installed; of `view` whether its packages are, of `recorders` whether they are
+    built."""
+    probes = {
+        "view": ["/usr/bin/python3", "-c", "import elftools, jinja2"],
+        "recorders": [
+            os.path.join(TOP, "bin/predator"),
+            "native",
+            "--report",
+            os.devnull,
+            "--",
+            "true",
+        ],
+    }
+    if tool not in probes:
         return shutil.which(tool) is not None
-    wants = ["/usr/bin/python3", "-c", "import elftools, jinja2"]
-    return (
-        shutil.which("llvm-symbolizer") is not None
-        and subprocess.run(wants, stderr=subprocess.DEVNULL).returncode == 0
-    )
+    quiet = {"stdout": subprocess.DEVNULL, "stderr": subprocess.DEVNULL}
+    ends_well = subprocess.run(probes[tool], **quiet).returncode == 0
+    return ends_well and (tool != "view" or is_installed("llvm-symbolizer"))
+
+
+def missing(command):
+    """What a command needs and this machine lacks."""
+    needs = [it for pattern, tools in NEEDS.items() if re.search(pattern, command) for it in tools]
+    return [it for it in needs if not is_installed(it)]
+
+
+def is_output(command, made, wanted):
+    """Whether lines are the output that a document has for a command."""
+    if not re.search(NATIVE, command):
+        return made == wanted
+    texts = [" ".join(" ".join(it).split()) for it in (made, wanted)]
+    return len({re.sub(r"0x[0-9a-f]+|[0-9][0-9,.]*", "N", it) for it in texts}) == 1
+
+
+def block_at(lines, at):
+    """The lines of a block from a line on, up to its next command, without their indent."""
+    found = []
+    for line in lines[at:]:
+        if line and (not line.startswith(BLOCK) or line.startswith(f"{BLOCK}$ ")):
+            break
+        found.append(line[len(BLOCK) :])
+    while found and not found[-1]:
+        found.pop()
+    return found
 
 
 def check_document(name, renew):
@@ -66,21 +114,16 @@ def check_document(name, renew):
             out.append(line)
             if not line.startswith(f"{BLOCK}$ "):
                 continue
-            command, wanted = line[len(BLOCK) + 2 :], []
-            while (
-                at < len(lines)
-                and lines[at].startswith(BLOCK)
-                and not lines[at].startswith(f"{BLOCK}$ ")
-            ):
-                wanted.append(lines[at][len(BLOCK) :])
-                at += 1
-            lacks = [it for it in re.findall(r"# \[(\w[\w-]*)\]", command) if not is_installed(it)]
+            command, wanted = line[len(BLOCK) + 2 :], block_at(lines, at)
+            at += len(wanted)
+            lacks = missing(command)
             made = wanted if lacks else run(command, work)
             tried += not lacks
-            if made != wanted:
+            if not is_output(command, made, wanted):
                 wrong += 1
                 print(f"{name}: $ {command}", *made, sep="\n  ")
-            out += [(BLOCK + it).rstrip() for it in (made if renew else wanted)]
+                wanted = made if renew else wanted
+            out += [(BLOCK + it).rstrip() for it in wanted]
     if renew:
         with open(os.path.join(TOP, name), "w") as file:
             file.write("\n".join(out))

@@ -18,46 +18,27 @@ trap 'rm -rf "$work"' EXIT
 cd "$work" || exit 1
 export XDG_CACHE_HOME=$work/cache
 unset KIT ARGUMENTS PAGE PICOLIBC PLAIN
-passed=0 failed=0 skipped=0
-
-pass() { passed=$((passed + 1)); }
-
-wrong() {
-    failed=$((failed + 1))
-    echo "$1:"
-    [ -z "${2:-}" ] || head -n 8 "$2"
-}
-
-skip() {
-    skipped=$((skipped + $1))
-    echo "skipped, $1: $2"
-}
+# shellcheck source=../tools/checks.bash
+. "$here/../tools/checks.bash"
 
 # builds WHAT COMMAND ..: the command ends with 0 and says nothing. What it printed stands in `out`.
 builds() {
     local what=$1
     shift
-    if "$@" >out 2>said </dev/null && [ ! -s said ]; then pass; else wrong "$what: not built, or not silently" said; fi
+    if "$@" >out 2>err </dev/null && [ ! -s err ]; then pass_check; else fail_check "$what: not built, or not silently" err; fi
 }
 
 # refuses WHAT REASON COMMAND ..: the command fails, and says the reason, a fixed text.
 refuses() {
     local what=$1 reason=$2
     shift 2
-    if "$@" >out 2>said </dev/null; then
-        wrong "$what: not refused"
-    elif grep -q -F -e "$reason" said; then
-        pass
+    if "$@" >out 2>err </dev/null; then
+        fail_check "$what: not refused"
+    elif grep -q -F -e "$reason" err; then
+        pass_check
     else
-        wrong "$what: refused, and not by '$reason'" said
+        fail_check "$what: refused, and not by '$reason'" err
     fi
-}
-
-# is WHAT COMMAND ..: the command ends with 0.
-is() {
-    local what=$1
-    shift
-    if "$@" >out 2>said </dev/null; then pass; else wrong "$what" said; fi
 }
 
 # What is loaded of a program, its segments, and its symbols that have a name.
@@ -69,7 +50,7 @@ same() { [ "$(loaded "$1")" = "$(loaded "$2")" ]; }
 
 for tool in clang ld.lld llvm-readelf llvm-objcopy llvm-dwarfdump llvm-ar llvm-strings llvm-symbolizer; do
     if ! command -v "$tool" >/dev/null; then
-        skip 1 "all of it wants $tool (Debian: clang, lld, llvm)"
+        skip_checks 1 "all of it wants $tool (Debian: clang, lld, llvm)"
         echo "0 passed, 0 failed, 1 skipped"
         exit 0
     fi
@@ -91,14 +72,14 @@ grep -v '^ *#' "$here/studies/builds.txt" | while read -r name rest; do
         echo "$name $rest"
     fi
 done >$kit/studies/builds.txt
-is "the examples" $kit/build.sh examples
-is "the studies" $kit/build.sh studies
+expect_success "the examples" $kit/build.sh examples
+expect_success "the studies" $kit/build.sh studies
 for it in $(cd "$here/built" && git ls-files '*.elf'); do
     case $it in
-        linked.elf) command -v riscv64-unknown-elf-ld >/dev/null || { skip 1 "linked.elf wants riscv64-unknown-elf-ld"; continue; } ;;
-        as_is.elf | atomics.elf | studies/*) [ -n "$has_library" ] || { skip 1 "$it wants picolibc"; continue; } ;;
+        linked.elf) command -v riscv64-unknown-elf-ld >/dev/null || { skip_checks 1 "linked.elf wants riscv64-unknown-elf-ld"; continue; } ;;
+        as_is.elf | atomics.elf | studies/*) [ -n "$has_library" ] || { skip_checks 1 "$it wants picolibc"; continue; } ;;
     esac
-    is "$it isn't built as it stands in built/" same "$here/built/$it" "$kit/built/$it"
+    expect_success "$it isn't built as it stands in built/" same "$here/built/$it" "$kit/built/$it"
 done
 
 # ---- small programs
@@ -109,14 +90,14 @@ struct pair { int one, other; } pair;
 int main(void) { pair.one = 3; print_number((unsigned)pair.one); return 0; }
 C
 builds "a small program" "$build" small.elf small.c
-is "types of a default build" grep -q DW_TAG_structure_type <(llvm-dwarfdump small.elf)
+expect_success "types of a default build" grep -q DW_TAG_structure_type <(llvm-dwarfdump small.elf)
 builds "a small program without debug information" "$build" bare.elf small.c -- -g0
-is "what is loaded with debug information and without" same small.elf bare.elf
+expect_success "what is loaded with debug information and without" same small.elf bare.elf
 refuses "no source" "build.sh OUT.elf" "$build" small.elf
 refuses "a source that isn't there" "nowhere.c" "$build" small.elf nowhere.c
 echo 'int main(void) { return one; }' >wrong.c
 refuses "a source that is wrong" "wrong.c:1:25: error: use of undeclared identifier 'one'" "$build" wrong.elf wrong.c
-is "no program then" test ! -e wrong.elf
+expect_success "no program then" test ! -e wrong.elf
 cat >threads.c <<'C'
 #include <threads.h>
 static int run(void *unused) { return unused == NULL; }
@@ -135,7 +116,7 @@ refuses "the driver without a C library" "there is no picolibc" env PICOLIBC=/no
 words_are() {
     local text=$1 wanted=$2 got
     got=$(bash -c 'self=kit.sh here=$1; . "$here/common.bash"; part_words "$2" && echo "${words[*]}"' all "$here" "$text")
-    if [ "$got" = "$wanted" ]; then pass; else wrong "ARGUMENTS=$text gives $got and not $wanted"; fi
+    if [ "$got" = "$wanted" ]; then pass_check; else fail_check "ARGUMENTS=$text gives $got and not $wanted"; fi
 }
 words_are '' ''
 words_are '   ' ''
@@ -153,9 +134,9 @@ refuses "an open quote" "has a \" that isn't closed" env ARGUMENTS='4 "a' "$cc" 
 refuses "another open quote" "has a ' that isn't closed" env ARGUMENTS="it's" "$cc" puts.c
 
 if [ -z "$has_library" ]; then
-    skip 1 "what is built over the C library wants picolibc (Debian: picolibc-riscv64-unknown-elf)"
-    echo "$passed passed, $failed failed, $skipped skipped"
-    exit $((failed > 0))
+    skip_checks 1 "what is built over the C library wants picolibc (Debian: picolibc-riscv64-unknown-elf)"
+    finish_checks
+    exit
 fi
 
 # ---- what can't be had: refused where it is called, and there alone
@@ -199,9 +180,9 @@ calls "void" >cannot.c
 calls "static inline void" >can.c
 for level in -O0 -O1 -O2 -Os; do
     refuses "calls that can't be had, $level" "declared with 'error' attribute" "$cc" -w -ferror-limit=0 $level -c cannot.c -o cannot.o
-    cp said said.$level
+    cp err err.$level
     while IFS='|' read -r call reason; do
-        is "$call, $level, is refused otherwise" grep -q -F "call to ${call%%(*} declared with 'error' attribute: $reason" said.$level
+        expect_success "$call, $level, is refused otherwise" grep -q -F "call to ${call%%(*} declared with 'error' attribute: $reason" err.$level
     done <cannot.txt
     builds "the same where nobody calls it, $level" "$cc" -w $level can.c -o can.elf
     builds "the same, refused at run time, $level" "$cc" -w $level -DPREDATOR_REFUSE_AT_RUN cannot.c -o can.elf
@@ -243,9 +224,9 @@ wanted=$({ echo "$names" && grep -v '^#' "$here/clib/missing.txt" | tr -s ' ' '\
     printf '};\nint main(int count, char **words) { (void)words; return all[count] == 0; }\n'
 } >linker.c
 refuses "all names, by the linker" "can't be had" "$cc" -w -fno-builtin linker.c -o linker.elf -Wl,--error-limit=0
-cp said linker.said
+cp err linker.err
 for it in $wanted; do
-    is "$it has no reason where the linker lacks it" grep -q "error: '$it' can't be had: " linker.said
+    expect_success "$it has no reason where the linker lacks it" grep -q "error: '$it' can't be had: " linker.err
 done
 cat >address.c <<'C'
 #include <stdio.h>
@@ -265,12 +246,12 @@ headers_by() {
     shift 2
     for first in $headers; do
         { for it in $first $headers; do echo "#include <$it>"; done; } >first.c
-        if ! "$compiler" -fsyntax-only -Wall -Werror "$@" first.c 2>said; then
-            wrong "$first, and then all headers, as $what" said
+        if ! "$compiler" -fsyntax-only -Wall -Werror "$@" first.c 2>err; then
+            fail_check "$first, and then all headers, as $what" err
             return
         fi
     done
-    pass
+    pass_check
 }
 headers_by "C" "$cc"
 headers_by "strict C99" "$cc" -std=c99 -pedantic -U_DEFAULT_SOURCE -D_POSIX_C_SOURCE=200809L -D_XOPEN_SOURCE=700
@@ -305,9 +286,9 @@ mkdir "a folder"
 cp add.c "a folder/an add.c"
 builds "a program in one call" "$cc" main.c add.c -o one.elf
 builds "the same again" "$cc" main.c add.c -o again.elf
-is "the same bytes" cmp one.elf again.elf
+expect_success "the same bytes" cmp one.elf again.elf
 builds "an object" "$cc" -c main.c
-is "an object by its name" test -s main.o
+expect_success "an object by its name" test -s main.o
 builds "an object of a name with a space" "$cc" -c "a folder/an add.c" -o "a folder/an add.o"
 builds "objects linked" "$cc" main.o "a folder/an add.o" -o linked.elf
 builds "an archive by ar" ar rcs liboften.a "a folder/an add.o"
@@ -316,32 +297,32 @@ rm liboften.a
 builds "an archive by llvm-ar" llvm-ar rcs liboften.a "a folder/an add.o"
 there=(-lpthread -lm -lrt -lc -latomic -lgcc)
 builds "linked with llvm-ar's archive, and what is there in any case" "$cc" -pthread main.o -L. -loften "${there[@]}" -o archive.elf
-is "the same program, however it was linked" same linked.elf archive.elf
+expect_success "the same program, however it was linked" same linked.elf archive.elf
 builds "no output's name" "$cc" main.c add.c
-is "a.out" test -s a.out
+expect_success "a.out" test -s a.out
 builds "an output's name behind -o" "$cc" main.c add.c -oanother.elf
-is "another.elf" test -s another.elf
+expect_success "another.elf" test -s another.elf
 printf -- '-O1\nmain.c "a folder/an add.c"\n-o response.elf\n' >words
 builds "a file of words" "$cc" @words
-is "response.elf" test -s response.elf
+expect_success "response.elf" test -s response.elf
 printf -- '-c main.c\n-o response.o\n' >words
 builds "a file of words that don't link" "$cc" @words
-is "a source from standard input" bash -c 'echo "int main(void) { return 0; }" | "$0" -x c - -o from.elf && test -s from.elf' "$cc"
+expect_success "a source from standard input" bash -c 'echo "int main(void) { return 0; }" | "$0" -x c - -o from.elf && test -s from.elf' "$cc"
 builds "preprocessed" "$cc" -E main.c -o main.i
 builds "assembled" "$cc" -S main.c -o main.s
 builds "from assembly" "$cc" main.s add.c -o s.elf
 builds "position independent" "$cc" -fPIC -fPIE -pie main.c add.c -o pic.elf
 builds "another optimisation and no debug information" "$cc" -O0 -g0 main.c add.c -o o0.elf
-is "no debug information of the source then" bash -c '! llvm-dwarfdump "$0" | grep -q main.c' o0.elf
+expect_success "no debug information of the source then" bash -c '! llvm-dwarfdump "$0" | grep -q main.c' o0.elf
 builds "joined objects" "$cc" -r main.o "a folder/an add.o" -o joined.o
 builds "linked from joined objects" "$cc" joined.o -o joined.elf
 printf '.globl _start\n_start:\n li a7, 94\n ecall\n' >start.s
 builds "without the kit" "$cc" -nostdlib start.s -o nostdlib.elf
 builds "for Linux too" env PAGE=4096 "$cc" main.c add.c -o page.elf
 for it in --version -v -dumpmachine -print-search-dirs; do
-    is "$it" "$cc" $it
+    expect_success "$it" "$cc" $it
 done
-is "the machine" grep -q riscv32 <("$cc" -dumpmachine)
+expect_success "the machine" grep -q riscv32 <("$cc" -dumpmachine)
 refuses "no word" "no input files" "$cc"
 refuses "no such file" "no such file or directory: 'nowhere.c'" "$cc" nowhere.c
 refuses "an error in a source" "main.c" "$cc" -Dprintf=1= main.c
@@ -350,41 +331,41 @@ refuses "a shared library" "there are no shared libraries" "$cc" -shared main.c 
 refuses "another machine's object" "incompatible" bash -c 'clang -c add.c -o x86.o && "$0" main.c x86.o' "$cc"
 refuses "no place to write" "nowhere/x.elf" "$cc" main.c add.c -o nowhere/x.elf
 refuses "no place to keep the kit" "can't be written" env XDG_CACHE_HOME=/dev/null "$cc" main.c add.c
-is "one kit is kept" test "$(find "$XDG_CACHE_HOME/predator/guest" -mindepth 1 -maxdepth 1 | wc -l)" = 1
+expect_success "one kit is kept" test "$(find "$XDG_CACHE_HOME/predator/guest" -mindepth 1 -maxdepth 1 | wc -l)" = 1
 ln -s "$cc" linked-cc
 ln -s "$cxx" linked-c++
 builds "through a link" ./linked-cc main.c add.c -o link.elf
-is "the same through a link" same one.elf link.elf
-is "two first calls at once" bash -c 'export XDG_CACHE_HOME=$PWD/two
+expect_success "the same through a link" same one.elf link.elf
+expect_success "two first calls at once" bash -c 'export XDG_CACHE_HOME=$PWD/two
     "$0" main.c add.c -o 1.elf & one=$!
     "$0" main.c add.c -o 2.elf && wait "$one" && cmp 1.elf 2.elf &&
         test "$(find two/predator/guest -mindepth 1 -maxdepth 1 | wc -l)" = 1' "$cc"
 builds "words of main" env ARGUMENTS='4 "in the.txt"' "$cc" main.c add.c -o words.elf
 builds "words of main, by build.sh" env ARGUMENTS='4 "in the.txt"' "$build" words2.elf main.c add.c
-is "the words are there" bash -c 'for it; do llvm-strings "$it" | grep -x -q "in the.txt" || exit; done' all words.elf words2.elf
+expect_success "the words are there" bash -c 'for it; do llvm-strings "$it" | grep -x -q "in the.txt" || exit; done' all words.elf words2.elf
 builds "by build.sh" "$build" built.elf main.c add.c
 
 # ---- other words of main, in a copy
 
-is "other words, and what was left" "$here/words.py" words.elf other.elf a "b c" ""
-is "the file of the words is as it was" bash -c 'llvm-strings words.elf | grep -x -q "in the.txt"'
-is "the copy differs in its room alone" bash -c 'test "$(cmp -l words.elf other.elf | wc -l)" -le 4096'
+expect_success "other words, and what was left" "$here/words.py" words.elf other.elf a "b c" ""
+expect_success "the file of the words is as it was" bash -c 'llvm-strings words.elf | grep -x -q "in the.txt"'
+expect_success "the copy differs in its room alone" bash -c 'test "$(cmp -l words.elf other.elf | wc -l)" -le 4096'
 refuses "words of a program without a C library" "there is no room for words of its own" "$here/words.py" small.elf x.elf a
 refuses "words of one that is plain" "there is no room for words of its own" "$here/words.py" $kit/built/as_is.elf x.elf a
 PLAIN=yes "$build" plain.elf main.c add.c
 refuses "words of one that was built plain" "there is no room for words of its own" "$here/words.py" plain.elf x.elf a
 refuses "too many words" "its words take more than 4096 bytes" "$here/words.py" words.elf x.elf "$(printf 'x%.0s' {1..4080})"
-is "no copy then" test ! -e x.elf
+expect_success "no copy then" test ! -e x.elf
 # (4096 bytes: the count, two places, the null, "program" and the word, each with its 0)
-is "as many as there is room for" "$here/words.py" words.elf full.elf "$(printf 'x%.0s' {1..4071})"
+expect_success "as many as there is room for" "$here/words.py" words.elf full.elf "$(printf 'x%.0s' {1..4071})"
 refuses "one more byte" "its words take more than 4096 bytes" "$here/words.py" words.elf x.elf "$(printf 'x%.0s' {1..4072})"
 for it in main.c nowhere.elf /dev/null; do
-    "$here/words.py" $it x.elf a >out 2>said
-    is "$it is left to the program" test $? = 3
+    "$here/words.py" $it x.elf a >out 2>err
+    expect_success "$it is left to the program" test $? = 3
 done
 head -c 3000 words.elf >short.elf
-"$here/words.py" short.elf x.elf a >out 2>said
-is "a part of a program is left to the program" test $? = 3
+"$here/words.py" short.elf x.elf a >out 2>err
+expect_success "a part of a program is left to the program" test $? = 3
 
 # ---- C++
 
@@ -464,11 +445,11 @@ target_link_libraries(tried often Threads::Threads m)
 add_executable(plus plus.cc)
 target_link_libraries(plus Threads::Threads)
 C
-    is "CMake's first step" cmake -S project -B cmake -DCMAKE_TOOLCHAIN_FILE="$here/toolchain.cmake"
-    is "CMake's second step" cmake --build cmake
-    is "what CMake built" llvm-readelf -h cmake/tried cmake/plus
+    expect_success "CMake's first step" cmake -S project -B cmake -DCMAKE_TOOLCHAIN_FILE="$here/toolchain.cmake"
+    expect_success "CMake's second step" cmake --build cmake
+    expect_success "what CMake built" llvm-readelf -h cmake/tried cmake/plus
 else
-    skip 3 "CMake isn't there (Debian: cmake, make)"
+    skip_checks 3 "CMake isn't there (Debian: cmake, make)"
 fi
 
 # ---- more threads than harts
@@ -491,8 +472,8 @@ C
 builds "many threads" "$build" many.elf many.c
 builds "many threads, by the driver" "$cc" many.c -o many2.elf
 builds "many threads without a C library" env PICOLIBC=/nowhere "$build" few.elf threads.c
-is "the text is there" grep -q "harts is in use" many.elf many2.elf few.elf
-is "no text in the examples" bash -c '! grep -q "harts is in use" "$@"' all $kit/built/as_is.elf $kit/built/atomics.elf
+expect_success "the text is there" grep -q "harts is in use" many.elf many2.elf few.elf
+expect_success "no text in the examples" bash -c '! grep -q "harts is in use" "$@"' all $kit/built/as_is.elf $kit/built/atomics.elf
 
 # ---- what they do, where the built program is there
 
@@ -501,14 +482,14 @@ runs() {
     local what=$1 elf=$2 code=$3 line=$4
     shift 4
     : >put
-    if ! "$predator" run "$elf" "$@" --output put >report 2>said; then
-        wrong "$what: predator ended so" said
+    if ! "$predator" run "$elf" "$@" --output put >report 2>err; then
+        fail_check "$what: predator ended so" err
     elif ! grep -q -x "outcome exit $code" report; then
-        wrong "$what: $(grep ^outcome report), and not exit $code" put
+        fail_check "$what: $(grep ^outcome report), and not exit $code" put
     elif [ -n "$line" ] && ! grep -q -x -F -e "$line" put; then
-        wrong "$what: no line '$line'" put
+        fail_check "$what: no line '$line'" put
     else
-        pass
+        pass_check
     fi
 }
 if [ -x "$predator" ]; then
@@ -517,8 +498,8 @@ if [ -x "$predator" ]; then
     runs "many threads, by the driver" many2.elf 134 "$told"
     echo "harts = 21" >settings
     : >put
-    is "enough harts" "$predator" run many.elf --settings settings --output put
-    is "nothing is told then" test ! -s put
+    expect_success "enough harts" "$predator" run many.elf --settings settings --output put
+    expect_success "nothing is told then" test ! -s put
     echo "harts = 200" >settings
     sed 's/20/250/' many.c >more.c
     "$cc" more.c -o more.elf
@@ -532,16 +513,16 @@ if [ -x "$predator" ]; then
     mkdir copies
     launched=(env TMPDIR="$work/copies" PREDATOR_PROGRAM="$predator" "$here/../bin/predator" run)
     runs "other words of main" other.elf 0 "[b c]"
-    is "an empty word too" grep -q -x -F "[]" put
-    is "words of main at run time" "${launched[@]}" words.elf --output put -- 1 "two words" --output
-    is "all of them, and no other" cmp put <(printf '6 2.000\n[1]\n[two words]\n[--output]\n')
-    is "none at run time" "${launched[@]}" words.elf --output put --
-    is "those that it was built with then" grep -q -x -F "[in the.txt]" put
-    is "its name behind --" "${launched[@]}" --output put -- words.elf
+    expect_success "an empty word too" grep -q -x -F "[]" put
+    expect_success "words of main at run time" "${launched[@]}" words.elf --output put -- 1 "two words" --output
+    expect_success "all of them, and no other" cmp put <(printf '6 2.000\n[1]\n[two words]\n[--output]\n')
+    expect_success "none at run time" "${launched[@]}" words.elf --output put --
+    expect_success "those that it was built with then" grep -q -x -F "[in the.txt]" put
+    expect_success "its name behind --" "${launched[@]}" --output put -- words.elf
     refuses "words of a small program" "there is no room for words of its own" "${launched[@]}" small.elf -- 1
     refuses "words of no program" "nowhere.elf: No such file" "${launched[@]}" nowhere.elf -- 1
-    refuses "the program as the trace" "stays as it is" "${launched[@]}" words.elf --trace ./words.elf -- 1
-    is "no copy is left" rmdir copies
+    refuses "the program as the trace" "stays unchanged" "${launched[@]}" words.elf --trace ./words.elf -- 1
+    expect_success "no copy is left" rmdir copies
     # What a report says of blocks and of what each hart has for itself.
     cat >blocks.c <<'C'
 #include <pthread.h>
@@ -584,13 +565,13 @@ C
     "$cc" blocks.c -o blocks.elf
     echo "quantum = 3" >settings
     runs "blocks of realloc, aligned_alloc and mmap" blocks.elf 0 "" --settings settings
-    is "three blocks" test "$(wc -l <put)" = 3
+    expect_success "three blocks" test "$(wc -l <put)" = 3
     while read -r at size; do
-        is "the block of $size bytes as its user sees it" grep -q "^object block $at $size born" report
+        expect_success "the block of $size bytes as its user sees it" grep -q "^object block $at $size born" report
     done <put
     awk '/^object block/ { it = $3 " " $4; getline; if ($3 != "thread_locals") print it; else own++ } END { exit own == 0 }' report >seen
-    is "a hart's own variables have a name" test $? = 0
-    is "no other blocks" cmp <(LC_ALL=C sort -u seen) <(LC_ALL=C sort put)
+    expect_success "a hart's own variables have a name" test $? = 0
+    expect_success "no other blocks" cmp <(LC_ALL=C sort -u seen) <(LC_ALL=C sort put)
     runs "position independent" pic.elf 0 "3 1.000"
     runs "without optimisation" o0.elf 0 "3 1.000"
     runs "from joined objects" joined.elf 0 "3 1.000"
@@ -600,7 +581,7 @@ C
     "$cc" -DPREDATOR_REFUSE_AT_RUN late.c -o late.elf
     runs "what is refused at run time" late.elf 134 ""
     at=$(sed -n "s/^the call before \(0x[0-9a-f]*\) can't be had: nothing comes by itself after a time: let a thread look at the clock\$/\1/p" put)
-    is "its reason, and the place of its call" grep -q -x main <(llvm-symbolizer --obj=late.elf "$((${at:-0} - 1))")
+    expect_success "its reason, and the place of its call" grep -q -x main <(llvm-symbolizer --obj=late.elf "$((${at:-0} - 1))")
     printf '#include <time.h>\nint main(void) { struct timespec t; clock_getres(CLOCK_MONOTONIC, &t); return (int)t.tv_nsec; }\n' >step.c
     "$cc" step.c -o step.elf
     runs "the time of a step" step.elf 1 ""
@@ -612,8 +593,7 @@ C
     "$cc" polls.c -o polls.elf
     runs "poll as a wait" polls.elf 134 "poll: no file becomes ready: wait for another thread, or for a time"
 else
-    skip 38 "the built program isn't at $predator; what programs do wants it"
+    skip_checks 38 "the built program isn't at $predator; what programs do wants it"
 fi
 
-echo "$passed passed, $failed failed, $skipped skipped"
-[ "$failed" = 0 ]
+finish_checks

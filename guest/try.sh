@@ -11,77 +11,20 @@ predator=$top/bin/predator
 work=$(mktemp -d)
 trap 'rm -rf "$work"' EXIT
 cd "$work" || exit 1
-failed=0
-tried=0
-
-# try WHAT STATUS COMMAND ..: the command ends so. What it printed stands in `out`, and what it said beside it in `said`.
-try() {
-    local what=$1 wanted=$2 status
-    shift 2
-    "$@" >out 2>said </dev/null
-    status=$?
-    tried=$((tried + 1))
-    if [ "$status" != "$wanted" ]; then
-        echo "$what: status $status, and $wanted is wanted"
-        head -n 5 out said
-        failed=$((failed + 1))
-    fi
-}
-
-# prints WHAT LINE: the last command printed this line.
-prints() {
-    tried=$((tried + 1))
-    if ! grep -q -x -F -e "$2" out; then
-        echo "$1: no line '$2' in what was printed:"
-        head -n 12 out
-        failed=$((failed + 1))
-    fi
-}
-
-# says WHAT LINE: the last command said this line, behind the program's name, and no other one.
-says() {
-    tried=$((tried + 1))
-    if [ "$(cat said)" != "predator: $2" ]; then
-        echo "$1: not 'predator: $2' but:"
-        head -n 5 said
-        failed=$((failed + 1))
-    fi
-}
-
-# shows WHAT LINE ..: standard error of the last command had these lines and no more.
-shows() {
-    local what=$1
-    shift
-    tried=$((tried + 1))
-    if ! printf '%s\n' "$@" | cmp -s - said; then
-        echo "$what: not these lines on standard error: $*"
-        head -n 5 said
-        failed=$((failed + 1))
-    fi
-}
-
-quiet() {
-    tried=$((tried + 1))
-    if [ -s said ]; then
-        echo "$1: something is said beside what is printed:"
-        head -n 5 said
-        failed=$((failed + 1))
-    fi
-}
+# shellcheck source=../tools/checks.bash
+. "$top/tools/checks.bash"
 
 # same WHAT: the program that was a file of the last command is there as it was.
 same() {
-    tried=$((tried + 1))
-    cmp -s "$here/built/counters.elf" programs/counters.elf || { echo "$1: the program was lost"; failed=$((failed + 1)); }
+    if cmp -s "$here/built/counters.elf" programs/counters.elf; then pass_check; else fail_check "$1: the program was lost"; fi
     cp "$here/built/counters.elf" programs/counters.elf
 }
 
-# cannot WHAT SOURCE REASON: such a program isn't built, and why is said.
+# cannot WHAT SOURCE REASON: such a program isn't built, and the reason is printed.
 cannot() {
     echo "$2" >cannot.c
-    try "cannot $1" 1 "$here/build.sh" cannot.elf cannot.c
-    tried=$((tried + 1))
-    grep -q "declared with 'error' attribute: $3" said || { echo "cannot $1: no reason is said"; failed=$((failed + 1)); }
+    expect_status "cannot $1" 1 "$here/build.sh" cannot.elf cannot.c
+    expect_in_file "cannot $1: the reason" err "declared with 'error' attribute: $3"
 }
 
 # What the parts share: the programs, copied, and settings that list each line.
@@ -91,23 +34,23 @@ printf 'harts = 0\n' >bad
 
 try_launcher() {
     "$predator" >/dev/null 2>&1
-    try "help" 0 "$predator" --help
-    prints "help" "Usage:"
+    expect_status "help" 0 "$predator" --help
+    expect_line "help" "Usage:"
     for it in "run --help" "help run" "run p.elf -h"; do
         # (the words apart)
         # shellcheck disable=SC2086
-        try "$it" 0 "$predator" $it
-        prints "$it" "$(head -n 1 "$top/crates/worked_runs/data/usage.txt")"
+        expect_status "$it" 0 "$predator" $it
+        expect_line "$it" "$(head -n 1 "$top/crates/worked_runs/data/usage.txt")"
     done
-    try "help of two lines" 0 "$predator" caches --help
-    prints "help of two lines" "and how often it was evicted."
-    prints "help of two lines" "  --ways W       how many lines a set has room for, from 1 to 64; sets times ways is at most 4096"
-    try "help of no command" 1 "$predator" help reply
-    says "help of no command" "'reply' is no command; see predator --help"
-    try "version" 0 "$predator" --version
+    expect_status "help of two lines" 0 "$predator" caches --help
+    expect_line "help of two lines" "evictions of each line."
+    expect_line "help of two lines" "  --ways W       sets the lines in each set, from 1 to 64; sets times ways is at most 4096"
+    expect_status "help of no command" 1 "$predator" help reply
+    expect_error "help of no command" "'reply' is not a command: see predator --help"
+    expect_status "version" 0 "$predator" --version
     ln -s "$predator" linked
-    try "through a link" 0 ./linked --version
-    try "without rt, once built" 0 env PATH=/usr/bin:/bin "$predator" check "$here/built/counters.elf"
+    expect_status "through a link" 0 ./linked --version
+    expect_status "without rt, once built" 0 env PATH=/usr/bin:/bin "$predator" check "$here/built/counters.elf"
 }
 
 # completes WANTED WORD ..: what bash is offered for the last word.
@@ -115,8 +58,7 @@ completes() {
     local wanted=$1 got
     shift
     got=$(bash -c '. "$0/bin/predator.bash"; COMP_WORDS=(predator "$@"); COMP_CWORD=$#; _predator; echo "${COMPREPLY[*]}"' "$top" "$@")
-    tried=$((tried + 1))
-    [ "$got" = "$wanted" ] || { echo "completion of '$*': '$got', and not '$wanted'"; failed=$((failed + 1)); }
+    expect_equal "completion of '$*'" "$wanted" "$got"
 }
 
 try_completion() {
@@ -128,13 +70,13 @@ try_completion() {
     completes "--sources --sarif --settings --set --schedule" view run p --s
     completes "--sources --sarif --settings --set --size --shift --save" view replay t --s
     completes "--sources --sarif --settings --set --size --shift" view native p --s
-    completes "" view run p --ba
+    completes "" view run p --ma
     completes "--sources --sarif --settings --set --schedule" view "$here/built/counters.elf" --s
-    completes "--back" view r --ba
+    completes "--map" view r --ma
     completes "--size --top --html --help" view sweep t --
     completes "--shape --top --html --help" view caches t --
-    completes "--back" view replay t --ba
-    completes "useless count" view run p --fail-above 3 --by ""
+    completes "--map" view replay t --ma
+    completes "false-sharing invalidations" view run p --fail-above 3 --by ""
     completes "run" view ru
     completes "--cores --check" campaign p.yaml --c
     completes "--trace --table" native --t
@@ -143,150 +85,151 @@ try_completion() {
 }
 
 try_commands() {
-    try "counters" 0 "$predator" run "$here/built/counters.elf"
-    shows "counters" "sum 80000"
-    prints "counters" "outcome exit 0"
-    prints "counters" "accesses 160042"
-    tried=$((tried + 1))
-    grep -q "^line observed 0x00011000 64 start 41 count 4007" out || { echo "counters: another line"; failed=$((failed + 1)); }
-    try "apart" 0 "$predator" run programs/apart.elf
-    prints "apart" "lines 0"
-    try "a trace" 0 "$predator" run programs/counters.elf --trace t --output o
-    try "the output" 0 grep -x "sum 80000" o
-    try "a replay" 0 "$predator" replay t
-    try "a replay under words" 0 "$predator" replay t --size 4
-    prints "a replay under words" "lines 0"
-    try "a conversion" 0 "$predator" convert t converted
-    prints "a conversion" "convert 2 160042"
-    try "a conversion back" 0 "$predator" convert converted back
-    try "the first trace again" 0 cmp t back
-    try "a cut" 0 "$predator" split t 100000 before behind
-    prints "a cut" "split 100000 60042"
-    try "a half over its trace" 8 "$predator" split t 100000 other ./t
-    try "the trace, still there" 0 cmp t back
-    try "takings" 0 "$predator" explain programs/counters.elf 0x00011000 64 41
-    quiet "takings"
-    prints "takings" "line 0x00011000 64 start 41 count 4007"
-    try "takings of all lines" 0 bash -c '"$0" run programs/counters.elf --trace sited --pcs --output o >/dev/null && "$0" blame sited' "$predator"
-    prints "takings of all lines" "line 0x00011000 takings 4007 pairs 4 harts 10"
-    try "no pcs" 5 "$predator" blame t
-    prints "no pcs" "predator: trace NoPcs"
-    try "misses" 0 "$predator" misses t
-    prints "misses" "line 0x00011000 cold 8 useful 1 useless 4000"
-    try "a sweep" 0 "$predator" sweep t --size 64
-    prints "a sweep" "sweep 64"
-    try "caches of a shape" 0 "$predator" caches t --size 64 --sets 64 --ways 8
-    prints "caches of a shape" "caches 64 64 8"
-    try "new places" 0 "$predator" place t counters
-    prints "new places" "place counters 0x00011000 32 line 64"
-    try "a summary" 0 "$predator" check programs/counters.elf
-    prints "a summary" "entry 0x00010000"
+    expect_status "counters" 0 "$predator" run "$here/built/counters.elf"
+    expect_error_lines "counters" "sum 80000"
+    expect_line "counters" "outcome exit 0"
+    expect_line "counters" "accesses 160042"
+    expect_in_file "counters" out "line observed 0x00011000 64 start 41 count 4007"
+    expect_status "apart" 0 "$predator" run programs/apart.elf
+    expect_line "apart" "lines 0"
+    expect_status "a trace" 0 "$predator" run programs/counters.elf --trace t --output o
+    expect_status "the output" 0 grep -x "sum 80000" o
+    expect_status "a replay" 0 "$predator" replay t
+    expect_status "a replay under words" 0 "$predator" replay t --size 4
+    expect_line "a replay under words" "lines 0"
+    expect_status "a conversion" 0 "$predator" convert t converted
+    expect_line "a conversion" "convert 2 160042"
+    expect_status "a conversion back" 0 "$predator" convert converted back
+    expect_status "the first trace again" 0 cmp t back
+    expect_status "a cut" 0 "$predator" split t 100000 before behind
+    expect_line "a cut" "split 100000 60042"
+    expect_status "a half over its trace" 8 "$predator" split t 100000 other ./t
+    expect_status "the trace, still there" 0 cmp t back
+    expect_status "takings" 0 "$predator" explain programs/counters.elf 0x00011000 64 41
+    expect_silent "takings"
+    expect_line "takings" "line 0x00011000 64 start 41 count 4007"
+    expect_status "takings of all lines" 0 bash -c '"$0" run programs/counters.elf --trace sited --pcs --output o >/dev/null && "$0" blame sited' "$predator"
+    expect_line "takings of all lines" "line 0x00011000 takings 4007 pairs 4 harts 10"
+    expect_status "no pcs" 5 "$predator" blame t
+    expect_line "no pcs" "predator: trace NoPcs"
+    expect_status "misses" 0 "$predator" misses t
+    expect_line "misses" "line 0x00011000 cold 8 useful 1 useless 4000"
+    expect_status "a sweep" 0 "$predator" sweep t --size 64
+    expect_line "a sweep" "sweep 64"
+    expect_status "caches of a shape" 0 "$predator" caches t --size 64 --sets 64 --ways 8
+    expect_line "caches of a shape" "caches 64 64 8"
+    expect_status "new places" 0 "$predator" place t counters
+    expect_line "new places" "place counters 0x00011000 32 line 64"
+    expect_status "a summary" 0 "$predator" check programs/counters.elf
+    expect_line "a summary" "entry 0x00010000"
 }
 
 try_refusals() {
-    try "no words" 1 "$predator"
-    try "a wrong word" 1 "$predator" run programs/counters.elf --fast
-    says "a wrong word" "unexpected argument '--fast' found"
-    try "no program" 2 "$predator" run settings
+    expect_status "no words" 1 "$predator"
+    expect_status "a wrong word" 1 "$predator" run programs/counters.elf --fast
+    expect_error "a wrong word" "unexpected argument '--fast' found"
+    expect_status "no program" 2 "$predator" run settings
     printf '9 1\n' >schedule
-    try "no schedule" 3 "$predator" run programs/counters.elf --schedule schedule
-    try "bad settings" 4 "$predator" run programs/counters.elf --settings bad
-    says "bad settings" "bad: \`harts\` is a whole number from 1 to 256"
-    try "no trace" 5 "$predator" replay settings
-    try "no object" 13 "$predator" place t missing
-    prints "no object" "predator: place NoObject"
-    try "a missing file" 7 "$predator" replay missing
-    says "a missing file" "missing: No such file or directory"
-    try "a folder" 7 "$predator" replay programs
-    says "a folder" "programs: Is a directory"
-    try "no place to write" 8 "$predator" run programs/counters.elf --trace missing/t
-    says "no place to write" "missing/t: No such file or directory"
+    expect_status "no schedule" 3 "$predator" run programs/counters.elf --schedule schedule
+    expect_status "bad settings" 4 "$predator" run programs/counters.elf --settings bad
+    expect_error "bad settings" "bad: \`harts\` must be a whole number from 1 to 256"
+    expect_status "no trace" 5 "$predator" replay settings
+    expect_status "no object" 13 "$predator" place t missing
+    expect_line "no object" "predator: place NoObject"
+    # (the gate runs the program with exit status 0 alone)
+    expect_status "a missing file" 7 "$predator" replay missing
+    expect_output "a missing file" "predator: read fault"
+    expect_error "a missing file" "missing: No such file or directory"
+    expect_status "a folder" 7 "$predator" replay programs
+    expect_error "a folder" "programs: Is a directory"
+    expect_status "no place to write" 8 "$predator" run programs/counters.elf --trace missing/t
+    expect_error "no place to write" "missing/t: No such file or directory"
     printf 'budget = 10\n' >few
-    try "a small budget" 10 "$predator" run programs/counters.elf --settings few
-    try "its own name as an output" 1 "$predator" run programs/counters.elf --trace programs/counters.elf
-    says "its own name as an output" "'programs/counters.elf' stands twice; each file that is written wants its own name"
+    expect_status "a small budget" 10 "$predator" run programs/counters.elf --settings few
+    expect_status "its own name as an output" 1 "$predator" run programs/counters.elf --trace programs/counters.elf
+    expect_error "its own name as an output" "'programs/counters.elf' is named twice: an output file must differ from all other files"
 }
 
 # Nothing is lost by the name of an output. (tools/edges tries each name that a file may have)
 try_outputs() {
     ln -s programs/counters.elf soft.elf
-    try "a link as a trace" 8 "$predator" run programs/counters.elf --trace soft.elf
-    says "a link as a trace" "soft.elf: the same file is in use under another name, and stays as it is"
+    expect_status "a link as a trace" 8 "$predator" run programs/counters.elf --trace soft.elf
+    expect_error "a link as a trace" "soft.elf: the file is in use under another name and stays unchanged: name another file"
     same "a link as a trace"
-    try "a device" 0 "$predator" run programs/counters.elf --trace /dev/null --output /dev/./null
-    quiet "a device"
+    expect_status "a device" 0 "$predator" run programs/counters.elf --trace /dev/null --output /dev/./null
+    expect_silent "a device"
 }
 
 try_messages() {
-    try "an output that can't be printed" 8 bash -c '"$0" check programs/counters.elf >/dev/full' "$predator"
-    says "an output that can't be printed" "standard output: No space left on device"
-    try "no word" 1 "$predator"
-    says "no word" "the command is missing; see predator --help"
-    try "a wrong command" 1 "$predator" reply t
-    says "a wrong command" "'reply' is no command; see predator --help"
-    try "a lone option" 1 "$predator" run programs/counters.elf --trace
-    says "a lone option" "a value is required for '--trace <trace>' but none was supplied"
-    try "no layout" 1 "$predator" replay t --size 48
-    says "no layout" "'--size 48 --shift 0' is no layout: --size is a power of two from 4 to 1024, --shift a multiple of 4 below the size"
-    try "a word of other bytes" 1 "$predator" run $'p\xff'
-    says "a word of other bytes" "a word isn't UTF-8, as all words of a call are, names of files too"
+    expect_status "an output that can't be printed" 8 bash -c '"$0" check programs/counters.elf >/dev/full' "$predator"
+    expect_error "an output that can't be printed" "standard output: No space left on device"
+    expect_status "no word" 1 "$predator"
+    expect_error "no word" "the command is missing: see predator --help"
+    expect_status "a wrong command" 1 "$predator" reply t
+    expect_error "a wrong command" "'reply' is not a command: see predator --help"
+    expect_status "a lone option" 1 "$predator" run programs/counters.elf --trace
+    expect_error "a lone option" "a value is required for '--trace <trace>' but none was supplied"
+    expect_status "no layout" 1 "$predator" replay t --size 48
+    expect_error "no layout" "'--size 48 --shift 0' is not a layout: --size must be a power of two from 4 to 1024, --shift a multiple of 4 below the size"
+    expect_status "a word of other bytes" 1 "$predator" run $'p\xff'
+    expect_error "a word of other bytes" "an argument is not UTF-8: arguments and file names must be UTF-8"
     { printf '\177ELF\2\1\1'; head -c 9 /dev/zero; printf '\3\0\76\0'; head -c 40 /dev/zero; } >x86
-    try "another machine" 2 "$predator" check x86
-    shows "another machine" "predator: \`predator native -- x86\` reports on a program of this machine, and \`predator view x86\` shows it" \
-        "predator: x86: an ELF file for x86-64: guest/build.sh builds for RV32IMA"
+    expect_status "another machine" 2 "$predator" check x86
+    expect_error_lines "another machine" "predator: \`predator native -- x86\` reports on a program of this machine, and \`predator view x86\` shows it" \
+        "predator: x86: the file is an ELF file for x86-64: build it for RV32IMA with guest/build.sh"
     local by_hand="predator run PROGRAM --trace F"
-    try "a program of this machine as a trace" 5 "$predator" misses x86 --size 64
-    shows "a program of this machine as a trace" "predator: \`predator native --trace F -- x86\` writes a trace of a program of this machine" \
-        "predator: x86: not a trace: \`$by_hand\` writes one, tools/to_trace.py too"
-    try "a program as a trace" 5 "$predator" replay --set report=1 programs/counters.elf
-    shows "a program as a trace" "predator: programs/counters.elf is a program: \`predator run programs/counters.elf\` runs it, and with \`--trace F\` it writes a trace" \
-        "predator: programs/counters.elf: not a trace: \`$by_hand\` writes one, tools/to_trace.py too"
-    try "a trace as a program" 2 "$predator" run t
-    shows "a trace as a program" "predator: t is a trace: \`predator replay t\` counts it, and \`predator view t\` shows it" \
-        "predator: t: not an ELF file: guest/build.sh builds for RV32IMA"
+    expect_status "a program of this machine as a trace" 5 "$predator" misses x86 --size 64
+    expect_error_lines "a program of this machine as a trace" "predator: \`predator native --trace F -- x86\` writes a trace of a program of this machine" \
+        "predator: x86: the file is not a trace: write one with \`$by_hand\` or tools/to_trace.py"
+    expect_status "a program as a trace" 5 "$predator" replay --set report=1 programs/counters.elf
+    expect_error_lines "a program as a trace" "predator: programs/counters.elf is a program: \`predator run programs/counters.elf\` runs it, and with \`--trace F\` it writes a trace" \
+        "predator: programs/counters.elf: the file is not a trace: write one with \`$by_hand\` or tools/to_trace.py"
+    expect_status "a trace as a program" 2 "$predator" run t
+    expect_error_lines "a trace as a program" "predator: t is a trace: \`predator replay t\` counts it, and \`predator view t\` shows it" \
+        "predator: t: the file is not an ELF file: build it for RV32IMA with guest/build.sh"
     head -c 1000 t >cut.t
-    try "a trace that was cut" 5 "$predator" replay cut.t
-    shows "a trace that was cut" "predator: cut.t: where a kill or Ctrl-C cut it, \`predator native --mend cut.t\` gives it an end" \
-        "predator: cut.t: it ends after 1000 bytes, before the trace does: write or copy it again"
-    try "an unknown object" 13 "$predator" place t missing
-    shows "an unknown object" "predator: no object symbol of the trace has this name, nor was exactly one block made at that address" \
+    expect_status "a trace that was cut" 5 "$predator" replay cut.t
+    expect_error_lines "a trace that was cut" "predator: cut.t: where a kill or Ctrl-C cut it, \`predator native --mend cut.t\` gives it an end" \
+        "predator: cut.t: the trace is cut off after 1000 bytes: record or copy it again"
+    expect_status "an unknown object" 13 "$predator" place t missing
+    expect_error_lines "an unknown object" "predator: no object symbol of the trace has this name, and not exactly one block was allocated at that address: name another object" \
         "predator: objects on lines that are taken: counters"
     printf '#!/bin/sh\n' >$'a\nscript'
-    try "a script" 2 "$predator" check $'a\nscript'
-    says "a script" 'a\x0ascript: a script: guest/build.sh builds for RV32IMA'
+    expect_status "a script" 2 "$predator" check $'a\nscript'
+    expect_error "a script" 'a\x0ascript: the file is a script: build it for RV32IMA with guest/build.sh'
     printf 'quantum = 1\nquantum = 2\n' >twice
-    try "a key twice" 4 "$predator" check programs/counters.elf --settings twice
-    says "a key twice" "twice: line 2: duplicate key; a line is a key and a whole number, as \`quantum = 1\`"
-    try "settings in a pipe" 4 bash -c 'cat twice | "$0" check programs/counters.elf --settings /dev/stdin' "$predator"
-    says "settings in a pipe" "/dev/stdin: not TOML: a line is a key and a whole number, as \`quantum = 1\`"
-    try "a changed setting" 4 "$predator" check programs/counters.elf --settings settings --set harts=0
-    says "a changed setting" "\`harts\` is a whole number from 1 to 256"
-    try "no key of the settings" 1 "$predator" check programs/counters.elf --set turns=1
+    expect_status "a key twice" 4 "$predator" check programs/counters.elf --settings twice
+    expect_error "a key twice" "twice: line 2: duplicate key: write a key and a whole number on each line, like \`quantum = 1\`"
+    expect_status "settings in a pipe" 4 bash -c 'cat twice | "$0" check programs/counters.elf --settings /dev/stdin' "$predator"
+    expect_error "settings in a pipe" "/dev/stdin: the file is not TOML: write a key and a whole number on each line, like \`quantum = 1\`"
+    expect_status "a changed setting" 4 "$predator" check programs/counters.elf --settings settings --set harts=0
+    expect_error "a changed setting" "\`harts\` must be a whole number from 1 to 256"
+    expect_status "no key of the settings" 1 "$predator" check programs/counters.elf --set turns=1
     local keys="The keys are: harts memory stack tracking prediction report quantum budget line seed"
-    shows "no key of the settings" "predator: $keys" "predator: 'turns=1' in --set names no key of the settings"
-    try "a key with a slip" 1 "$predator" run programs/counters.elf --set=report=1,quantom=3
-    shows "a key with a slip" "predator: did you mean \`quantum\`? $keys" "predator: 'quantom=3' in --set names no key of the settings"
+    expect_error_lines "no key of the settings" "predator: $keys" "predator: 'turns=1' in --set names an unknown key"
+    expect_status "a key with a slip" 1 "$predator" run programs/counters.elf --set=report=1,quantom=3
+    expect_error_lines "a key with a slip" "predator: did you mean \`quantum\`? $keys" "predator: 'quantom=3' in --set names an unknown key"
     printf 'memory = 65536\n' >small
-    try "a small memory" 2 "$predator" run programs/counters.elf --settings small
-    says "a small memory" "programs/counters.elf: its segments, the stacks and a heap have no room in the memory: set more \`memory\`, fewer \`harts\` or less \`stack\` in the settings"
+    expect_status "a small memory" 2 "$predator" run programs/counters.elf --settings small
+    expect_error "a small memory" "programs/counters.elf: the segments, the stacks and a heap do not fit in memory: set a larger \`memory\`, fewer \`harts\` or a smaller \`stack\` in the settings"
     printf '0  1\n' >spaces
-    try "a schedule's line" 3 "$predator" run programs/counters.elf --schedule spaces
-    says "a schedule's line" "spaces: line 1 isn't a hart, one space and a count, as \`0 500\`"
+    expect_status "a schedule's line" 3 "$predator" run programs/counters.elf --schedule spaces
+    expect_error "a schedule's line" "spaces: line 1 is not a hart, one space and a count: write it like \`0 500\`"
 }
 
 # fails WHAT STATUS LINE COMMAND ..: within ten seconds the command ends so, and says this one line.
 fails() {
     local what=$1 status=$2 line=$3
     shift 3
-    try "$what" "$status" timeout 10 "$@"
-    says "$what" "$line"
+    expect_status "$what" "$status" timeout 10 "$@"
+    expect_error "$what" "$line"
 }
 
 # calls ARRAY KIND: the calls of all commands that read or write a file of a kind, with IT in its place.
 calls() {
     local -n into=$1
     mapfile -t into < <(python3 "$top/tools/commands.py" --calls "$2")
-    [ ${#into[@]} != 0 ] || { echo "there is no call for $2"; failed=$((failed + 1)); }
+    [ ${#into[@]} != 0 ] || fail_check "there is no call for $2"
 }
 
 # refused STATUS FILE WORDS ..: within ten seconds each of these calls, with the file in the place of IT, ends so, and says one line.
@@ -296,63 +239,58 @@ refused() {
     for words in "$@"; do
         # (the words apart)
         # shellcheck disable=SC2086
-        try "$words of $file" "$status" timeout 10 "$predator" ${words/IT/$file}
-        tried=$((tried + 1))
-        if [ "$(grep -c "" said)" != 1 ] || ! grep -q "^predator: " said; then
-            echo "$words of $file: not one line:"
-            head -n 5 said
-            failed=$((failed + 1))
-        fi
+        expect_status "$words of $file" "$status" timeout 10 "$predator" ${words/IT/$file}
+        if [ "$(grep -c "" err)" = 1 ] && grep -q "^predator: " err; then pass_check; else fail_check "$words of $file: not one line:" err; fi
     done
 }
 
 # What a run lets be seen on standard error, whatever that is; the report and the status stay the same.
 try_shown() {
     local written="$top/crates/worked_runs/data/writes.elf" it
-    try "what is put out, into a file" 0 "$predator" run programs/counters.elf --output put
-    quiet "what is put out, into a file"
+    expect_status "what is put out, into a file" 0 "$predator" run programs/counters.elf --output put
+    expect_silent "what is put out, into a file"
     cp out report
-    try "what is in the file" 0 grep -x "sum 80000" put
+    expect_status "what is in the file" 0 grep -x "sum 80000" put
     for it in ">shown" ">shown 2>/dev/null" ">shown 2>&-" ">shown 2>/dev/full" ">shown 2> >(true)" "2>&1 >shown | cat"; do
         rm -f shown
-        try "a run with $it" 0 bash -c 'set -o pipefail; "$0" run programs/counters.elf '"$it" "$predator"
-        try "the report of a run with $it" 0 cmp shown report
+        expect_status "a run with $it" 0 bash -c 'set -o pipefail; "$0" run programs/counters.elf '"$it" "$predator"
+        expect_status "the report of a run with $it" 0 cmp shown report
     done
     # Standard error may be what the call writes, and then gets nothing.
     for it in "2>over" "2>>over"; do
         rm -f over
-        try "a trace over $it" 0 bash -c '"$0" run programs/counters.elf --trace over >shown '"$it" "$predator"
-        try "the report of a trace over $it" 0 cmp shown report
-        try "a replay of a trace over $it" 0 bash -c '"$0" replay over | cmp - report' "$predator"
+        expect_status "a trace over $it" 0 bash -c '"$0" run programs/counters.elf --trace over >shown '"$it" "$predator"
+        expect_status "the report of a trace over $it" 0 cmp shown report
+        expect_status "a replay of a trace over $it" 0 bash -c '"$0" replay over | cmp - report' "$predator"
     done
     # Bytes that are no text come as they are, and a line that isn't ended is.
-    try "bytes" 0 "$predator" run "$written" --output put
-    says "bytes" "the program ended with exit code 4"
+    expect_status "bytes" 0 "$predator" run "$written" --output put
+    expect_error "bytes" "the program ended with exit code 4"
     cp out report
-    try "bytes on standard error" 0 "$predator" run "$written"
+    expect_status "bytes on standard error" 0 "$predator" run "$written"
     { cat put; printf '\npredator: the program ended with exit code 4\n'; } >wanted
     cp out shown
-    cp said told
-    try "their report" 0 cmp shown report
-    try "the bytes" 0 cmp told wanted
-    try "an exit code" 0 "$predator" run programs/linked.elf
-    shows "an exit code" "linked" "predator: the program ended with exit code 14"
+    cp err first
+    expect_status "their report" 0 cmp shown report
+    expect_status "the bytes" 0 cmp first wanted
+    expect_status "an exit code" 0 "$predator" run programs/linked.elf
+    expect_error_lines "an exit code" "linked" "predator: the program ended with exit code 14"
     for it in "2>&-" "2>/dev/full"; do
-        try "an exit code with $it" 0 bash -c '"$0" run programs/linked.elf '"$it" "$predator"
-        prints "an exit code with $it" "outcome exit 14"
+        expect_status "an exit code with $it" 0 bash -c '"$0" run programs/linked.elf '"$it" "$predator"
+        expect_line "an exit code with $it" "outcome exit 14"
     done
-    try "an exit code, explained" 0 "$predator" explain programs/linked.elf 0x00011000 64 0
-    quiet "an exit code, explained"
+    expect_status "an exit code, explained" 0 "$predator" explain programs/linked.elf 0x00011000 64 0
+    expect_silent "an exit code, explained"
     printf 'harts = 4\n' >four
-    try "too few harts" 0 "$predator" run programs/counters.elf --settings four
-    prints "too few harts" "outcome exit 1"
-    shows "too few harts" "predator: no hart was free for the last thread that was to start: \`harts\` is 4, and in the settings it may be up to 256" \
+    expect_status "too few harts" 0 "$predator" run programs/counters.elf --settings four
+    expect_line "too few harts" "outcome exit 1"
+    expect_error_lines "too few harts" "predator: the last thread could not start: all 4 harts are in use (setting \`harts\`, at most 256)" \
         "predator: the program ended with exit code 1"
 }
 
 # Pipes, and files that are missing, closed, endless or full.
 try_streams() {
-    local once="a pipe or a terminal can be read once; write it to a file first" words
+    local once="a pipe or a terminal can be read only once: write it to a file first" words
     local -a programs traces tables twice settings schedules states written
     calls programs PROGRAM
     calls traces TRACE
@@ -366,28 +304,28 @@ try_streams() {
     echo "0xfffffff0 4 0xfffffff8" >table
     "$predator" run programs/counters.elf --trace run.trace --output run.output >report 2>/dev/null
     "$predator" replay made >wanted
-    try "a trace by standard input" 0 bash -c '"$0" replay - <made' "$predator"
+    expect_status "a trace by standard input" 0 bash -c '"$0" replay - <made' "$predator"
     cp out piped
-    try "the same report" 0 cmp piped wanted
-    try "a trace by a pipe" 0 bash -c 'cat made | "$0" replay -' "$predator"
+    expect_status "the same report" 0 cmp piped wanted
+    expect_status "a trace by a pipe" 0 bash -c 'cat made | "$0" replay -' "$predator"
     cp out piped
-    try "the same report by a pipe" 0 cmp piped wanted
-    try "a trace by a name of a pipe" 0 bash -c '"$0" replay <(cat made) >piped && cmp piped wanted' "$predator"
-    try "settings by a pipe" 0 bash -c '"$0" run programs/counters.elf --settings <(echo "quantum = 1")' "$predator"
+    expect_status "the same report by a pipe" 0 cmp piped wanted
+    expect_status "a trace by a name of a pipe" 0 bash -c '"$0" replay <(cat made) >piped && cmp piped wanted' "$predator"
+    expect_status "settings by a pipe" 0 bash -c '"$0" run programs/counters.elf --settings <(echo "quantum = 1")' "$predator"
     mkfifo fifo
     cat fifo >through &
-    try "a FIFO as a trace" 0 timeout 60 "$predator" run programs/counters.elf --trace fifo
+    expect_status "a FIFO as a trace" 0 timeout 60 "$predator" run programs/counters.elf --trace fifo
     wait $!
-    try "the trace through the FIFO" 0 cmp through run.trace
-    try "a pipe as a trace" 0 bash -c '"$0" run programs/counters.elf --trace /dev/fd/3 3> >(cat >through3)' "$predator"
-    try "the trace through the pipe" 0 bash -c 'sleep 1; cmp through3 run.trace'
+    expect_status "the trace through the FIFO" 0 cmp through run.trace
+    expect_status "a pipe as a trace" 0 bash -c '"$0" run programs/counters.elf --trace /dev/fd/3 3> >(cat >through3)' "$predator"
+    expect_status "the trace through the pipe" 0 bash -c 'sleep 1; cmp through3 run.trace'
     cp made ./-
-    try "a file of that name" 0 "$predator" replay ./-
+    expect_status "a file of that name" 0 "$predator" replay ./-
     for words in "${twice[@]}"; do
         rm -f a b
-        try "$words of a pipe" 7 bash -c 'cat made | "$0" '"${words/IT//dev/stdin}" "$predator"
-        says "$words of a pipe" "/dev/stdin: $once"
-        try "$words of a pipe writes nothing" 1 test -e a
+        expect_status "$words of a pipe" 7 bash -c 'cat made | "$0" '"${words/IT//dev/stdin}" "$predator"
+        expect_error "$words of a pipe" "/dev/stdin: $once"
+        expect_status "$words of a pipe writes nothing" 1 test -e a
     done
     fails "a missing trace" 7 "missing: No such file or directory" "$predator" replay missing
     fails "a missing settings file" 7 "missing: No such file or directory" "$predator" replay made --settings missing
@@ -398,13 +336,13 @@ try_streams() {
     for it in nothing /dev/null /dev/zero; do
         refused 2 $it "${programs[@]}"
         refused 5 $it "${traces[@]}"
-        try "$it gives nothing" 1 test -e a
+        expect_status "$it gives nothing" 1 test -e a
     done
     refused 6 nothing "${states[@]}"
     refused 6 /dev/null "${states[@]}"
     # A state is held whole, so an endless one ends where memory does.
-    try "an endless state" 9 timeout 60 bash -c 'ulimit -v 1000000; exec "$0" replay made --resume /dev/zero' "$predator"
-    prints "an endless state" "predator: no memory"
+    expect_status "an endless state" 9 timeout 60 bash -c 'ulimit -v 1000000; exec "$0" replay made --resume /dev/zero' "$predator"
+    expect_line "an endless state" "predator: no memory"
     for it in missing programs /proc/self/mem; do
         refused 7 $it "${programs[@]}" "${traces[@]}" "${tables[@]}" "${settings[@]}" "${schedules[@]}" "${states[@]}"
     done
@@ -413,10 +351,10 @@ try_streams() {
     refused 14 /dev/zero "${tables[@]}"
     refused 7 /dev/fd/9 "replay IT" "run programs/counters.elf --settings IT" "replay made --resume IT"
     for it in nothing /dev/null; do
-        try "$it as settings" 0 timeout 10 "$predator" replay made --settings $it
-        try "$it as a schedule" 0 timeout 10 "$predator" run programs/counters.elf --schedule $it
-        try "$it as a table" 0 timeout 10 "$predator" move made $it a
-        try "what it moves" 0 cmp a made
+        expect_status "$it as settings" 0 timeout 10 "$predator" replay made --settings $it
+        expect_status "$it as a schedule" 0 timeout 10 "$predator" run programs/counters.elf --schedule $it
+        expect_status "$it as a table" 0 timeout 10 "$predator" move made $it a
+        expect_status "what it moves" 0 cmp a made
     done
     # What is full, and an input stays as it was.
     for words in "${written[@]}"; do
@@ -424,28 +362,28 @@ try_streams() {
         # shellcheck disable=SC2086
         fails "$words of /dev/full" 8 "/dev/full: No space left on device" "$predator" ${words/IT//dev/full}
     done
-    try "the trace is there" 0 bash -c '"$0" replay made | cmp - wanted' "$predator"
+    expect_status "the trace is there" 0 bash -c '"$0" replay made | cmp - wanted' "$predator"
     # (tools/edges tries each command so)
     # shellcheck disable=SC2016
     fails "a closed output" 8 "standard output: Bad file descriptor" bash -c '"$0" gen 3 three >&-' "$predator"
-    try "what it wrote" 0 "$predator" replay three
-    try "a closed input" 5 timeout 10 bash -c '"$0" replay - <&-' "$predator"
-    try "a closed standard error" 7 timeout 10 bash -c '"$0" replay missing 2>&-' "$predator"
+    expect_status "what it wrote" 0 "$predator" replay three
+    expect_status "a closed input" 5 timeout 10 bash -c '"$0" replay - <&-' "$predator"
+    expect_status "a closed standard error" 7 timeout 10 bash -c '"$0" replay missing 2>&-' "$predator"
     rm -f both
-    fails "a report over its trace" 8 "both: the same file is in use under another name, and stays as it is" \
+    fails "a report over its trace" 8 "both: the file is in use under another name and stays unchanged: name another file" \
         bash -c '"$0" run programs/counters.elf --trace both >both' "$predator"
 }
 
 try_install() {
-    try "install" 0 "$top/bin/install" "$work/prefix"
-    quiet "install"
-    try "install without a folder" 1 "$top/bin/install"
-    try "install's help" 0 "$top/bin/install" --help
-    try "installed" 0 env PATH=/usr/bin:/bin "$work/prefix/bin/predator" check programs/counters.elf
-    try "installed help" 0 env PATH=/usr/bin:/bin "$work/prefix/bin/predator" --help
-    try "installed version" 0 env PATH=/usr/bin:/bin "$work/prefix/bin/predator" --version
+    expect_status "install" 0 "$top/bin/install" "$work/prefix"
+    expect_silent "install"
+    expect_status "install without a folder" 1 "$top/bin/install"
+    expect_status "install's help" 0 "$top/bin/install" --help
+    expect_status "installed" 0 env PATH=/usr/bin:/bin "$work/prefix/bin/predator" check programs/counters.elf
+    expect_status "installed help" 0 env PATH=/usr/bin:/bin "$work/prefix/bin/predator" --help
+    expect_status "installed version" 0 env PATH=/usr/bin:/bin "$work/prefix/bin/predator" --version
     for file in share/man/man1/predator.1 share/bash-completion/completions/predator share/predator/docs/FORMATS.md share/predator/guest/build.sh; do
-        try "$file" 0 test -s "$work/prefix/$file"
+        expect_status "$file" 0 test -s "$work/prefix/$file"
     done
 }
 
@@ -461,14 +399,14 @@ int main(void)
     return (((uintptr_t)&first ^ (uintptr_t)&second) & ~255u) != 0 ? 0 : 1;
 }
 C
-    try "a build" 0 "$here/build.sh" init.elf init.c -- -O1
-    try "what was built" 0 "$predator" run init.elf --output o
-    prints "what was built" "outcome exit 0"
-    try "initialised variables" 0 grep -x 11 o
-    try "a build without words" 1 "$here/build.sh"
+    expect_status "a build" 0 "$here/build.sh" init.elf init.c -- -O1
+    expect_status "what was built" 0 "$predator" run init.elf --output o
+    expect_line "what was built" "outcome exit 0"
+    expect_status "initialised variables" 0 grep -x 11 o
+    expect_status "a build without words" 1 "$here/build.sh"
     cp init.c init.cpp
-    try "a build of C++" 1 "$here/build.sh" cxx.elf init.cpp
-    shows "a build of C++" "build.sh: init.cpp is C++: $here/c++ init.cpp -o cxx.elf builds it"
+    expect_status "a build of C++" 1 "$here/build.sh" cxx.elf init.cpp
+    expect_error_lines "a build of C++" "build.sh: init.cpp is C++: $here/c++ init.cpp -o cxx.elf builds it"
     # Alone, and with free lines before and behind.
     cat >alone.c <<'C'
 #include "predator.h"
@@ -483,19 +421,19 @@ int main(void)
         (uintptr_t)&other - (uintptr_t)&third < 257;
 }
 C
-    try "a build of lone variables" 0 "$here/build.sh" alone.elf alone.c
-    try "lone variables" 0 "$predator" run alone.elf
-    prints "lone variables" "outcome exit 0"
+    expect_status "a build of lone variables" 0 "$here/build.sh" alone.elf alone.c
+    expect_status "lone variables" 0 "$predator" run alone.elf
+    expect_line "lone variables" "outcome exit 0"
 
     # A hole of 16 bytes low in the heap stays free while blocks that don't fit there are made behind it.
-    try "a build of a low hole" 0 "$here/build.sh" hole.elf "$here/tries/hole.c"
-    try "where its heap begins" 0 "$predator" check hole.elf
+    expect_status "a build of a low hole" 0 "$here/build.sh" hole.elf "$here/tries/hole.c"
+    expect_status "where its heap begins" 0 "$predator" check hole.elf
     local heap
     heap=$(sed -n 's/^heap \(0x[0-9a-f]*\) .*/\1/p' out)
-    try "a low hole" 0 "$predator" run hole.elf --output o
-    prints "a low hole" "outcome exit 0"
+    expect_status "a low hole" 0 "$predator" run hole.elf --output o
+    expect_line "a low hole" "outcome exit 0"
     { echo $((heap)) && seq $((heap + 16)) 176 $((heap + 16 + 176 * 3999)) && echo $((heap)); } >places
-    try "the blocks behind a low hole, and the one in it" 0 cmp o places
+    expect_status "the blocks behind a low hole, and the one in it" 0 cmp o places
 
     # Nine harts of eight; of which one more starts once another one is free; and 257 of 256.
     cat >nine.c <<'C'
@@ -519,22 +457,22 @@ int main(void)
     return 0;
 }
 C
-    local few="no hart was free for the last thread that was to start: \`harts\` is"
-    try "a build for nine harts" 0 "$here/build.sh" nine.elf nine.c -- -DMORE=8
-    try "nine harts" 0 "$predator" run nine.elf
-    prints "nine harts" "outcome exit 0"
-    says "nine harts" "$few 8, and in the settings it may be up to 256"
+    local few="the last thread could not start: all"
+    expect_status "a build for nine harts" 0 "$here/build.sh" nine.elf nine.c -- -DMORE=8
+    expect_status "nine harts" 0 "$predator" run nine.elf
+    expect_line "nine harts" "outcome exit 0"
+    expect_error "nine harts" "$few 8 harts are in use (setting \`harts\`, at most 256)"
     printf 'harts = 9\n' >enough
-    try "nine of nine" 0 "$predator" run nine.elf --settings enough
-    shows "nine of nine" "predator: the program ended with exit code 1"
-    try "a build for one more" 0 "$here/build.sh" again.elf nine.c -- -DMORE=8 -DAGAIN
-    try "one more" 0 "$predator" run again.elf
-    prints "one more" "outcome exit 0"
-    quiet "one more"
-    try "a build for 257 harts" 0 "$here/build.sh" most.elf nine.c -- -DMORE=256
+    expect_status "nine of nine" 0 "$predator" run nine.elf --settings enough
+    expect_error_lines "nine of nine" "predator: the program ended with exit code 1"
+    expect_status "a build for one more" 0 "$here/build.sh" again.elf nine.c -- -DMORE=8 -DAGAIN
+    expect_status "one more" 0 "$predator" run again.elf
+    expect_line "one more" "outcome exit 0"
+    expect_silent "one more"
+    expect_status "a build for 257 harts" 0 "$here/build.sh" most.elf nine.c -- -DMORE=256
     printf 'harts = 256\nstack = 4096\n' >most
-    try "257 harts" 0 "$predator" run most.elf --settings most
-    says "257 harts" "$few 256, and there are never more"
+    expect_status "257 harts" 0 "$predator" run most.elf --settings most
+    expect_error "257 harts" "$few 256 harts are in use, and there are never more"
 
     cannot "cancel" '#include <pthread.h>
     int main(void) { return pthread_cancel(pthread_self()); }' "a hart can't be ended by another one"
@@ -551,13 +489,13 @@ try_c_library() {
     cannot "be woken by a clock" '#include <unistd.h>
     int main(void) { return (int)alarm(1); }' "nothing comes by itself after a time"
     for it in as_is atomics; do
-        try "a build of $it" 0 "$here/build.sh" $it.elf "$here/examples/$it.c"
-        try "$it" 0 "$predator" run $it.elf --output $it.out
-        prints "$it" "outcome exit 0"
+        expect_status "a build of $it" 0 "$here/build.sh" $it.elf "$here/examples/$it.c"
+        expect_status "$it" 0 "$predator" run $it.elf --output $it.out
+        expect_line "$it" "outcome exit 0"
         if command -v cc >/dev/null; then
-            try "$it natively" 0 cc -pthread -w "$here/examples/$it.c" -o $it.native
+            expect_status "$it natively" 0 cc -pthread -w "$here/examples/$it.c" -o $it.native
             ./$it.native >$it.wanted
-            try "the same from $it" 0 cmp $it.wanted $it.out
+            expect_status "the same from $it" 0 cmp $it.wanted $it.out
         fi
     done
     cat >words.c <<'C'
@@ -574,15 +512,15 @@ int main(int count, char **words)
     exit(3);
 }
 C
-    try "a build with words" 0 env ARGUMENTS="4 in.txt" "$here/build.sh" words.elf words.c
-    try "words" 0 "$predator" run words.elf --output o
-    prints "words" "outcome exit 3"
-    try "the last words" 0 grep -x -c -e last -e "word in.txt" o
-    try "a build without words" 0 "$here/build.sh" words.elf words.c
-    try "a failed claim" 0 "$predator" run words.elf --output o
-    prints "a failed claim" "outcome exit 134"
-    says "a failed claim" "the program ended with exit code 134"
-    try "a failed claim is said" 0 grep "count == 3" o
+    expect_status "a build with words" 0 env ARGUMENTS="4 in.txt" "$here/build.sh" words.elf words.c
+    expect_status "words" 0 "$predator" run words.elf --output o
+    expect_line "words" "outcome exit 3"
+    expect_status "the last words" 0 grep -x -c -e last -e "word in.txt" o
+    expect_status "a build without words" 0 "$here/build.sh" words.elf words.c
+    expect_status "a failed claim" 0 "$predator" run words.elf --output o
+    expect_line "a failed claim" "outcome exit 134"
+    expect_error "a failed claim" "the program ended with exit code 134"
+    expect_status "a failed claim is said" 0 grep "count == 3" o
     cat >nine.c <<'C'
 #include <pthread.h>
 #include <stdio.h>
@@ -604,23 +542,23 @@ int main(int count, char **words)
     return made != 7;
 }
 C
-    try "a build of eight threads" 0 "$here/build.sh" eight.elf nine.c
-    try "eight threads" 0 "$predator" run eight.elf
-    prints "eight threads" "outcome exit 0"
-    shows "eight threads" "8 harts"
-    try "a build of nine threads" 0 env ARGUMENTS=more "$here/build.sh" nine.elf nine.c
-    try "nine threads" 0 "$predator" run nine.elf
-    prints "nine threads" "outcome exit 0"
-    shows "nine threads" "8 harts" \
+    expect_status "a build of eight threads" 0 "$here/build.sh" eight.elf nine.c
+    expect_status "eight threads" 0 "$predator" run eight.elf
+    expect_line "eight threads" "outcome exit 0"
+    expect_error_lines "eight threads" "8 harts"
+    expect_status "a build of nine threads" 0 env ARGUMENTS=more "$here/build.sh" nine.elf nine.c
+    expect_status "nine threads" 0 "$predator" run nine.elf
+    expect_line "nine threads" "outcome exit 0"
+    expect_error_lines "nine threads" "8 harts" \
         "pthread_create: each of the 8 harts is in use, so there is none for another thread: the settings may have more, as harts = 16" \
-        "predator: no hart was free for the last thread that was to start: \`harts\` is 8, and in the settings it may be up to 256"
+        "predator: the last thread could not start: all 8 harts are in use (setting \`harts\`, at most 256)"
 }
 
 # It takes minutes.
 try_unproved() {
-    try "unproved" 0 env PREDATOR_TRY=1 "$predator" check "$here/built/counters.elf" --settings=settings
-    prints "unproved" "entry 0x00010000"
-    try "unproved, refused" 4 env PREDATOR_TRY=1 "$predator" check programs/counters.elf --settings=bad
+    expect_status "unproved" 0 env PREDATOR_TRY=1 "$predator" check "$here/built/counters.elf" --settings=settings
+    expect_line "unproved" "entry 0x00010000"
+    expect_status "unproved, refused" 4 env PREDATOR_TRY=1 "$predator" check programs/counters.elf --settings=bad
 }
 
 "$predator" check "$here/built/apart.elf" >/dev/null || exit
@@ -635,5 +573,4 @@ for part in "$@"; do
             ;;
     esac
 done
-echo "$tried tried, $failed failed"
-[ "$failed" = 0 ]
+finish_checks

@@ -6,7 +6,7 @@
 # What writes traces, and `mend`, run with those of addresses and of undefined behaviour. The whole runtime can't: it has functions of its own by
 # the names that the sanitizer of addresses takes, as `malloc` and `pthread_create`; nor can the tool, which is linked with valgrind's core and
 # no C library. Both are built so that undefined behaviour is a trap, which needs no library, and record programs of tries/.
-# The last line is `N passed, M failed`, and the status is 0 exactly if nothing failed.
+# The last line is `N passed, M failed, K skipped`, and the status is 0 exactly if nothing failed.
 set -u
 here=$(cd "$(dirname "$(readlink -f "$0")")" && pwd)
 judge=$here/tries/judge.py
@@ -16,17 +16,8 @@ done
 work=$(mktemp -d)
 trap 'rm -rf "$work"' EXIT
 cd "$work" || exit 1
-passed=0 failed=0
-
-# is WHAT WANTED GOT
-is() {
-    if [ "$2" = "$3" ]; then
-        passed=$((passed + 1))
-    else
-        failed=$((failed + 1))
-        printf 'FAILED %s: wanted %s, got %s\n' "$1" "$2" "$3"
-    fi
-}
+# shellcheck source=../tools/checks.bash
+. "$here/../tools/checks.bash"
 
 # Addresses and undefined behaviour. A finding ends the program with status 99.
 export ASAN_OPTIONS=exitcode=99 UBSAN_OPTIONS=print_stacktrace=1
@@ -47,14 +38,14 @@ gcc "${strict[@]}" -DPREDATOR_RUNTIME "$here/tries/writer.c" "$here/lib/compat.c
 export ASAN_OPTIONS=$ASAN_OPTIONS:detect_leaks=0
 for seed in 1 2 3; do
     timeout 60 ./writer "$seed" "$seed" 100000 >said 2>&1
-    is "a trace of seed $seed" 0 "$?"
-    is "its end" "exit 7" "$("$judge" end "$seed" 2>&1)"
+    expect_equal "a trace of seed $seed" 0 "$?"
+    expect_equal "its end" "exit 7" "$("$judge" end "$seed" 2>&1)"
     timeout 60 ./writer pcs "$seed" 100000 pcs >said 2>&1
-    is "a trace of seed $seed with instructions" 0 "$?"
-    is "its end, and instructions that have not one row each" "exit 7 0" "$("$judge" end pcs 2>&1) $("$judge" untold pcs 2>&1)"
+    expect_equal "a trace of seed $seed with instructions" 0 "$?"
+    expect_equal "its end, and instructions that have not one row each" "exit 7 0" "$("$judge" end pcs 2>&1) $("$judge" untold pcs 2>&1)"
 done
 timeout 60 ./writer all 4 4000000 >said 2>&1
-is "more regions than there are places: $(tail -n 1 said)" "0 part" "$? $("$judge" end all 2>&1)"
+expect_equal "more regions than there are places: $(tail -n 1 said)" "0 part" "$? $("$judge" end all 2>&1)"
 ./writer whole 5 2000 >said 2>&1
 ./writer pcs 5 2000 pcs >said 2>&1
 cuts() { # FILE: where it is cut
@@ -65,20 +56,20 @@ cuts() { # FILE: where it is cut
 while read -r file cut; do
     head -c "$cut" "$file" >short
     ./mend - <short >piped 2>said
-    is "a pipe that is cut at $cut" 0 "$?"
+    expect_equal "a pipe that is cut at $cut" 0 "$?"
     ./mend short >said 2>&1
     status=$?
     if ((cut < 20)); then
-        is "a file that is cut at $cut" 1 "$status"
+        expect_equal "a file that is cut at $cut" 1 "$status"
     else
-        is "a file that is cut at $cut" "0 part same" "$status $("$judge" end short 2>&1) $(cmp -s short piped && echo same)"
+        expect_equal "a file that is cut at $cut" "0 part same" "$status $("$judge" end short 2>&1) $(cmp -s short piped && echo same)"
     fi
 done < <(cuts whole; cuts pcs)
 head -c 300000 /dev/urandom >noise
 ./mend noise >said 2>&1
-is "a file that is no trace" 1 "$?"
+expect_equal "a file that is no trace" 1 "$?"
 ./mend - <noise >piped 2>said
-is "a pipe with no trace" "0 same" "$? $(cmp -s noise piped && echo same)"
+expect_equal "a pipe with no trace" "0 same" "$? $(cmp -s noise piped && echo same)"
 
 # Undefined behaviour alone, as a trap.
 mkdir native && cp -r "$here"/{build,places,predator-native,lib,tool,tries} native
@@ -93,10 +84,9 @@ for name in counters kinds locks heap; do
     "./$name" >wanted 2>&1
     status=$?
     timeout 100 native/predator-native --built --quantum 7 --trace t -- "./$name.tsan" >said 2>&1
-    is "built: $name: its status, and its end" "$status exit $status" "$? $("$judge" end t 2>&1)"
+    expect_equal "built: $name: its status, and its end" "$status exit $status" "$? $("$judge" end t 2>&1)"
     [ -z "$parts" ] || continue
     timeout 100 native/predator-native --quantum 7 --trace t -- "./$name" >said 2>&1
-    is "$name: its status, and its end" "$status exit $status" "$? $("$judge" end t 2>&1)"
+    expect_equal "$name: its status, and its end" "$status exit $status" "$? $("$judge" end t 2>&1)"
 done
-echo "$passed passed, $failed failed"
-[ "$failed" = 0 ]
+finish_checks

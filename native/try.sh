@@ -8,31 +8,11 @@ judge=$here/tries/judge.py
 work=$(mktemp -d "${TMPDIR:-/tmp}/native-try.XXXXXX") || exit 1
 trap 'rm -rf "$work"' EXIT
 cd "$work" || exit 1
-passed=0 failed=0 skipped=0
-
-same() { # NAME WANTED GOT
-    if [ "$2" = "$3" ]; then
-        passed=$((passed + 1))
-    else
-        failed=$((failed + 1))
-        printf 'FAILED %s: wanted %s, got %s\n' "$1" "$2" "$3"
-    fi
-}
-has() { # NAME PART TEXT
-    case $3 in *"$2"*) passed=$((passed + 1)) ;; *) failed=$((failed + 1)); printf 'FAILED %s: no "%s" in: %s\n' "$1" "$2" "$3" ;; esac
-}
-within() { # NAME LEAST MOST GOT
-    if [[ $4 =~ ^[0-9]+$ ]] && [ "$4" -ge "$2" ] && [ "$4" -le "$3" ]; then
-        passed=$((passed + 1))
-    else
-        failed=$((failed + 1))
-        printf 'FAILED %s: wanted %s to %s, got %s\n' "$1" "$2" "$3" "$4"
-    fi
-}
-skip() { skipped=$((skipped + 1)); echo "skipped $1"; }
+# shellcheck source=../tools/checks.bash
+. "$here/../tools/checks.bash"
 
 if ! command -v gcc >/dev/null || ! command -v python3 >/dev/null || [ ! -x /usr/bin/valgrind.bin ]; then
-    skip "all: gcc, python3 and valgrind are wanted"
+    skip_checks 1 "all: gcc, python3 and valgrind are wanted"
     echo "0 passed, 0 failed, 1 skipped"
     exit 0
 fi
@@ -54,15 +34,15 @@ gcc -O1 -g -pthread "$here/tries/wide.c" -o wide
 # The turns, and what is taken.
 for row in "1 79000 80000" "10 15000 16500" "100 1500 1700" "1000 150 170"; do
     read -r quantum least most <<<"$row"
-    same "counters at $quantum" "sum 80000" "$("$run" --quantum "$quantum" --trace t -- ./counters 2>&1)"
-    within "takings at $quantum" "$least" "$most" "$("$judge" taken t counters)"
-    same "end at $quantum" "exit 0" "$("$judge" end t)"
+    expect_equal "counters at $quantum" "sum 80000" "$("$run" --quantum "$quantum" --trace t -- ./counters 2>&1)"
+    expect_between "takings at $quantum" "$least" "$most" "$("$judge" taken t counters)"
+    expect_equal "end at $quantum" "exit 0" "$("$judge" end t)"
 done
-same "a word's accesses" "10000 10000 1" "$("$judge" word t counters 4)"
+expect_equal "a word's accesses" "10000 10000 1" "$("$judge" word t counters 4)"
 "$run" --quantum 50 --trace t -- ./counters >/dev/null 2>&1
-within "longest turn" 50 300 "$("$judge" turns t)"
+expect_between "longest turn" 50 300 "$("$judge" turns t)"
 "$run" --trace t -- ./apart >/dev/null 2>&1
-same "apart: nothing is taken" 0 "$("$judge" taken t counters)"
+expect_equal "apart: nothing is taken" 0 "$("$judge" taken t counters)"
 
 # The table back leads to where the program has its variable: its file's address, and where the file was mapped.
 back() { # NAME TRACE PROGRAM
@@ -71,29 +51,29 @@ back() { # NAME TRACE PROGRAM
     was=$("$here/../tools/to_trace.py" --back "$2.table" "$place")
     bias=$(awk -v file="/$3" '$1 == "map" && substr($0, length($0) - length(file) + 1) == file { print $4 }' "$2.table")
     in_file=$(nm "$3" | awk '$3 == "counters" { print $1 }')
-    same "$1" "$(printf '%s was 0x%x' "$place" $((bias + 0x$in_file)))" "$was"
+    expect_equal "$1" "$(printf '%s was 0x%x' "$place" $((bias + 0x$in_file)))" "$was"
 }
 "$run" --quantum 1000 --trace t -- ./counters >/dev/null 2>&1
 back "the table back" t counters
-has "the table back: no such page" "is no address of the trace" "$("$here/../tools/to_trace.py" --back t.table 0x00000010)"
+expect_part "the table back: no such page" "is no address of the trace" "$("$here/../tools/to_trace.py" --back t.table 0x00000010)"
 
 # The same bytes on every run.
 for name in counters kinds; do
     for it in 1 2 3; do "$run" --trace same$it -- ./$name >/dev/null 2>&1; done
-    same "$name: the same trace" "same same" "$(cmp -s same1 same2 && echo same) $(cmp -s same1 same3 && echo same)"
-    same "$name: the same table" "same" "$(cmp -s same1.table same3.table && echo same)"
+    expect_equal "$name: the same trace" "same same" "$(cmp -s same1 same2 && echo same) $(cmp -s same1 same3 && echo same)"
+    expect_equal "$name: the same table" "same" "$(cmp -s same1.table same3.table && echo same)"
 done
 
 # What is recorded of each kind of access.
 right="right 4 added 4000 swapped 4000 counted 4000 turn 200 spinning 200
 7"
-same "kinds" "$right" "$("$run" --trace t -- ./kinds 2>&1; echo $?)"
-same "kinds at 3" "$right" "$("$run" --quantum 3 --trace t3 -- ./kinds 2>&1; echo $?)"
-same "an atomic is one write" "0 4000 4" "$("$judge" word t added 0)"
-same "8 bytes are two" "0 4000 4" "$("$judge" word t added 4)"
+expect_equal "kinds" "$right" "$("$run" --trace t -- ./kinds 2>&1; echo $?)"
+expect_equal "kinds at 3" "$right" "$("$run" --quantum 3 --trace t3 -- ./kinds 2>&1; echo $?)"
+expect_equal "an atomic is one write" "0 4000 4" "$("$judge" word t added 0)"
+expect_equal "8 bytes are two" "0 4000 4" "$("$judge" word t added 4)"
 "$run" --trace w -- ./wide
 while read -r at want; do
-    same "wide at $at" "$want" "$("$judge" word w area "$at")"
+    expect_equal "wide at $at" "$want" "$("$judge" word w area "$at")"
 done <<'ROWS'
 0 0 1000 1
 4 0 1000 1
@@ -119,42 +99,42 @@ ROWS
 
 sums="begun 1 written 2400 right 1200 spun 1200 passed 600 late 4 signalled 4 busy 1 timed 1"
 for quantum in 1 100; do
-    same "locks at $quantum" "$sums" "$("$run" --quantum $quantum --trace t3 -- ./locks 2>&1)"
+    expect_equal "locks at $quantum" "$sums" "$("$run" --quantum $quantum --trace t3 -- ./locks 2>&1)"
 done
 "$run" --quantum 3 --trace t3 -- ./kinds >/dev/null 2>&1
 
 # Blocks: each function that makes them, and where they lie in the source.
-has "blocks" "24 freed 24 freed 24 freed 24 freed" "$("$judge" blocks t work)"
+expect_part "blocks" "24 freed 24 freed 24 freed 24 freed" "$("$judge" blocks t work)"
 for size in 10 5000 128 100; do
-    has "a block of $size" "$size" "$("$judge" blocks t3 work)"
+    expect_part "a block of $size" "$size" "$("$judge" blocks t3 work)"
 done
-has "a refused realloc leaves the block" "100 live" "$("$judge" blocks t work)"
-has "a call site's line" "kinds.c:" "$(grep ' work ' t.table)"
-same "the table's program" "program $PWD/kinds" "$(sed -n '1s|/\./|/|p' t.table)"
-has "the table's files" "/libc.so.6" "$(grep '^map ' t.table)"
+expect_part "a refused realloc leaves the block" "100 live" "$("$judge" blocks t work)"
+expect_part "a call site's line" "kinds.c:" "$(grep ' work ' t.table)"
+expect_equal "the table's program" "program $PWD/kinds" "$(sed -n '1s|/\./|/|p' t.table)"
+expect_part "the table's files" "/libc.so.6" "$(grep '^map ' t.table)"
 
 # What is recorded when.
 "$run" --trace part -- ./odd >/dev/null 2>&1
 "$run" --all --trace whole -- ./odd >/dev/null 2>&1
-within "--all records more" "$(($("$judge" accesses part) + 1000))" 100000000 "$("$judge" accesses whole)"
+expect_between "--all records more" "$(($("$judge" accesses part) + 1000))" 100000000 "$("$judge" accesses whole)"
 "$run" --most 1000 --trace few -- ./odd >few.log 2>&1
-same "--most" "1000 part" "$("$judge" accesses few) $("$judge" end few)"
-has "--most says so" "that many accesses were asked for" "$(cat few.log)"
+expect_equal "--most" "1000 part" "$("$judge" accesses few) $("$judge" end few)"
+expect_part "--most says so" "that many accesses were asked for" "$(cat few.log)"
 "$run" --marked --trace marked.t -- ./marked >/dev/null 2>&1
-same "--marked" "0 0 0" "$("$judge" word marked.t shared 8)"
-same "--marked has what is marked" "20000 20000 1" "$("$judge" word marked.t shared 4)"
-has "--marked without marks" "no PREDATOR_START was reached" "$("$run" --marked --trace t -- ./odd 2>&1)"
-has "one thread" "had one thread" "$("$run" --trace t -- /bin/true 2>&1)"
-same "one thread is a whole trace" "exit 0" "$("$judge" end t)"
+expect_equal "--marked" "0 0 0" "$("$judge" word marked.t shared 8)"
+expect_equal "--marked has what is marked" "20000 20000 1" "$("$judge" word marked.t shared 4)"
+expect_part "--marked without marks" "no PREDATOR_START was reached" "$("$run" --marked --trace t -- ./odd 2>&1)"
+expect_part "one thread" "had one thread" "$("$run" --trace t -- /bin/true 2>&1)"
+expect_equal "one thread is a whole trace" "exit 0" "$("$judge" end t)"
 
 # Programs that end or behave in odd ways: the status, what they print, and how the trace ends.
 odd() { # MODE STATUS END OUTPUT
     local said status
     said=$(echo hello | "$run" --trace o -- ./odd "$1" 2>o.log)
     status=$?
-    same "$1: status" "$2" "$status"
-    same "$1: end" "$3" "$("$judge" end o)"
-    same "$1: output" "$4" "$said"
+    expect_equal "$1: status" "$2" "$status"
+    expect_equal "$1: end" "$3" "$("$judge" end o)"
+    expect_equal "$1: output" "$4" "$said"
 }
 odd kill 137 part "" 2>/dev/null
 odd fault 139 part "" 2>/dev/null
@@ -169,30 +149,30 @@ odd exec 0 part "another program"
 odd close 6 "exit 6" closed
 odd closeall 6 "exit 6" ""
 odd large 6 part large
-has "large says so" "more than 4080 MiB" "$(cat o.log)"
+expect_part "large says so" "more than 4080 MiB" "$(cat o.log)"
 odd block 6 "exit 6" block
 odd detached 9 "exit 9" ""
 odd main-ends 0 "exit 0" ""
 odd limit 6 "exit 6" limited
 odd input 6 "exit 6" hello
-has "standard error" "to standard error" "$(cat o.log)"
+expect_part "standard error" "to standard error" "$(cat o.log)"
 odd signals 6 "exit 6" ""
 odd churn 6 "exit 6" churned
 rm -f o o.*
 
 said=$("$run" --trace t -- ./odd many 300 2>t.log; echo $?)
-same "300 threads" "many 300
+expect_equal "300 threads" "many 300
 6" "$said"
-has "300 threads say so" "more than 256 threads" "$(cat t.log)"
-same "300 threads: end" part "$("$judge" end t)"
-same "256 threads" "many 255 exit 6" "$("$run" --trace t -- ./odd many 255 2>&1) $("$judge" end t)"
+expect_part "300 threads say so" "more than 256 threads" "$(cat t.log)"
+expect_equal "300 threads: end" part "$("$judge" end t)"
+expect_equal "256 threads" "many 255 exit 6" "$("$run" --trace t -- ./odd many 255 2>&1) $("$judge" end t)"
 if [ -x static ]; then
     said=$("$run" --trace t -- ./static 2>&1)
-    has "static" "sum 80000" "$said"
-    has "static says so" "loads no libraries" "$said"
-    within "static: takings" 1500 1700 "$("$judge" taken t counters)"
+    expect_part "static" "sum 80000" "$said"
+    expect_part "static says so" "loads no libraries" "$said"
+    expect_between "static: takings" 1500 1700 "$("$judge" taken t counters)"
 else
-    skip "a static program: it can't be linked here"
+    skip_checks 1 "a static program: it can't be linked here"
 fi
 rm -f t t3 w same* whole part
 
@@ -201,8 +181,8 @@ refused() { # NAME STATUS PART WORDS ..
     local name=$1 status=$2 part=$3 said
     shift 3
     said=$("$run" "$@" 2>&1 </dev/null)
-    same "$name: status" "$status" "$?"
-    has "$name" "$part" "$said"
+    expect_equal "$name: status" "$status" "$?"
+    expect_part "$name" "$part" "$said"
 }
 printf 'no program\n' >text
 cp text script
@@ -234,7 +214,7 @@ refused "the table is the trace" 125 "it is named twice" --trace t --table t -- 
 refused "the table is the program's" 125 "this is the program" --table odd -- ./odd
 refused "a mend and a program" 125 "stands alone" --mend t -- ./odd
 refused "a mend without its trace" 1 "No such file or directory" --mend nowhere
-same "--help" "  predator native [OPTIONS] -- PROGRAM [ARGUMENTS ..]" "$("$run" --help | sed -n 3p)"
+expect_equal "--help" "  predator native [OPTIONS] -- PROGRAM [ARGUMENTS ..]" "$("$run" --help | sed -n 3p)"
 refused "not there" 127 "there is no such program" --trace t -- ./nowhere
 refused "a folder" 126 "this is no file" --trace t -- ./folder
 refused "not executable" 126 "may not be executed" --trace t -- ./gcc.log
@@ -252,9 +232,9 @@ ln -s odd x.table
 refused "the table is the program" 125 "this is the program" --trace x -- ./odd
 refused "the trace can't be written" 125 "No such file or directory" --trace no/where -- ./odd
 refused "a cut program" 126 "ends before its header does" --trace t -- ./cut
-same "the program stays as it is" 6 "$(./odd; echo $?)"
+expect_equal "the program stays as it is" 6 "$(./odd; echo $?)"
 if [ "$(id -u)" = 0 ]; then
-    skip "a program that may not be read: root reads all"
+    skip_checks 1 "a program that may not be read: root reads all"
 else
     chmod a-r unread
     refused "may not be read" 126 "may not be read" --trace t -- ./unread
@@ -263,31 +243,31 @@ fi
 # A full disk, a limit, a pipe that nobody reads any more: the program goes on, and what stands is a whole trace where it can be.
 refused "a full device" 125 "/dev/full: No space left on device" --trace /dev/full -- ./odd
 said=$(ulimit -f 1500; "$run" --trace t -- ./odd close 2>&1)
-same "a limit: status" 6 "$?"
-has "a limit" "t: File too large" "$said"
-has "a limit: the program goes on" "closed" "$said"
-same "a limit: end" part "$("$judge" end t)"
+expect_equal "a limit: status" 6 "$?"
+expect_part "a limit" "t: File too large" "$said"
+expect_part "a limit: the program goes on" "closed" "$said"
+expect_equal "a limit: end" part "$("$judge" end t)"
 mkdir disk
 if mount -t tmpfs -o size=1500k tmpfs disk 2>/dev/null; then
     said=$("$run" --trace disk/t -- ./odd close 2>&1)
-    same "a full disk: status" 6 "$?"
-    has "a full disk" "disk/t: No space left on device" "$said"
-    same "a full disk: end" part "$("$judge" end disk/t)"
+    expect_equal "a full disk: status" 6 "$?"
+    expect_part "a full disk" "disk/t: No space left on device" "$said"
+    expect_equal "a full disk: end" part "$("$judge" end disk/t)"
     umount disk
 else
-    skip "a full disk: no file system can be mounted"
+    skip_checks 1 "a full disk: no file system can be mounted"
 fi
 mkfifo pipe
 head -c 100000 pipe >/dev/null &
 said=$("$run" --trace pipe -- ./odd close 2>&1)
-same "a pipe that ends: status" 6 "$?"
-has "a pipe that ends" "pipe: Broken pipe" "$said"
-has "a pipe that ends: the program goes on" "closed" "$said"
+expect_equal "a pipe that ends: status" 6 "$?"
+expect_part "a pipe that ends" "pipe: Broken pipe" "$said"
+expect_part "a pipe that ends: the program goes on" "closed" "$said"
 cat pipe >from-pipe &
 "$run" --trace pipe -- ./counters >/dev/null 2>&1
 wait
 "$run" --trace file -- ./counters >/dev/null 2>&1
-same "through a pipe" same "$(cmp -s from-pipe file && echo same)"
+expect_equal "through a pipe" same "$(cmp -s from-pipe file && echo same)"
 rm -f t
 "$run" --trace t -- ./odd endless >/dev/null 2>&1 &
 pid=$!
@@ -302,8 +282,8 @@ kill -9 $pid
 wait $pid 2>/dev/null
 # (where the kill came while a piece was written, the file ends in it, and is mended)
 "$judge" end t >ended 2>/dev/null || "$run" --mend t >/dev/null
-same "killed: end" part "$("$judge" end t)"
-within "killed: accesses" 250000 1000000000 "$("$judge" accesses t)"
+expect_equal "killed: end" part "$("$judge" end t)"
+expect_between "killed: accesses" 250000 1000000000 "$("$judge" accesses t)"
 rm -f t
 # (words of the environment move the stack; the pipe has no instructions)
 export KEPT=$work/from-pipe PREDATOR=$work/keeps
@@ -311,17 +291,17 @@ export KEPT=$work/from-pipe PREDATOR=$work/keeps
 unset PREDATOR
 for at in 20 27 1000 1000003; do
     head -c $at whole >cut.t
-    has "mended at $at" "where it ends now" "$("$run" --mend cut.t)"
-    same "mended at $at: end" part "$("$judge" end cut.t)"
-    same "mended at $at: the same records" same "$(cmp -s -n $((at - 24 > 20 ? at - 24 : 20)) cut.t whole && echo same)"
+    expect_part "mended at $at" "where it ends now" "$("$run" --mend cut.t)"
+    expect_equal "mended at $at: end" part "$("$judge" end cut.t)"
+    expect_equal "mended at $at: the same records" same "$(cmp -s -n $((at - 24 > 20 ? at - 24 : 20)) cut.t whole && echo same)"
 done
 cp whole kept
-has "mended: a whole one stays" "it stays as it is" "$("$run" --mend kept)"
-same "mended: the same bytes" same "$(cmp -s kept whole && echo same)"
+expect_part "mended: a whole one stays" "it stays as it is" "$("$run" --mend kept)"
+expect_equal "mended: the same bytes" same "$(cmp -s kept whole && echo same)"
 for it in odd cut; do
     cp $it kept
-    has "mended: no trace" "this is no trace" "$("$run" --mend kept 2>&1)"
-    same "mended: no trace stays" same "$(cmp -s kept $it && echo same)"
+    expect_part "mended: no trace" "this is no trace" "$("$run" --mend kept 2>&1)"
+    expect_equal "mended: no trace stays" same "$(cmp -s kept $it && echo same)"
 done
 
 # Through the pipe, without a file: here to what stands for `predator` and keeps what it reads, counts it, or goes away.
@@ -333,16 +313,16 @@ printf '#!/bin/sh\necho not built >&2\nexit 127\n' >unbuilt
 chmod +x keeps counts dies refuses unbuilt
 pass() { PREDATOR=$work/$1 "$run" "${@:2}"; }
 said=$(pass keeps --quantum 10 -- ./kinds 2>pipe.log; echo $?)
-same "pipe: output and status" "$right" "$said"
-same "pipe: the report" read "$(cat pipe.log)"
-same "pipe: the trace of --trace" same "$(cmp -s from-pipe whole && echo same)"
+expect_equal "pipe: output and status" "$right" "$said"
+expect_equal "pipe: the report" read "$(cat pipe.log)"
+expect_equal "pipe: the trace of --trace" same "$(cmp -s from-pipe whole && echo same)"
 pass keeps --quantum 10 --table back --report r -- ./kinds >/dev/null 2>&1
-same "pipe: the table of --trace" same "$(cmp -s back whole.table && echo same)"
-same "pipe: the report's file" read "$(cat r)"
+expect_equal "pipe: the table of --trace" same "$(cmp -s back whole.table && echo same)"
+expect_equal "pipe: the report's file" read "$(cat r)"
 # (valgrind itself keeps the words of the call in a file, for a moment)
 said=$(ulimit -f 1; pass counts -- ./counters 2>&1)
-has "pipe: no file has it" "sum 80000" "$said"
-within "pipe: all goes through" 1000000 3000000 "$(tail -n 1 <<<"$said")"
+expect_part "pipe: no file has it" "sum 80000" "$said"
+expect_between "pipe: all goes through" 1000000 3000000 "$(tail -n 1 <<<"$said")"
 piped() { # MODE STATUS END OUTPUT
     local said status
     rm -f from-pipe
@@ -350,10 +330,10 @@ piped() { # MODE STATUS END OUTPUT
     # shellcheck disable=SC2086
     said=$(echo hello | pass keeps -- ./odd $1 2>o.log)
     status=$?
-    same "pipe: $1: status" "$2" "$status"
-    same "pipe: $1: end" "$3" "$("$judge" end from-pipe 2>&1)"
-    same "pipe: $1: output" "$4" "$said"
-    has "pipe: $1: the report" read "$(cat o.log)"
+    expect_equal "pipe: $1: status" "$2" "$status"
+    expect_equal "pipe: $1: end" "$3" "$("$judge" end from-pipe 2>&1)"
+    expect_equal "pipe: $1: output" "$4" "$said"
+    expect_part "pipe: $1: the report" read "$(cat o.log)"
 }
 piped kill 137 part "" 2>/dev/null
 piped fault 139 part "" 2>/dev/null
@@ -373,32 +353,32 @@ piped "many 300" 6 part "many 300"
 rm -f vgcore.*
 # (it closes standard error too, and the report's place is the launcher's)
 said=$(pass keeps -- ./odd closeall 2>&1; echo $?)
-same "pipe: closes all" "read
+expect_equal "pipe: closes all" "read
 6" "$said"
 said=$(pass dies -- ./odd close 2>&1; echo $?)
-has "pipe: the replay is killed" "the replay ended with status 137" "$said"
-has "pipe: the replay is killed: the trace" "the trace's pipe: Broken pipe" "$said"
-has "pipe: the replay is killed: the program goes on" "closed" "$said"
-same "pipe: the replay is killed: status" 6 "$(tail -n 1 <<<"$said")"
+expect_part "pipe: the replay is killed" "the replay ended with status 137" "$said"
+expect_part "pipe: the replay is killed: the trace" "the trace's pipe: Broken pipe" "$said"
+expect_part "pipe: the replay is killed: the program goes on" "closed" "$said"
+expect_equal "pipe: the replay is killed: status" 6 "$(tail -n 1 <<<"$said")"
 said=$(pass refuses -- ./odd close 2>&1; echo $?)
-has "pipe: the replay refuses" "refused" "$said"
-has "pipe: the replay refuses: its status" "the replay ended with status 4" "$said"
-same "pipe: the replay refuses: status" 6 "$(tail -n 1 <<<"$said")"
+expect_part "pipe: the replay refuses" "refused" "$said"
+expect_part "pipe: the replay refuses: its status" "the replay ended with status 4" "$said"
+expect_equal "pipe: the replay refuses: status" 6 "$(tail -n 1 <<<"$said")"
 said=$(pass unbuilt -- ./counters 2>&1; echo $?)
-has "pipe: no predator" "doesn't run" "$said"
-same "pipe: no predator: status" 126 "$(tail -n 1 <<<"$said")"
+expect_part "pipe: no predator" "doesn't run" "$said"
+expect_equal "pipe: no predator: status" 126 "$(tail -n 1 <<<"$said")"
 said=$(pass nowhere -- ./counters 2>&1; echo $?)
-same "pipe: predator isn't there" 126 "$(tail -n 1 <<<"$said")"
+expect_equal "pipe: predator isn't there" 126 "$(tail -n 1 <<<"$said")"
 mkdir -p disk
 if mount -t tmpfs -o size=64k tmpfs disk 2>/dev/null; then
     head -c 100000 /dev/zero >disk/full 2>/dev/null
     said=$(pass keeps --table disk/table --report disk/r -- ./counters 2>&1; echo $?)
-    has "pipe: a full disk" "No space left on device" "$said"
-    same "pipe: a full disk: status" 0 "$(tail -n 1 <<<"$said")"
-    same "pipe: a full disk: end" "exit 0" "$("$judge" end from-pipe)"
+    expect_part "pipe: a full disk" "No space left on device" "$said"
+    expect_equal "pipe: a full disk: status" 0 "$(tail -n 1 <<<"$said")"
+    expect_equal "pipe: a full disk: end" "exit 0" "$("$judge" end from-pipe)"
     umount disk
 else
-    skip "pipe: a full disk: no file system can be mounted"
+    skip_checks 1 "pipe: a full disk: no file system can be mounted"
 fi
 rm -f from-pipe
 PREDATOR=$work/keeps "$run" -- ./odd endless >/dev/null 2>pipe.log &
@@ -409,8 +389,8 @@ for child in "${below[@]}"; do
     if tr '\0' ' ' <"/proc/$child/cmdline" | grep -q '/odd endless $'; then kill -9 "$child"; fi
 done
 wait $pid 2>/dev/null
-same "pipe: killed" "137 part" "$? $("$judge" end from-pipe)"
-within "pipe: killed: accesses" 300000 1000000000 "$("$judge" accesses from-pipe)"
+expect_equal "pipe: killed" "137 part" "$? $("$judge" end from-pipe)"
+expect_between "pipe: killed: accesses" 300000 1000000000 "$("$judge" accesses from-pipe)"
 
 # The second way, the instructions of accesses, and how all ends that is ended.
 . "$here/tries/built.sh"
@@ -426,45 +406,45 @@ PREDATOR_BUILD=no "$here/../bin/predator" >/dev/null 2>&1
 if [ $? = 1 ]; then
     export PREDATOR_BUILD=no
     said=$("$run" --report r -- ./counters 2>r.log)
-    same "report: output" "sum 80000" "$said"
-    has "report" "object symbol counters " "$(cat r)"
-    same "report: its last line" end "$(tail -n 1 r)"
-    same "report on standard error" "same" "$("$run" -- ./counters 2>&1 >/dev/null | cmp -s - r && echo same)"
-    same "report: by the launcher" "same" "$("$here/../bin/predator" native -- ./counters 2>&1 >/dev/null | cmp -s - r && echo same)"
+    expect_equal "report: output" "sum 80000" "$said"
+    expect_part "report" "object symbol counters " "$(cat r)"
+    expect_equal "report: its last line" end "$(tail -n 1 r)"
+    expect_equal "report on standard error" "same" "$("$run" -- ./counters 2>&1 >/dev/null | cmp -s - r && echo same)"
+    expect_equal "report: by the launcher" "same" "$("$here/../bin/predator" native -- ./counters 2>&1 >/dev/null | cmp -s - r && echo same)"
     "$run" --trace t -- ./counters >/dev/null 2>&1
-    same "report: that of the trace" "same" "$("$here/../bin/predator" replay t | cmp -s - r && echo same)"
-    has "apart: no line" "lines 0" "$("$run" -- ./apart 2>&1)"
-    has "blocks: a line of the source" "heap.c:13" "$("$run" -- ./heap 2>&1 | grep "^where ")"
-    has "blocks: a line of the source, built" "heap.c:13" "$("$run" --built -- ./heap.tsan 2>&1 | grep "^where ")"
+    expect_equal "report: that of the trace" "same" "$("$here/../bin/predator" replay t | cmp -s - r && echo same)"
+    expect_part "apart: no line" "lines 0" "$("$run" -- ./apart 2>&1)"
+    expect_part "blocks: a line of the source" "heap.c:13" "$("$run" -- ./heap 2>&1 | grep "^where ")"
+    expect_part "blocks: a line of the source, built" "heap.c:13" "$("$run" --built -- ./heap.tsan 2>&1 | grep "^where ")"
     "$run" --report r --settings nowhere -- ./counters >r.out 2>r.log
-    same "no settings: refused" 125 "$?"
-    has "no settings" "nowhere: No such file" "$(cat r.log)"
+    expect_equal "no settings: refused" 125 "$?"
+    expect_part "no settings" "nowhere: No such file" "$(cat r.log)"
     head -c 100000 t >cut.t
-    has "a cut trace" "Truncated 100000" "$("$here/../bin/predator" replay cut.t 2>&1)"
+    expect_part "a cut trace" "Truncated 100000" "$("$here/../bin/predator" replay cut.t 2>&1)"
     "$run" --mend cut.t >/dev/null
-    has "a cut trace, mended" "outcome part" "$("$here/../bin/predator" replay cut.t 2>&1)"
-    has "killed by itself: a report" "outcome part" "$("$run" -- ./odd kill 2>&1)"
+    expect_part "a cut trace, mended" "outcome part" "$("$here/../bin/predator" replay cut.t 2>&1)"
+    expect_part "killed by itself: a report" "outcome part" "$("$run" -- ./odd kill 2>&1)"
     # The examples of guest/ by the second way, beside their builds for RV32.
     mkdir guest
     if setarch -R true 2>/dev/null; then
         while read -r line; do
-            has "guest: ${line%%:*}" ", the same" "$line"
+            expect_part "guest: ${line%%:*}" ", the same" "$line"
         done < <("$here/tries/guest.py" guest 2>&1)
     else
-        skip "guest's examples: the system doesn't let memory lie where it lay"
+        skip_checks 1 "guest's examples: the system doesn't let memory lie where it lay"
     fi
     # The commands of docs/NATIVE.md.
     if /usr/bin/python3 -c 'import elftools, jinja2' 2>/dev/null && command -v llvm-symbolizer llvm-dwarfdump >/dev/null; then
         mkdir docs
         while read -r line; do
-            has "docs" ": as it stands there" "$line"
+            expect_part "docs" ": as it stands there" "$line"
         done < <("$here/tries/docs.py" docs 2>docs.log)
         cat docs.log
     else
-        skip "docs: the packages of view aren't installed (Debian: python3-pyelftools python3-jinja2 llvm)"
+        skip_checks 1 "docs: the packages of view aren't installed (Debian: python3-pyelftools python3-jinja2 llvm)"
     fi
 else
-    skip "reports, docs, and guest's examples: the program isn't built (bin/predator builds it)"
+    skip_checks 1 "reports, docs, and guest's examples: the program isn't built (bin/predator builds it)"
     export PREDATOR_PROGRAM=$here/../view/tests/stand_in.py STAND_IN_LACKS=place
 fi
 
@@ -473,23 +453,25 @@ if /usr/bin/python3 -c 'import elftools, jinja2' 2>/dev/null && command -v llvm-
     view() { PYTHONDONTWRITEBYTECODE=1 "$here/../bin/predator" view "$@" 2>&1; }
     "$run" --quantum 1000 --most 60000 --trace t -- ./counters >/dev/null 2>&1
     said=$(echo "report = 10" >few; view replay t --settings few --words --explain 0)
-    has "view: an object" "counters" "$said"
-    has "view: a field" "counters[1].count" "$said"
+    expect_part "view: an object" "counters" "$said"
+    expect_part "view: a field" "counters[1].count" "$said"
     # (enough misses for a repair to be named)
     "$run" --quantum 100 --most 60000 --trace u -- ./counters >/dev/null 2>&1
-    has "view: its type" "by \`struct __attribute__((aligned(64))) own\` (counters.c:" "$(view replay u --settings few --explain 0 | tr -s '\n ' ' ')"
+    expect_part "view: its type" "its own line: struct __attribute__((aligned(64))) own (counters.c:" "$(view replay u --settings few --explain 0 | tr -s '\n ' ' ')"
     "$run" --trace h -- ./heap
     said=$(view replay h --explain 0)
-    has "view: a block" "block made at heap.c:13 < main" "$said"
+    expect_part "view: a block" "block made at heap.c:13 < main" "$said"
     "$run" --built --trace b -- ./heap.tsan
-    has "view: a block, built" "block made at heap.c:13 < main" "$(view replay b --explain 0)"
-    has "view: a block's fields" ".sum" "$(view replay h --explain 0 --type heap.c:13=tally --words)"
-    has "view: another table" "isn't the table of this report" "$(view replay h --back b.table --explain 0)"
-    said=$(view replay t --back few)
-    same "view: no table: status" 2 "$?"
-    has "view: no table" "it is no table back" "$said"
-    has "view: a table that isn't there" "No such file" "$(view replay t --back nowhere)"
-    has "view: a run has no table" "'--back' is for" "$(view run x --back t.table)"
+    expect_part "view: a block, built" "block made at heap.c:13 < main" "$(view replay b --explain 0)"
+    expect_part "view: a block's fields" ".sum" "$(view replay h --explain 0 --type heap.c:13=tally --words)"
+    # (another program's map may have the report's pages by chance)
+    grep -v "^0x" b.table >pageless.table
+    expect_part "view: another table" "pageless.table isn't the address map of this report and isn't used" "$(view replay h --map pageless.table --explain 0)"
+    said=$(view replay t --map few)
+    expect_equal "view: no table: status" 2 "$?"
+    expect_part "view: no table" "few isn't an address map" "$said"
+    expect_part "view: a table that isn't there" "No such file" "$(view replay t --back nowhere)"
+    expect_part "view: a run has no table" "'--map' applies to" "$(view run x --back t.table)"
     # What ends a call that records ends the program, and its screen is shown; an interrupt comes to the program from the terminal.
     for number in TERM HUP INT; do
         mkdir view-$number
@@ -503,14 +485,13 @@ if /usr/bin/python3 -c 'import elftools, jinja2' 2>/dev/null && command -v llvm-
         longer "$trace" 3000000
         if [ $number = INT ]; then kill -s INT -- -$pid; else kill -s $number $pid; fi
         wait $pid
-        same "view: $number: status" 0 $?
-        has "view: $number: the screen" "  counts" "$(cat said)"
-        same "view: $number: nothing is left" "" "$(left_over "$work/forever"; ls view-$number)"
+        expect_equal "view: $number: status" 0 $?
+        expect_part "view: $number: the screen" "  counts" "$(cat said)"
+        expect_equal "view: $number: nothing is left" "" "$(left_over "$work/forever"; ls view-$number)"
     done
     . "$here/tries/names.sh"
 else
-    skip "view: its packages aren't installed (Debian: python3-pyelftools python3-jinja2 llvm)"
+    skip_checks 1 "view: its packages aren't installed (Debian: python3-pyelftools python3-jinja2 llvm)"
 fi
 
-echo "$passed passed, $failed failed, $skipped skipped"
-[ "$failed" -eq 0 ]
+finish_checks

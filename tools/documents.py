@@ -8,8 +8,8 @@ Prints `FILE:LINE: NAME` for each
   crates.txt doesn't list; a path that begins with src/, specs/ or proofs/, or a name with the ending .rt, is
   below a crate that its paragraph or heading names before;
 - item of a crate, as `report::write_report`, that its src/ doesn't define;
-- clause in the tables of docs/PROMISES.md that no function of the row's crates has, and definition there that
-  no file defines;
+- reference of docs/PROMISES.md that the crates don't have (promises.py), and mistake planted there that isn't
+  found;
 - word in backquotes, a single name, that stands nowhere in the crates, the scripts and the kit for guests
   (but in the studies, which have words of other programs);
 - code that docs/PROMISES.md quotes and no source has; a line `..` stands for what is left out;
@@ -22,7 +22,8 @@ It ends with 1 where there are any."""
 import os
 import re
 import sys
-from typing import Iterator
+
+import promises
 
 TOP = os.path.abspath(os.path.join(os.path.dirname(os.path.abspath(__file__)), ".."))
 PARTS = ("src", "specs", "proofs", "must-fail", "data")
@@ -33,38 +34,27 @@ def read(path: str) -> str:
         return file.read()
 
 
-def find_documents() -> Iterator[str]:
+def find_documents():
     for folder, folders, files in os.walk(TOP):
         folders[:] = [
-            name
-            for name in folders
-            if name not in ("out", "fetched", ".git", "crates", "__pycache__")
+            it for it in folders if it not in ("out", "fetched", ".git", "crates", "__pycache__")
         ]
         yield from (
-            os.path.relpath(os.path.join(folder, name), TOP)
-            for name in files
-            if name.endswith((".md", ".1"))
+            os.path.relpath(os.path.join(folder, it), TOP)
+            for it in files
+            if it.endswith((".md", ".1"))
         )
 
 
 class Crate:
-    """What a crate defines: the text of its sources, and the names of its clauses."""
+    """What a crate defines: the text of its sources."""
 
     def __init__(self, name: str) -> None:
         self.texts = {part: "" for part in PARTS}
         for part in ("src", "specs", "proofs"):
             for folder, _, files in os.walk(os.path.join(TOP, "crates", name, part)):
-                for path in files:
-                    self.texts[part] += read(os.path.join(folder, path))
-        self.defined = set(
-            re.findall(r"^ *(?:[a-z]+ )*([^\s:({]+)\s*[:({]", self.texts["specs"], re.MULTILINE)
-        )
-        self.defined |= set(
-            re.findall(r"\b(?:fn|struct|enum|trait|const) (\w+)", self.texts["src"])
-        )
-        self.clauses = set(
-            re.findall(r"\b(?:ensures\*?|requires|ghost) (\w+)\s*[{=:]", self.texts["src"])
-        )
+                for it in files:
+                    self.texts[part] += read(os.path.join(folder, it))
 
     def has_item(self, name: str) -> bool:
         kinds = r"fn|struct|enum|trait|const|static|type|mod"
@@ -77,9 +67,6 @@ class Crate:
             )
         )
 
-    def defines(self, name: str) -> bool:
-        return name in self.defined
-
 
 def has_path(path: str) -> bool:
     """Whether a path below crates/ is there, with or without its ending, or names an item's folder of
@@ -88,19 +75,17 @@ def has_path(path: str) -> bool:
     return any(os.path.exists(full + it) for it in ("", ".rt", ".antt"))
 
 
-def source_words() -> set[str]:
+def source_words():
     """Every word of the files that aren't documents."""
     found = set()
     for folder, folders, files in os.walk(TOP):
         folders[:] = [
-            name
-            for name in folders
-            if name not in ("out", "fetched", ".git", "docs", "__pycache__")
+            it for it in folders if it not in ("out", "fetched", ".git", "docs", "__pycache__")
         ]
-        for name in files:
-            found.add(name)
+        for it in files:
+            found.add(it)
             if (
-                name.endswith(
+                it.endswith(
                     (
                         ".rt",
                         ".antt",
@@ -115,21 +100,26 @@ def source_words() -> set[str]:
                         ".case",
                     )
                 )
-                or "." not in name
+                or "." not in it
             ):
-                with open(os.path.join(folder, name), encoding="utf-8", errors="ignore") as file:
+                with open(os.path.join(folder, it), encoding="utf-8", errors="ignore") as file:
                     found.update(re.findall(r"[\w≢-]+", file.read()))
     return found
 
 
-def heading_anchors(text: str) -> set[str]:
+def heading_anchors(text):
+    """The names that a link may end with: those of headings, and older ones that a line `<a id="NAME"></a>`
+    keeps."""
     return {
-        re.sub(r"[^\w\- ]", "", heading.lower()).replace(" ", "-")
-        for heading in re.findall(r"^#+ (.*)$", text, re.MULTILINE)
+        *(
+            re.sub(r"[^\w\- ]", "", it.lower()).replace(" ", "-")
+            for it in re.findall(r"^#+ (.*)$", text, re.MULTILINE)
+        ),
+        *re.findall(r'^<a id="([\w-]+)"></a>$', text, re.MULTILINE),
     }
 
 
-def broken_links(name: str, line: str) -> Iterator[str]:
+def broken_links(name, line):
     for to in re.findall(r"\]\(([^)\s]+)\)", line):
         if "://" in to:
             continue
@@ -141,21 +131,20 @@ def broken_links(name: str, line: str) -> Iterator[str]:
             yield to
 
 
-def broken_paths(line: str, about: list[str]) -> list[str]:
+def broken_paths(line, about):
     """Paths of a line that none of some crates has."""
     found = re.findall(r"(?<![\w/.])((?:src|specs|proofs)/[A-Za-z_][\w/]*(?:\.rt|\.antt)?)", line)
     found += [f"src/{it}" for it in re.findall(r"(?<![\w/.])([a-z_]+\.rt)\b", line)]
     return [it for it in found if about and not any(has_path(f"{crate}/{it}") for crate in about)]
 
 
-def unknown_quotes(text: str, crates: dict[str, Crate]) -> Iterator[tuple[int, str]]:
+def unknown_quotes(text, crates):
     """The lines at which the quotes of a document begin that no source has, whatever its spaces and
     comments."""
     sources = [
-        " ".join(re.sub(r"(?m)^\s*//.*$", "", crate.texts["src"]).split())
-        for crate in crates.values()
+        " ".join(re.sub(r"(?m)^\s*//.*$", "", it.texts["src"]).split()) for it in crates.values()
     ]
-    begin, quote = 0, list[str]()
+    begin, quote = 0, []
     for number, line in enumerate([*text.split("\n"), ""], 1):
         if line.startswith("    ") and line.strip() != "..":
             begin = begin if quote else number
@@ -166,49 +155,37 @@ def unknown_quotes(text: str, crates: dict[str, Crate]) -> Iterator[tuple[int, s
             quote = []
 
 
-def crate_layers() -> dict[str, int]:
+def crate_layers():
     """How many crates the longest chain has that ends with a crate, by crates.txt."""
     below = {
-        row.split(":")[0].split()[0]: row.split(":")[1].split()
-        for row in read("crates.txt").split("\n")
-        if re.match(r"[a-z]", row)
+        it.split(":")[0].split()[0]: it.split(":")[1].split()
+        for it in read("crates.txt").split("\n")
+        if re.match(r"[a-z]", it)
     }
 
-    def floor(name: str) -> int:
+    def floor(name):
         return 1 + max((floor(it) for it in below[name] if it in below), default=0)
 
     return {it: floor(it) for it in below}
 
 
-def wrong_layers(text: str) -> list[str]:
-    layers = {
+def wrong_layers(text):
+    told = {
         name: int(floor)
         for floor, name in re.findall(r"^\| (\d) \| `(\w+)` \|", text, re.MULTILINE)
     }
-    return [
-        f"{name}: floor {floor}"
-        for name, floor in crate_layers().items()
-        if layers.get(name) != floor
-    ]
+    return [f"{name}: floor {floor}" for name, floor in crate_layers().items() if told.get(name) != floor]
 
 
-def check_promise(
-    line: str, crates: dict[str, Crate], before: list[str]
-) -> tuple[list[str], list[str]]:
-    """What a row of docs/PROMISES.md names in vain, and the crates that it is about."""
-    cells = [it.strip() for it in line.strip().strip("|").split(" | ")]
-    if len(cells) < 3 or cells[0] == "Promise":
-        return [], before
-    about = [it for it in crates if re.search(rf"\b{it}\b", cells[1])]
-    about += before if "the same" in cells[1] else []
-    clauses = set().union(*(crates[it].clauses for it in about))
-    wrong = [it for it in re.findall(r"`(\w+)`", cells[2]) if it not in clauses]
-    found = [it for it in re.findall(r"`([\w-]+)`", cells[3])] if len(cells) > 3 else []
-    wrong += [it for it in found if not any(crate.defines(it) for crate in crates.values())]
-    return wrong, about
+def wrong_promises(text):
+    """The references of docs/PROMISES.md that the crates don't have, and the planted mistakes that aren't
+    found."""
+    crates = promises.read_crates()
+    found = [f"{promises.PAGE}:{it}" for it in promises.wrong_references(crates, text)]
+    return found + [f"{promises.PAGE}:1: {it}" for it in promises.missed_mistakes(crates, text)]
 
 
-def repeated_words(page: str) -> list[str]:
+def repeated_words(page):
     """The words of the glossary that stand there more than once, each in bold type in the first cell of a
     row."""
     rows = re.findall(
@@ -218,13 +195,10 @@ def repeated_words(page: str) -> list[str]:
     return sorted({it for it in words if words.count(it) > 1})
 
 
-def find_wrong_names(
-    name: str, crates: dict[str, Crate], everywhere: set[str]
-) -> Iterator[tuple[int, dict[str, None]]]:
+def find_wrong_names(name, crates, everywhere):
     """The lines of a document, each with what it names in vain."""
-    about, heading, paragraph, columns = list[str](), list[str](), list[str](), ""
+    heading, paragraph = [], []
     for number, line in enumerate(read(name).split("\n"), 1):
-        columns = (columns or line) if line.startswith("|") else ""
         named = [it for it in crates if re.search(rf"(?<![\w]){it}(?![\w])", line)]
         heading = named if line.startswith("#") else heading
         paragraph = named if line.startswith(("|", "- ")) or not line.strip() else paragraph + named
@@ -235,25 +209,22 @@ def find_wrong_names(
         )
         found += [it for it in paths if not has_path(it)]
         found += [
-            f"crates/{crate}"
-            for crate in re.findall(r"\bcrates/([a-z_0-9]+)", line)
-            if crate not in crates and crate != "NAME"
+            f"crates/{it}"
+            for it in re.findall(r"\bcrates/([a-z_0-9]+)", line)
+            if it not in crates and it != "NAME"
         ]
         items = re.findall(r"`([a-z_0-9]+)::(\w+)", line)
         found += [
-            f"{crate}::{item}"
-            for crate, item in items
-            if crate not in crates or not crates[crate].has_item(item)
+            f"{it}::{item}"
+            for it, item in items
+            if it not in crates or not crates[it].has_item(item)
         ]
         words = re.findall(r"`([A-Za-z][\w-]*)`", line)
         found += [
-            word
-            for word in words
-            if word not in everywhere and not word.endswith("_") and "STUDIES" not in name
+            it
+            for it in words
+            if it not in everywhere and not it.endswith("_") and "STUDIES" not in name
         ]
-        if name == "docs/PROMISES.md" and columns.startswith("| Promise |"):
-            more, about = check_promise(line, crates, about)
-            found += more
         yield number, dict.fromkeys(found)
 
 
@@ -262,28 +233,27 @@ def main(words: list[str]) -> int:
         print(__doc__)
         return 0
     listed = [
-        row.split(":")[0].split()[0]
-        for row in read("crates.txt").split("\n")
-        if re.match(r"[a-z]", row)
+        it.split(":")[0].split()[0]
+        for it in read("crates.txt").split("\n")
+        if re.match(r"[a-z]", it)
     ]
     crates = {it: Crate(it) for it in listed}
     everywhere, wrong = source_words(), []
     page = read("docs/ARCHITECTURE.md")
-    for fault in (
+    for it in (
         []
         if words
         else [*wrong_layers(page), *(f"{it}: twice in the glossary" for it in repeated_words(page))]
     ):
-        wrong.append(f"docs/ARCHITECTURE.md:1: {fault}")
+        wrong.append(f"docs/ARCHITECTURE.md:1: {it}")
     for name in words or sorted(find_documents()):
-        if name == "docs/PROMISES.md":
-            wrong += [
-                f"{name}:{number}: {line}" for number, line in unknown_quotes(read(name), crates)
-            ]
+        if name == promises.PAGE:
+            wrong += [f"{name}:{number}: {line}" for number, line in unknown_quotes(read(name), crates)]
+            wrong += wrong_promises(read(name))
         wrong += [
-            f"{name}:{number}: {text}"
+            f"{name}:{number}: {it}"
             for number, found in find_wrong_names(name, crates, everywhere)
-            for text in found
+            for it in found
         ]
     print("\n".join(wrong), end="\n" if wrong else "")
     return 1 if wrong else 0

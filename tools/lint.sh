@@ -4,7 +4,7 @@
 #     shell     shellcheck, over each shell script, with .shellcheckrc
 #     python    black (its layout, with pyproject.toml) and flake8 (with setup.cfg), over all Python
 #     types     mypy --strict, over campaign/, bench/clock/ and tools/, and mypy over view/, with setup.cfg
-#     c         gcc's analyzer, over native/ and, by the cross compiler that the kit's C library comes with, over the kit; a warning is an error
+#     c         clang-format, clang-tidy and gcc's analyzer, over native/ and, by the cross compiler that the kit's C library comes with, over the kit; a warning is an error
 #
 # What isn't installed is skipped: the status is 77, and the last line names it.
 set -u
@@ -32,10 +32,35 @@ shell_scripts() {
 
 python_files() { files | grep -v '^crates/' | grep '\.py$'; }
 
+# clang-format over the recorders, the tools and the benches; the kit and its examples keep their lines, since programs that were
+# built of them tell places by lines.
+format_c() {
+    if ! command -v clang-format >/dev/null; then
+        echo "skipped: the layout of C, which clang-format checks (Debian: clang-format)"
+        return 0
+    fi
+    clang-format --dry-run -Werror native/{tool,lib}/*.[ch] tools/edges/*.c bench/*.c bench/clock/*.[ch]
+}
+
+# clang-tidy FLAGS .. -- FILE ..
+tidy_c() {
+    local flags=()
+    while [ "$1" != -- ]; do flags+=("$1") && shift; done
+    shift
+    if ! command -v clang-tidy >/dev/null; then
+        echo "skipped: clang-tidy, which isn't installed (Debian: clang-tidy)"
+        return 0
+    fi
+    clang-tidy --quiet "$@" -- "${flags[@]}" 2>/dev/null
+}
+
 judge_c() {
     local headers=/usr/include/valgrind picolibc=${PICOLIBC:-/usr/lib/picolibc/riscv64-unknown-elf} it status=0
     local strict=(-fanalyzer -Wall -Werror -O2 -c -o /dev/null)
+    local valgrind=(-DVGA_amd64=1 -DVGO_linux=1 -DVGP_amd64_linux=1 -DVGPV_amd64_linux_vanilla=1)
     command -v gcc >/dev/null || lacks gcc gcc
+    format_c || status=1
+    tidy_c -std=gnu11 -DPREDATOR_RUNTIME -- native/lib/*.c native/tool/{hold,mend}.c || status=1
     for it in native/lib/*.c native/tool/{trace,objects,sites,nameless}.c; do
         gcc "${strict[@]}" -std=gnu11 -Wno-unused-parameter -fPIC -fexceptions -pthread -DPREDATOR_RUNTIME "$it" || status=1
     done
@@ -43,10 +68,11 @@ judge_c() {
         gcc "${strict[@]}" -std=gnu11 "$it" || status=1
     done
     if [ -e "$headers/pub_tool_tooliface.h" ]; then
-        for it in native/tool/{tool,child,trace,objects,sites,nameless,elf,turns,calls,ticks,preload}.c; do
-            gcc "${strict[@]}" -std=gnu99 -fno-builtin "-I$headers" "-I$headers/vki" \
-                -DVGA_amd64=1 -DVGO_linux=1 -DVGP_amd64_linux=1 -DVGPV_amd64_linux_vanilla=1 "$it" || status=1
+        local tool=(native/tool/{tool,child,trace,objects,sites,nameless,elf,turns,calls,ticks,processor,preload}.c)
+        for it in "${tool[@]}"; do
+            gcc "${strict[@]}" -std=gnu99 -fno-builtin "-I$headers" "-I$headers/vki" "${valgrind[@]}" "$it" || status=1
         done
+        tidy_c -std=gnu99 "-I$headers" "-I$headers/vki" "${valgrind[@]}" -- "${tool[@]}" || status=1
     else
         echo "skipped: the tool, which wants valgrind's headers (Debian: valgrind)"
     fi

@@ -14,21 +14,16 @@ DATA = os.path.join(
 )
 WORDS = 0x20000
 Fault = tuple[list[str], int, str, str]
-BUILD = "guest/build.sh builds for RV32IMA"
-LINK = "link it statically and at fixed addresses, as with -static -no-pie"
-DAMAGED = "the file is damaged or cut off; docs/FORMATS.md says what stands where"
+BUILD = "build it for RV32IMA with guest/build.sh"
+LINK = "link it statically at fixed addresses with -static -no-pie"
+DAMAGED = "the file is damaged or cut off (docs/FORMATS.md describes the format)"
 NO_PCS = (
-    "its accesses have no pcs: `predator run PROGRAM --pcs --trace F` writes them for a guest, "
-    "`predator native --pcs --trace F -- PROGRAM` for a program of this machine"
+    "the trace has no pcs: record a guest with `predator run PROGRAM --pcs --trace F`, or a program "
+    "of this machine with `predator native --pcs --trace F -- PROGRAM`"
 )
-AGAIN = "the file is damaged or cut off; link it again"
-SCRIPT = "guest/link.ld is a linker script that works"
-ENTRY = "the entry is the address of an instruction; guest/start.S has one"
-# The message of a table that moves an access onto another one.
-OCCUPIED = (
-    "t: an access at this address isn't moved, and others would be moved to where it is: "
-    "give them another place, or give this address a line of its own"
-)
+AGAIN = "link the program again, since the file is damaged or cut off"
+SCRIPT = "link it with guest/link.ld, or a linker script like it"
+ENTRY = "set the entry to the address of an instruction, as guest/start.S does"
 
 
 def trace(records: bytes, accesses: int, first: int = 0, harts: int = 8) -> bytes:
@@ -69,165 +64,175 @@ def patch_program(place: int, form: str, value: int) -> bytes:
 SECOND = 52 + 32
 SYMBOLS = 40 + int.from_bytes(program()[32:36], "little")
 PROGRAMS = {
-    "magic.elf": (patch_program(0, "<B", 1), "BadMagic", f"not an ELF file: {BUILD}"),
-    "empty.elf": (b"", "TooShort", f"not an ELF file: {BUILD}"),
-    "script": (b"#!/bin/sh\n", "TooShort", f"a script: {BUILD}"),
-    "wide.elf": (patch_program(4, "<B", 2), "BadClass", f"an ELF file for RV64: {BUILD}"),
+    "magic.elf": (patch_program(0, "<B", 1), "BadMagic", f"the file is not an ELF file: {BUILD}"),
+    "empty.elf": (b"", "TooShort", f"the file is not an ELF file: {BUILD}"),
+    "script": (b"#!/bin/sh\n", "TooShort", f"the file is a script: {BUILD}"),
+    "wide.elf": (patch_program(4, "<B", 2), "BadClass", f"the file is an ELF file for RV64: {BUILD}"),
     "turned.elf": (
         patch_program(5, "<B", 2),
         "BadData",
-        f"an ELF file for another machine: {BUILD}",
+        f"the file is an ELF file for another machine: {BUILD}",
     ),
     "version.elf": (
         patch_program(6, "<B", 2),
         "BadVersion",
-        f"an ELF file of an unknown version: {AGAIN}",
+        f"the file has an unknown ELF version: {AGAIN}",
     ),
     "object.elf": (
         patch_program(16, "<H", 1),
         "BadType",
-        f"an object file, which isn't linked yet: {LINK}",
+        f"the file is an object file, not linked yet: {LINK}",
     ),
     "shared.elf": (
         patch_program(16, "<H", 3),
         "BadType",
-        f"a shared object, or a program without fixed addresses: {LINK}",
+        f"the file is a shared object or a position-independent program: {LINK}",
     ),
     "core.elf": (
         patch_program(16, "<H", 4),
         "BadType",
-        f"not an executable with fixed addresses: {LINK}",
+        f"the file is not an executable with fixed addresses: {LINK}",
     ),
-    "x86.elf": (patch_program(18, "<H", 3), "BadMachine", f"an ELF file for x86: {BUILD}"),
-    "arm.elf": (patch_program(18, "<H", 40), "BadMachine", f"an ELF file for ARM: {BUILD}"),
-    "arm64.elf": (patch_program(18, "<H", 183), "BadMachine", f"an ELF file for AArch64: {BUILD}"),
+    "x86.elf": (patch_program(18, "<H", 3), "BadMachine", f"the file is an ELF file for x86: {BUILD}"),
+    "arm.elf": (patch_program(18, "<H", 40), "BadMachine", f"the file is an ELF file for ARM: {BUILD}"),
+    "arm64.elf": (
+        patch_program(18, "<H", 183),
+        "BadMachine",
+        f"the file is an ELF file for AArch64: {BUILD}",
+    ),
     "flags.elf": (
         patch_program(36, "<I", 1),
         "BadFlags",
-        (
-            "it has compressed instructions, floating-point registers or RV32E's registers: "
-            "compile for little-endian RV32, with -march=rv32ima -mabi=ilp32"
-        ),
+        "the program uses compressed instructions, floating-point registers or RV32E registers: "
+        "compile it for little-endian RV32 with -march=rv32ima -mabi=ilp32",
     ),
     "headers.elf": (
         patch_program(42, "<H", 31),
         "BadHeaderSize",
-        f"its headers have another size than those of RV32: {AGAIN}",
+        f"the ELF headers have the wrong size for RV32: {AGAIN}",
     ),
     "outside.elf": (
         patch_program(28, "<I", 1 << 20),
         "HeadersOutside",
-        f"its headers don't lie in the file: {AGAIN}",
+        f"the ELF headers extend past the end of the file: {AGAIN}",
     ),
-    "dynamic.elf": (patch_program(SECOND, "<I", 2), "Dynamic", f"it is linked dynamically: {LINK}"),
+    "dynamic.elf": (
+        patch_program(SECOND, "<I", 2),
+        "Dynamic",
+        f"the program is linked dynamically: {LINK}",
+    ),
     "segment.elf": (
         patch_program(SECOND + 4, "<I", 1 << 20),
         "SegmentOutsideFile",
-        f"a segment doesn't lie in the file: {AGAIN}",
+        f"a segment extends past the end of the file: {AGAIN}",
     ),
     "sizes.elf": (
         patch_program(SECOND + 20, "<I", 3),
         "SegmentSizes",
-        f"a segment has more bytes in the file than in memory, or ends above 2^32: {SCRIPT}",
+        f"a segment is larger in the file than in memory, or ends above 2^32: {SCRIPT}",
     ),
     "overlap.elf": (
         patch_program(SECOND + 8, "<I", CODE),
         "SegmentOverlap",
-        f"two segments have an address in common: {SCRIPT}",
+        f"two segments overlap: {SCRIPT}",
     ),
     "high.elf": (
         patch_program(SECOND + 8, "<I", 1 << 31),
         "SegmentOutsideMemory",
-        (
-            "its segments, the stacks and a heap have no room in the "
-            "memory: set more `memory`, fewer `harts` or less `stack` in the settings"
-        ),
+        "the segments, the stacks and a heap do not fit in memory: "
+        "set a larger `memory`, fewer `harts` or a smaller `stack` in the settings",
     ),
     "odd.elf": (
         patch_program(24, "<I", CODE + 2),
         "EntryMisaligned",
-        f"its entry is no multiple of 4: {ENTRY}",
+        f"the entry address is not a multiple of 4: {ENTRY}",
     ),
     "entry.elf": (
         patch_program(24, "<I", WORDS),
         "EntryNotExecutable",
-        f"its entry can't be executed: {ENTRY}",
+        f"the entry address is not executable: {ENTRY}",
     ),
     "table.elf": (
         patch_program(SYMBOLS + 20, "<I", 17),
         "BadSymbols",
-        "its symbol table is damaged: llvm-strip takes the symbols away",
+        "the symbol table is damaged: remove the symbols with llvm-strip",
     ),
     "name.elf": (
         program(b"\0words"),
         "BadSymbolName",
-        "the name of a symbol doesn't end: llvm-strip takes the symbols away",
+        "the name of a symbol has no end: remove the symbols with llvm-strip",
     ),
     "long.elf": (
         program().ljust((1 << 24) + 1, b"\0"),
         "TooLong",
-        "a program has at most 16 MiB: llvm-strip --strip-debug makes one shorter",
+        "the file is larger than 16 MiB: make it smaller with llvm-strip --strip-debug",
     ),
 }
 TRACES = {
     "magic": (
         b"PRDTRC00" + bytes(37),
         "BadMagic",
-        "not a trace: `predator run PROGRAM --trace F` writes one, tools/to_trace.py too",
+        "the file is not a trace: write one with `predator run PROGRAM --trace F` or tools/to_trace.py",
     ),
-    "harts": (trace(b"", 0, harts=257), "BadHarts", f"not a trace of 1 to 256 harts: {DAMAGED}"),
-    "tag": (trace(b"\7", 0), "BadTag 20", f"no record begins as byte 20 does: {DAMAGED}"),
+    "harts": (
+        trace(b"", 0, harts=257),
+        "BadHarts",
+        f"the number of harts is not from 1 to 256: {DAMAGED}",
+    ),
+    "tag": (trace(b"\7", 0), "BadTag 20", f"byte 20 begins no record: {DAMAGED}"),
     "field": (
         trace(write(0x1000, 8), 1),
         "BadField 21",
-        f"the field at byte 21 breaks a rule: {DAMAGED}",
+        f"the field at byte 21 is invalid: {DAMAGED}",
     ),
     "short": (
         b"harts = 0\n",
         "Truncated 10",
-        "it ends after 10 bytes, before the trace does: write or copy it again",
+        "the trace is cut off after 10 bytes: record or copy it again",
     ),
     "count": (
         trace(b"", 3),
         "CountMismatch 3 0",
-        f"its end tells of 3 accesses, and it has 0: {DAMAGED}",
+        f"the end record says 3 accesses, the trace has 0: {DAMAGED}",
     ),
     "after": (
         trace(b"", 0) + b"\0",
         "AfterEnd 45",
-        f"byte 45 comes after the end of the trace: {DAMAGED}",
+        f"byte 45 follows the end of the trace: {DAMAGED}",
     ),
     "many": (
         trace(write(0x1000) * 2, 2, first=2**40 - 1),
         "TooLong",
-        "a trace has at most 2^40 accesses, and less than 2^44 bytes",
+        "the trace has more than 2^40 accesses, or 2^44 bytes or more",
     ),
 }
 SCHEDULES = {
     "line": (
         b"\n0 5\n0  1\n",
         "BadLine 3",
-        "line 3 isn't a hart, one space and a count, as `0 500`",
+        "line 3 is not a hart, one space and a count: write it like `0 500`",
     ),
     "hart": (
         b"8 1\n",
         "HartOutOfRange 1",
-        (
-            "line 1 names a hart that there isn't: harts are numbered from 0 on, and `harts` in the"
-            " settings says how many, usually 8"
-        ),
+        "line 1 names a hart that does not exist: number the harts from 0, and set how many there "
+        "are with `harts` in the settings (usually 8)",
     ),
     "zero": (
         b"0 1\n0 0\n",
         "ZeroCount 2",
-        "line 2 has a count of 0: it is at least 1; leave the line out",
+        "line 2 has a count of 0: set it to 1 or more, or remove the line",
     ),
-    "lines": (b"0 1\n" * ((1 << 18) + 1), "TooLong", "a schedule has at most 1 MiB"),
+    "lines": (
+        b"0 1\n" * ((1 << 18) + 1),
+        "TooLong",
+        "the schedule is larger than 1 MiB: shorten it",
+    ),
 }
 FORM = (
-    "isn't FROM SIZE TO, as `0x11004 4 0x11040`, with one space between each two: multiples of 4,"
-    " SIZE at least 4, FROM + SIZE and TO + SIZE at most 2^32, and FROM at or above the end of the"
-    " range before it"
+    "is not a valid FROM SIZE TO: write it like `0x11004 4 0x11040`, with single spaces, multiples "
+    "of 4, SIZE at least 4, FROM + SIZE and TO + SIZE at most 2^32, and FROM at or above the end of "
+    "the previous range"
 )
 TABLES = {
     "odd.moves": (b"\n0 6 8\n", "BadLine 2", f"line 2 {FORM}"),
@@ -235,12 +240,13 @@ TABLES = {
     "meet.moves": (
         b"0 8 64\n8 4 68\n",
         "Overlap 2",
-        (
-            "the place that line 2 moves to and that of an earlier line have bytes in common: "
-            "move it elsewhere"
-        ),
+        "the target of line 2 overlaps the target of an earlier line: move it elsewhere",
     ),
-    "long.moves": (b"\n" * ((1 << 20) + 1), "TooLong", "a table has at most 1 MiB"),
+    "long.moves": (
+        b"\n" * ((1 << 20) + 1),
+        "TooLong",
+        "the table is larger than 1 MiB: shorten it",
+    ),
 }
 # Lines of tables, each just beyond a rule, and behind it the line that keeps it.
 LINES = {
@@ -328,59 +334,55 @@ def list_faults() -> Iterator[Fault]:
             "a",
         ], 14, f"table BadLine {number}", f"wrong.{at}: line {number} {FORM}"
         yield ["move", "empty", f"right.{at}", "a"], 0, "move 0 0", ""
-    yield [
-        "move",
-        "t",
-        "way",
-        "a",
-    ], 14, "table Occupied 0x00001004", OCCUPIED
+    occupied = (
+        "t: an access at this address stays, and other accesses would move to it: "
+        "move them elsewhere, or add a line for this address"
+    )
+    yield ["move", "t", "way", "a"], 14, "table Occupied 0x00001004", occupied
     for name in ("t", "second"):
         yield ["blame", name], 5, "trace NoPcs", f"{name}: {NO_PCS}"
-    none = (
-        "no object symbol of the trace has this name, nor was exactly one block made at that"
-        " address"
-    )
+    none = "no object symbol of the trace has this name, and not exactly one block was allocated at that address: name another object"
     yield ["place", "t", "none"], 13, "place NoObject", none
     yield [
         "place",
         "large",
         "large",
-    ], 13, "place TooLarge", "an object that is placed has at most 16 MiB"
+    ], 13, "place TooLarge", "the object is larger than 16 MiB: name a smaller one"
     yield [
         "place",
         "full",
         "pair",
-    ], 13, "place NoRoom", "the object's words have no room between the last access and the end of the addresses"
+    ], 13, "place NoRoom", "the object's words do not fit between the last access and the end of the addresses: name a smaller object"
     yield [
         "run",
         "plain.elf",
         "--set",
         "budget=2",
-    ], 10, "*", "`budget` in the settings allows more steps, up to 68719476736"
+    ], 10, "*", "the run used its whole budget: set a larger `budget`, at most 68719476736"
     yield [
         "run",
         "waits_for_ever.elf",
-    ], 11, "*", "each hart that is left waits, to be woken at a word or for the end of another hart"
+    ], 11, "*", "every remaining hart waits for a wake-up or for the end of another hart"
     yield [
         "run",
         "traps.elf",
-    ], 12, "*", "`llvm-symbolizer --obj=PROGRAM PC` tells the source line of the pc of the outcome"
+    ], 12, "*", "find the source line of the outcome's pc with `llvm-symbolizer --obj=PROGRAM PC`"
     yield [
         "replay",
         "rest",
-    ], 6, "state WrongPosition 0 1", "rest: its first access is number 1, not 0: count the parts before it first"
+    ], 6, "state WrongPosition 0 1", "rest: the first access of the trace is number 1, not 0: replay the parts before it first"
     yield [
         "replay",
         "t",
         "--resume",
         "state",
-    ], 6, "state BadState 0", "state: not a saved state, or only part of one: byte 0 is wrong"
+    ], 6, "state BadState 0", "state: byte 0 is wrong: the file is not a saved state, or it is cut off"
     yield [
         "replay",
         "few",
         "--resume",
         "saved",
-    ], 6, "state WrongSettings 32", "few: it has another number of harts than what was counted"
+    ], 6, "state WrongSettings 32", "few: the trace and the saved state differ in their number of harts"
     yield [
         "replay",
         "behind",
@@ -388,7 +390,7 @@ def list_faults() -> Iterator[Fault]:
         "saved",
         "--size",
         "32",
-    ], 6, "state WrongSettings 8", "saved: saved with another layout or thresholds, as byte 8 shows"
+    ], 6, "state WrongSettings 8", "saved: the state was saved with another layout or thresholds, as byte 8 shows: use the same"
     yield [
         "replay",
         "rest",

@@ -6,13 +6,13 @@ usage: tools/messages.py PROGRAM [--planted]
 Each key of the settings and each number among the words is given its bounds and what lies just beyond them,
 the keys by a file, by `--set`, and by one of them where the other is right: which file is named, or that none
 is. The ranges and names in what is to be said are put together from commands.toml, so that a message that
-prints another range than the one that it enforces is found. Then each command gets words that are missing, twice
+tells another range than the one that is kept is found. Then each command gets words that are missing, twice
 or too many, and files with each fault. Of each call the status, the text and the line on standard error are
 compared, and no control character is to be in the line. tools/edges tries what is said where the system
 fails.
 
 With --planted each range of commands.toml is then widened, one after the other, as if the program kept
-another one, or printed another one than it enforces, and each must be found."""
+another one or told another one than it keeps, and each must be found."""
 
 import os
 import subprocess
@@ -22,15 +22,7 @@ from concurrent.futures import ThreadPoolExecutor
 from typing import Iterable, Iterator, NamedTuple
 
 import commands
-from commands import (
-    Row,
-    boundary_values,
-    flag_names,
-    read_commands,
-    operand_names,
-    parse_number,
-    option_names,
-)
+from commands import Row, boundary_values, flag_names, read_commands, operand_names, parse_number, option_names
 from message_files import FORM, list_faults, put_files
 
 USUAL = {
@@ -52,7 +44,7 @@ CALLED = {"N": "count", "K": "at", "A": "first", "B": "second"}
 WANTED = {"sweep": ["--size", "64"], "caches": ["--size", "64", "--sets", "4", "--ways", "2"]}
 HIDDEN = "\x7f\x1b[2J\x9b\x85"
 SHOWN = r"\x7f\x1b[2J\x9b\x85"
-LINES = "a line is a key and a whole number, as `quantum = 1`"
+LINES = "write a key and a whole number on each line, like `quantum = 1`"
 
 
 class Try(NamedTuple):
@@ -90,10 +82,10 @@ def usage(words: list[str], said: str) -> Try:
 def range_message(row: Row) -> str:
     """What is said of a key that is out of its range."""
     if "only" in row:
-        return f"`{row['key']}` is {commands.value_text(row)}"
+        return f"`{row['key']}` must be {commands.value_text(row)}"
     least = f"`{row['least']}`" if isinstance(row["least"], str) else row["least"]
     kind = f"a multiple of {row['step']}" if "step" in row else "a whole number"
-    return f"`{row['key']}` is {kind} from {least} to {parse_number(row['greatest'])}"
+    return f"`{row['key']}` must be {kind} from {least} to {parse_number(row['greatest'])}"
 
 
 def settings_file(key: str, value: int) -> str:
@@ -113,9 +105,7 @@ def key_tries(row: Row, usual: dict[str, int]) -> Iterator[Try]:
         status, printed = (None, "") if is_allowed else (4, f"settings OutOfRange {key}")
         file, changed = settings_file(key, value), f"--set={key}={value}"
         yield Try(["check", "p", changed], status, printed, range_message(row))
-        yield Try(
-            ["check", "p", "--settings", file], status, printed, f"{file}: {range_message(row)}"
-        )
+        yield Try(["check", "p", "--settings", file], status, printed, f"{file}: {range_message(row)}")
         # One of them is right: `--set` is to blame though there is a file, and the file though something else
         # is changed.
         yield Try(
@@ -145,10 +135,7 @@ def key_tries(row: Row, usual: dict[str, int]) -> Iterator[Try]:
             f"{file}: {range_message(row)}",
         )
         yield Try(
-            ["check", "p", "--settings", file, changed],
-            status,
-            printed,
-            f"{file}: {range_message(row)}",
+            ["check", "p", "--settings", file, changed], status, printed, f"{file}: {range_message(row)}"
         )
 
 
@@ -171,9 +158,7 @@ def tracking_tries(row: Row) -> Iterator[Try]:
         printed,
         f"low: {range_message(row)}",
     )
-    yield Try(
-        ["check", "p", "--settings", "well", "--set=tracking=60"], 4, printed, range_message(row)
-    )
+    yield Try(["check", "p", "--settings", "well", "--set=tracking=60"], 4, printed, range_message(row))
 
 
 def setting_tries() -> Iterator[Try]:
@@ -184,37 +169,37 @@ def setting_tries() -> Iterator[Try]:
     yield from tracking_tries(next(it for it in TABLE["setting"] if it["key"] == "prediction"))
     for name in (it for it, options in SPACE.items() if "--settings" in options):
         for file, printed, said in (
-            ("harts.0", "OutOfRange harts", "`harts` is a whole number from 1 to 256"),
-            ("twice", "BadToml", f"line 3: duplicate key; {LINES}"),
-            ("no_toml", "BadToml", f"line 2: key with no value, expected `=`; {LINES}"),
-            ("long", "TooLong", "a settings file has at most 64 KiB"),
-            ("unknown", "UnknownKey quantom", f"`quantom` isn't a key: the keys are {keys}"),
+            ("harts.0", "OutOfRange harts", "`harts` must be a whole number from 1 to 256"),
+            ("twice", "BadToml", f"line 3: duplicate key: {LINES}"),
+            ("no_toml", "BadToml", f"line 2: key with no value, expected `=`: {LINES}"),
+            ("long", "TooLong", "the settings file is larger than 64 KiB: shorten it"),
+            ("unknown", "UnknownKey quantom", f"`quantom` is not a key: the keys are {keys}"),
             (
                 "odd",
                 r"UnknownKey h\x7f\xc2\x9b",
-                rf"`h\x7f\xc2\x9b` isn't a key: the keys are {keys}",
+                rf"`h\x7f\xc2\x9b` is not a key: the keys are {keys}",
             ),
         ):
             yield Try(
                 [*least_call(name), "--settings", file], 4, f"settings {printed}", f"{file}: {said}"
             )
         for part, why in (
-            ("quantum", "is no KEY=N"),
-            ("turns=1", "names no key of the settings"),
-            ("", "is no KEY=N"),
+            ("quantum", "is not KEY=N"),
+            ("turns=1", "names an unknown key"),
+            ("", "is not KEY=N"),
             (
                 "quantum=01",
-                "gives no whole number below 2^64, in decimal digits without leading zeros",
+                "needs a whole number below 2^64, in decimal digits without leading zeros",
             ),
             (
                 "quantum=18446744073709551616",
-                "gives no whole number below 2^64, in decimal digits without leading zeros",
+                "needs a whole number below 2^64, in decimal digits without leading zeros",
             ),
         ):
             yield usage([*least_call(name), f"--set={part}"], f"'{part}' in --set {why}")
         yield usage(
             [*least_call(name), "--set", "line=64,line=64"],
-            "'line=64' in --set names a key that stands before it",
+            "'line=64' in --set repeats a key",
         )
 
 
@@ -241,52 +226,42 @@ def power(word: str, name: str) -> str:
 def number_message(name: str, at: str, value: int) -> str:
     """What is said of a number of a command that is out of its range, where all others are as usual."""
     if name == "gen":
-        return f"'{value}' is no count: N is {range_text('N', name)}"
+        return f"'{value}' is not a count: N must be {range_text('N', name)}"
     if name == "split":
-        return f"'{value}' is no place: K is {range_text('K', name)}"
+        return f"'{value}' is not a position: K must be {range_text('K', name)}"
     if name == "explain":
         words = " ".join(str(value) if it == at else USUAL[it] for it in ("BASE", "SIZE", "START"))
         return (
-            f"'{words}' is no line and start: BASE is a multiple of"
-            f" {number_options('BASE', name)['step']} below {power('BASE', name)}, SIZE"
-            f" {range_text('SIZE', name)}, START a number below {power('START', name)}"
+            f"'{words}' is not a line and a start: "
+            f"BASE must be a multiple of {number_options('BASE', name)['step']} below {power('BASE', name)}, "
+            f"SIZE {range_text('SIZE', name)}, START a number below {power('START', name)}"
         )
     if name == "sweep":
-        return f"'--size {value}' is no size to sweep: it is {range_text('--size', name)}"
+        return f"'--size {value}' is not a size that sweep takes: it must be {range_text('--size', name)}"
     if name == "place":
-        return f"'--size {value}' is no size of a line: it is {range_text('--size', name)}"
+        return f"'--size {value}' is not a line size: it must be {range_text('--size', name)}"
     if name == "caches":
         given = dict(zip(WANTED[name][::2], WANTED[name][1::2])) | {at: str(value)}
-        return (
-            f"'{' '.join(f'{it} {word}' for it, word in given.items())}' is no shape of caches:"
-            f" {shapes()}"
-        )
+        return f"'{' '.join(f'{it} {word}' for it, word in given.items())}' is not a cache shape: {shapes()}"
     size, shift = (value, 0) if at == "--size" else (64, value)
-    return f"'--size {size} --shift {shift}' is no layout: {layouts(name)}"
+    return f"'--size {size} --shift {shift}' is not a layout: {layouts(name)}"
 
 
 def shapes() -> str:
     sets = range_text("--sets", "caches").removeprefix("a power of two ")
     return (
-        f"--size is {range_text('--size', 'caches')}, --sets one {sets}, --ways"
-        f" {range_text('--ways', 'caches')}, and sets times ways at most 4096"
+        f"--size must be {range_text('--size', 'caches')}, --sets one {sets}, "
+        f"--ways {range_text('--ways', 'caches')}, and sets times ways at most 4096"
     )
 
 
 def layouts(name: str) -> str:
-    return (
-        f"--size is {range_text('--size', name)}, --shift a multiple of"
-        f" {number_options('--shift', name)['step']} below the size"
-    )
+    return f"--size must be {range_text('--size', name)}, --shift a multiple of {number_options('--shift', name)['step']} below the size"
 
 
 def boundary_numbers(row: Row) -> Iterator[tuple[int, bool]]:
     """The bounds of a number and what lies beside them, each with whether it is allowed."""
-    least, greatest, step = (
-        parse_number(row["least"]),
-        parse_number(row["greatest"]),
-        row.get("step", 1),
-    )
+    least, greatest, step = parse_number(row["least"]), parse_number(row["greatest"]), row.get("step", 1)
     if "power" in row:
         yield from (
             (least, True),
@@ -305,9 +280,7 @@ def boundary_numbers(row: Row) -> Iterator[tuple[int, bool]]:
 
 def number_tries(row: Row) -> Iterator[Try]:
     """A number with each value beside its bounds, in each of its commands."""
-    for name, (value, is_allowed) in (
-        (name, it) for name in row["commands"] for it in boundary_numbers(row)
-    ):
+    for name, (value, is_allowed) in ((name, it) for name in row["commands"] for it in boundary_numbers(row)):
         word = row["word"]
         # (what is made for the greatest count would fill the disk)
         others = {"FILE": "missing/a"} if name == "gen" else {}
@@ -326,30 +299,30 @@ def all_number_tries() -> Iterator[Try]:
         yield from number_tries(row)
     yield usage(
         ["caches", "t", "--size", "64", "--sets", "128", "--ways", "33"],
-        f"'--size 64 --sets 128 --ways 33' is no shape of caches: {shapes()}",
+        f"'--size 64 --sets 128 --ways 33' is not a cache shape: {shapes()}",
     )
     yield Try(["caches", "t", "--size", "64", "--sets", "64", "--ways", "64"], None)
     for word, wrong in (("03", "has a leading zero"), ("+3", "has a sign")):
-        yield usage(["gen", word, "a"], f"'{word}' {wrong}: N is {range_text('N', 'gen')}")
+        yield usage(["gen", word, "a"], f"'{word}' {wrong}: N must be {range_text('N', 'gen')}")
         yield usage(
-            ["split", "t", word, "a", "b"], f"'{word}' {wrong}: K is {range_text('K', 'split')}"
+            ["split", "t", word, "a", "b"], f"'{word}' {wrong}: K must be {range_text('K', 'split')}"
         )
         yield usage(["replay", "t", "--size", word], f"'{word}' {wrong}: {layouts('replay')}")
         yield usage(
             ["caches", "t", "--size", "64", "--sets", word, "--ways", "2"],
             f"'{word}' {wrong}: {shapes()}",
         )
-    yield usage(["gen", "-3", "a"], "unexpected argument '-3' found: no number is negative")
+    yield usage(["gen", "-3", "a"], "unexpected argument '-3' found: numbers cannot be negative")
     yield usage(["replay", "t", "--shift=-4"], f"'-4' is negative: {layouts('replay')}")
-    yield usage(["sweep", "t"], f"--size is missing: it is {range_text('--size', 'sweep')}")
+    yield usage(["sweep", "t"], f"--size is missing: it must be {range_text('--size', 'sweep')}")
 
 
 # ---- Words.
 
 
 def word_tries() -> Iterator[Try]:
-    yield usage([], "the command is missing; see predator --help")
-    yield usage([HIDDEN], f"'{SHOWN}' is no command; see predator --help")
+    yield usage([], "the command is missing: see predator --help")
+    yield usage([HIDDEN], f"'{SHOWN}' is not a command: see predator --help")
     yield Try(
         ["replay", "none" + HIDDEN],
         7,
@@ -385,37 +358,29 @@ def word_tries() -> Iterator[Try]:
                 [name, *given, option, "4", f"{option}=4"],
                 f"the argument {called} cannot be used multiple times",
             )
-    yield usage(["run", "p", "--pcs"], "--pcs is for a trace, and --trace is missing")
+    yield usage(["run", "p", "--pcs"], "--pcs needs --trace")
     for missing in ("--size", "--sets", "--ways"):
         at = least_call("caches").index(missing)
-        yield usage(
-            least_call("caches")[:at] + least_call("caches")[at + 2 :], f"{missing} is missing"
-        )
+        yield usage(least_call("caches")[:at] + least_call("caches")[at + 2 :], f"{missing} is missing")
 
 
 # ---- Files.
 
 
 def file_tries() -> Iterator[Try]:
-    """Each fault of a file once, and one for each command that reads such a file, whose name is printed."""
+    """Each fault of a file once, and one for each command that reads such a file, whose name is told."""
     for words, status, printed, said in list_faults():
         yield Try(words, status, printed, said)
-    cut = "it ends after 10 bytes, before the trace does: write or copy it again"
+    cut = "the trace is cut off after 10 bytes: record or copy it again"
     for name, row in COMMANDS.items():
         if "TRACE" in row.get("reads", ()):
             yield Try(least_call(name, TRACE="short"), 5, "trace Truncated 10", f"short: {cut}")
             yield Try(
-                least_call(name, TRACE="missing"),
-                7,
-                "read fault",
-                "missing: No such file or directory",
+                least_call(name, TRACE="missing"), 7, "read fault", "missing: No such file or directory"
             )
         if "TABLE" in row.get("reads", ()):
             yield Try(
-                least_call(name, TABLE="missing"),
-                7,
-                "read fault",
-                "missing: No such file or directory",
+                least_call(name, TABLE="missing"), 7, "read fault", "missing: No such file or directory"
             )
             # (the table is judged before the trace)
             yield Try(
@@ -429,26 +394,23 @@ def file_tries() -> Iterator[Try]:
                 least_call(name, PROGRAM="script"),
                 2,
                 "elf TooShort",
-                "script: a script: guest/build.sh builds for RV32IMA",
+                "script: the file is a script: build it for RV32IMA with guest/build.sh",
             )
             yield Try(
                 least_call(name, PROGRAM="x86.elf"),
                 2,
                 "elf BadMachine",
-                "x86.elf: an ELF file for x86: guest/build.sh builds for RV32IMA",
+                "x86.elf: the file is an ELF file for x86: build it for RV32IMA with guest/build.sh",
             )
             yield Try(
-                least_call(name, PROGRAM="missing"),
-                7,
-                "read fault",
-                "missing: No such file or directory",
+                least_call(name, PROGRAM="missing"), 7, "read fault", "missing: No such file or directory"
             )
         if "--schedule" in SPACE[name]:
             yield Try(
                 [*least_call(name), "--schedule", "short"],
                 3,
                 "schedule BadLine 1",
-                "short: line 1 isn't a hart, one space and a count, as `0 500`",
+                "short: line 1 is not a hart, one space and a count: write it like `0 500`",
             )
             yield Try(
                 [*least_call(name), "--schedule", "missing"],
@@ -493,10 +455,7 @@ def find_fault(program: str, attempt: Try) -> str:
     wanted = attempt.status, text, f"predator: {attempt.said}\n" if attempt.said else ""
     if (ran.returncode, printed, said) == wanted:
         return ""
-    return (
-        f"it ended with {ran.returncode}, printed {printed[:80]!r}, said {said!r}; wanted are"
-        f" {attempt.status}, {text[:80]!r}, {wanted[2]!r}"
-    )
+    return f"it ended with {ran.returncode}, printed {printed[:80]!r}, said {said!r}; wanted are {attempt.status}, {text[:80]!r}, {wanted[2]!r}"
 
 
 def find_failures(program: str, tries: Iterable[Try]) -> Iterator[str]:
@@ -532,12 +491,7 @@ def try_planted(program: str) -> Iterator[str]:
         rows[at] = row
 
 
-KINDS = {
-    "settings": setting_tries,
-    "numbers": all_number_tries,
-    "words": word_tries,
-    "files": file_tries,
-}
+KINDS = {"settings": setting_tries, "numbers": all_number_tries, "words": word_tries, "files": file_tries}
 
 
 def main(words: list[str]) -> int:

@@ -15,6 +15,6 @@ def plain(text: object) -> str:
     if text.isprintable():
         return text
     return "".join(
-        it if it.isprintable() else it.encode("unicode_escape", "surrogatepass").decode()
-        for it in text
+        char if char.isprintable() else char.encode("unicode_escape", "surrogatepass").decode()
+        for char in text
     )

@@ -1,4 +1,4 @@
-"""From a report to the source: `predator view ..`. docs/VIEW.md tells what it shows."""
+"""From a report to the source: `predator view ..`. docs/VIEW.md describes its output."""
 
 import functools
 import gc
@@ -12,7 +12,7 @@ sys.path.insert(0, os.path.dirname(os.path.dirname(os.path.abspath(__file__))))
 
 from view.model import comparison  # noqa: E402
 from view.model import miss_rates  # noqa: E402
-from view.reading.calls import ALONE, HELP, OUTPUTS, TOP, Call, nearest  # noqa: E402
+from view.reading.calls import ALONE, BY, HELP, MISSES, OUTPUTS, TOP, Call, nearest  # noqa: E402
 from view.faults import Fault, plain  # noqa: E402
 from view.model.view import View, memory_of  # noqa: E402
 from view.names.naming import Naming  # noqa: E402
@@ -22,7 +22,7 @@ from view.reading.pipes import fed, kept  # noqa: E402
 from view.reading.engine import Predator  # noqa: E402
 from view.reading.recording import recorded, traced  # noqa: E402
 from view.reading.reports import Report, Symbol  # noqa: E402
-from view.output.screen import Paint, screen  # noqa: E402
+from view.output.screen import Paint, counted, screen, width_of_screen  # noqa: E402
 from view.names.source_lines import Sources  # noqa: E402
 from view.model.miss_rates import Worth  # noqa: E402
 
@@ -67,24 +67,22 @@ def program_of(call: Call) -> "tuple[Program | NativeProgram | None, Sources | N
         return None, None
     if program.dwarf is None:
         say(f"{program.path} has {lacking(native if table else None)}")
-    for it in call.options["type"]:
-        program.type_named(it.partition("=")[2])
+    for assignment in call.options["type"]:
+        program.type_named(assignment.partition("=")[2])
     return program, sources
 
 
 def lacking(native: "NativeProgram | None") -> str:
-    """What a program has in the place of debug information, what is unknown for this, and how that comes to be known."""
-    package = (
-        ", or install its package of debug information (Debian: NAME-dbgsym)" if native else ""
-    )
+    """What a program has instead of debug information, what is unknown for this, and what to do."""
+    package = ", or install its debug package (Debian: NAME-dbgsym)" if native else ""
     if native and native.has_go_table():
-        how = f"leave it unstripped, without -s and -w in -ldflags{package}"
-        return f"Go's table of functions and lines, but no types, so fields are unknown: {how}"
+        how = f"link it without -s and -w in -ldflags{package}"
+        return f"Go's function table but no types, so fields are unknown: {how}"
     how = f"build it with -g{package}"
     if native and native.has_panics():
-        how += "; `near a panic at` is no place of the code itself, but one where its function may panic"
+        how += "; `near a panic at` names a panic of the same function, not the instruction itself"
     elif native and native.has_landmarks():
-        how += "; `near` and `in a method of` tell what the function that code is in refers to, and not the place itself"
+        how += "; `near` and `in a method of` name something that the function refers to, not the instruction itself"
     return f"no debug information, so fields and source lines are unknown: {how}"
 
 
@@ -98,9 +96,9 @@ def native_of(program: "Program | NativeProgram | None") -> "NativeProgram | Non
 
 
 def table_of(call: Call) -> str | None:
-    """The table back of a program of this machine: the one that is named, or that beside the trace."""
-    if "back" in call.options or call.program or call.how != "replay":
-        return call.options.get("back")
+    """The address map of a native program: the one that is named, or that beside the trace."""
+    if "map" in call.options or call.program or call.how != "replay":
+        return call.options.get("map")
     from view.names.native import beside
 
     return beside(call.subject)
@@ -114,9 +112,9 @@ def stranger(program: "Program | NativeProgram", report: Report) -> str | None:
         return program.stranger(report)
     known = program.symbols()
     for line in report.lines[:1000]:
-        for it in line.objects():
-            if isinstance(it, Symbol) and (it.addr, it.size) not in known:
-                return f"it has no symbol {it.name} of {it.size} bytes at {it.addr:#010x}"
+        for obj in line.objects():
+            if isinstance(obj, Symbol) and (obj.addr, obj.size) not in known:
+                return f"no symbol {obj.name} of {obj.size:,} bytes at {obj.addr:#010x}"
     return None
 
 
@@ -130,23 +128,23 @@ def report_of(call: Call, predator: Predator | None) -> Report:
 
 
 def check_name(name: str | None, naming: Naming) -> None:
-    """Refuses the name of an object that the program hasn't: a test of it would say nothing."""
+    """Refuses the name of an object that the program hasn't: a test of it would always pass."""
     program = naming.program
     if name is None or program is None or ":" in name or " " in name:
         return
     known = {naming.readable(it) for it in program.symbols().values()}
     if name not in known:
         near = nearest(name, known).strip()
-        raise Fault(f"'{name}' is no variable of {program.path}{near and '; '}{near}")
+        raise Fault(f"{program.path} has no variable '{name}'{near and '; '}{near}")
 
 
 def check_seen(view: View) -> None:
-    """Refuses a test of an object that nothing is seen of, where that may be since there is none."""
+    """Refuses a test of an object that isn't in the report, where the program may have none of that name."""
     name = view.call.options.get("object")
     if name is not None and not view.chosen():
         if view.naming.program is None and "fail-above" in view.call.options:
             raise Fault(
-                f"nothing is seen of '{name}', and without '--program' it can't be told whether there is such a variable"
+                f"'{name}' isn't in the report: add '--program' to check that there is such a variable"
             )
         check_name(name, view.naming)
 
@@ -182,9 +180,9 @@ def found(call: Call, predator: Predator | None, passes: Passes | None) -> View:
         named = (
             f"{call.program} isn't the program"
             if call.program
-            else f"{table_of(call)} isn't the table"
+            else f"{table_of(call)} isn't the address map"
         )
-        say(f"{named} of this report: {strange}; it is left aside")
+        say(f"{named} of this report and isn't used: it has {strange}")
         call.program = program = sources = None
     memory = memory_of(call, predator, native_of(program))
     view = View(call, report, Naming(report, program, sources, call.options["type"], memory))
@@ -211,18 +209,21 @@ def found(call: Call, predator: Predator | None, passes: Passes | None) -> View:
 
 
 def is_above(view: View) -> bool:
-    """Whether an object has more than the call allows, which is said."""
-    most, by = view.call.number("fail-above", 0), view.call.options.get("by", "useless")
-    if by == "useless" and view.misses is None:
+    """Whether an object has more than the call allows, with a message for each."""
+    most, by = view.call.number("fail-above", 0), view.call.options.get("by", BY[0])
+    if by in MISSES and view.misses is None:
         raise Fault(
-            "useless misses are unknown here, so --fail-above can't judge them; --by count can"
+            "false-sharing misses are unknown here: use '--fail-above' with '--by invalidations'"
         )
     found = False
-    for it in view.chosen():
-        if getattr(it, by) > most:
-            say(
-                f"{view.label(it)} has {getattr(it, by)} {'useless misses' if by == 'useless' else 'counted'}, more than {most}"
-            )
+    for obj in view.chosen():
+        # (`count` is the former name, of what the report lists)
+        much = (
+            obj.useless if by in MISSES else obj.count if by == "count" else view.invalidations(obj)
+        )
+        if much > most:
+            what = counted(much, "false-sharing miss" if by in MISSES else "invalidation")
+            say(f"{view.label(obj)} has {what}, more than {most:,}")
             found = True
     return found
 
@@ -257,29 +258,31 @@ def is_same(one: str, other: str) -> bool:
 
 
 def keep_inputs(call: Call) -> None:
-    """Refuses outputs that are a file which is read or written by the program, or one another, and those for which there is no folder."""
+    """Refuses an output that is an input, an output of the program or another output, and one without a folder."""
     taken = [
-        it
-        for it in (
+        path
+        for path in (
             call.subject,
             call.program,
             table_of(call),
             *call.words,
             *(word.partition("=")[2] for word in call.words),
         )
-        if it and it != "-"
+        if path and path != "-"
     ]
     if [call.options.get(name) for name in OUTPUTS].count("-") > 1:
-        raise Fault("`-` is standard output, and can be one output alone")
+        raise Fault("only one output can be `-`, standard output")
     for name in OUTPUTS:
-        it, old = call.options.get(name), call.options.get("against") if name != "json" else None
-        if it is None or it == "-":
+        path, old = call.options.get(name), call.options.get("against") if name != "json" else None
+        if path is None or path == "-":
             continue
-        if any(is_same(it, other) for other in (*taken, *([old] if old else []))):
-            raise Fault(f"{it}: the same file is in use under another name, and stays as it is")
-        if not os.path.isdir(os.path.dirname(it) or "."):
-            raise Fault(f"{it}: No such file or directory")
-        taken.append(it)
+        if any(is_same(path, other) for other in (*taken, *([old] if old else []))):
+            raise Fault(
+                f"{path} is used twice: outputs must differ from each other and from inputs"
+            )
+        if not os.path.isdir(os.path.dirname(path) or "."):
+            raise Fault(f"{path}: No such file or directory")
+        taken.append(path)
 
 
 def outputs(view: View) -> None:
@@ -304,7 +307,7 @@ def outputs(view: View) -> None:
 
 
 def show(call: Call) -> int:
-    """Does what a call asks, and gives its status."""
+    """Runs a call, and returns its status."""
     keep_inputs(call)
     if call.how in ALONE:
         return show_alone(call)
@@ -333,20 +336,20 @@ def show_alone(call: Call) -> int:
 
 
 def tell(view: View, old: comparison.Before | None) -> None:
-    """Prints the screen, and what got better and worse."""
-    for it in screen(view, Paint()):
-        print(it)
+    """Prints the screen, and the comparison."""
+    for row in screen(view, Paint(), width_of_screen()):
+        print(row)
     if old is not None:
-        for it in comparison.compared(view, old, view.call.options["against"]):
-            print(it)
+        for row in comparison.compared(view, old, view.call.options["against"]):
+            print(row)
 
 
 def main(words: list[str]) -> int:
     # (millions of lines live as long as the call, and none goes round in a ring)
     gc.disable()
-    for it in (sys.stdout, sys.stderr):
-        if isinstance(it, io.TextIOWrapper):
-            it.reconfigure(errors="backslashreplace")
+    for stream in (sys.stdout, sys.stderr):
+        if isinstance(stream, io.TextIOWrapper):
+            stream.reconfigure(errors="backslashreplace")
     try:
         call = Call(words)
         if "help" in call.options:
@@ -367,8 +370,8 @@ def main(words: list[str]) -> int:
     except KeyboardInterrupt:
         return 130
     except MemoryError:
-        say("memory ran out")
-    except Exception:  # (an uncaught one would end with 1, which says that an object is above)
+        say("out of memory")
+    except Exception:  # (an uncaught one would end with 1, the status of --fail-above)
         traceback.print_exc()
     return 2
 

@@ -1,13 +1,15 @@
-// What the programs of this folder have in common: each is one source, for predator's harts (guests.sh) and for this machine.
+// What the programs of this folder have in common: each is one source, for predator's harts
+// (guests.sh) and for this machine.
 //
 //     -DPADDED      the repaired form, by alignment alone: what is OWN begins with a line
 //     -DTHREADS=N   how many threads work (4); the first one makes them and waits
 //     -DLINE=N      how long a line is (64)
 //     -DROUNDS=N    how much each thread does, in the place of the usual amount
 //
-// For this machine the words of the call are ROUNDS and then a processor for each thread, on which it is pinned. It prints the result,
-// the nanoseconds from the first thread's begin to the last one's end, how often the threads were switched meanwhile, of themselves and
-// not, and for how many nanoseconds they had no processor.
+// For this machine the words of the call are ROUNDS and then a processor for each thread, on which
+// it is pinned. It prints the result, the nanoseconds from the first thread's begin to the last
+// one's end, how often the threads were switched meanwhile, of themselves and not, and for how many
+// nanoseconds they had no processor.
 #ifndef CLOCK_H
 #define CLOCK_H
 
@@ -43,24 +45,25 @@
 #define OWN
 #endif
 
-#define LOAD(word) __atomic_load_n(&(word), __ATOMIC_RELAXED)
-#define STORE(word, value) __atomic_store_n(&(word), value, __ATOMIC_RELAXED)
-#define ACQUIRE(word) __atomic_load_n(&(word), __ATOMIC_ACQUIRE)
+#define LOAD(word)           __atomic_load_n(&(word), __ATOMIC_RELAXED)
+#define STORE(word, value)   __atomic_store_n(&(word), value, __ATOMIC_RELAXED)
+#define ACQUIRE(word)        __atomic_load_n(&(word), __ATOMIC_ACQUIRE)
 #define RELEASE(word, value) __atomic_store_n(&(word), value, __ATOMIC_RELEASE)
-#define ADD(word, value) __atomic_fetch_add(&(word), value, __ATOMIC_ACQ_REL)
-#define SWAP(word, value) __atomic_exchange_n(&(word), value, __ATOMIC_ACQ_REL)
-#define FENCE() __atomic_thread_fence(__ATOMIC_SEQ_CST)
+#define ADD(word, value)     __atomic_fetch_add(&(word), value, __ATOMIC_ACQ_REL)
+#define SWAP(word, value)    __atomic_exchange_n(&(word), value, __ATOMIC_ACQ_REL)
+#define FENCE()              __atomic_thread_fence(__ATOMIC_SEQ_CST)
 
-// Spins while it is so. On this machine it lets others have the processor after a while, in case that what it waits for has none.
+// Spins while it is so. On this machine it lets others have the processor after a while, in case
+// that what it waits for has none.
 #ifdef __riscv
-#define SPIN_WHILE(condition)                                                                                                              \
-    while (condition)                                                                                                                      \
-        ;                                                                                                                                  \
+#define SPIN_WHILE(condition)                                                                      \
+    while (condition)                                                                              \
+        ;                                                                                          \
     (void)0
 #else
-#define SPIN_WHILE(condition)                                                                                                              \
-    for (uint32_t spins = 0; condition;)                                                                                                   \
-    if (++spins % 4096 == 0)                                                                                                               \
+#define SPIN_WHILE(condition)                                                                      \
+    for (uint32_t spins = 0; condition;)                                                           \
+        if (++spins % 4096 == 0)                                                                   \
     sched_yield()
 #endif
 
@@ -77,16 +80,10 @@ static inline void lock(uint32_t *word)
         SPIN_WHILE(LOAD(*word) != 0);
 }
 
-static inline void unlock(uint32_t *word)
-{
-    RELEASE(*word, 0);
-}
+static inline void unlock(uint32_t *word) { RELEASE(*word, 0); }
 
 // Numbers that look random.
-static inline uint32_t next(uint32_t value)
-{
-    return value * 1664525u + 1013904223u;
-}
+static inline uint32_t next(uint32_t value) { return value * 1664525u + 1013904223u; }
 
 // So many times eight steps or so of arithmetic that touch no memory.
 static inline uint32_t spend(uint32_t value, uint32_t times)
@@ -100,32 +97,31 @@ static inline uint32_t spend(uint32_t value, uint32_t times)
     return value;
 }
 
-static inline void nothing(void)
-{
-}
+static inline void nothing(void) {}
 
 #ifdef __riscv
 
-// RUN(SETUP, WORK, RESULT, USUAL): `main`, which calls SETUP(), then WORK(number, rounds) in each thread, and puts out what RESULT() gives.
-#define RUN(setup, work, result, usual)                                                                                                    \
-    static int thread(void *number)                                                                                                        \
-    {                                                                                                                                      \
-        work((uint32_t)(uintptr_t)number, ROUNDS_OR(usual));                                                                               \
-        return 0;                                                                                                                          \
-    }                                                                                                                                      \
-    int main(void)                                                                                                                         \
-    {                                                                                                                                      \
-        int harts[THREADS];                                                                                                                \
-        setup();                                                                                                                           \
-        for (uint32_t i = 0; i < THREADS; i++)                                                                                             \
-            harts[i] = predator_spawn(thread, (void *)(uintptr_t)i);                                                                       \
-        for (uint32_t i = 0; i < THREADS; i++)                                                                                             \
-            if (harts[i] < 0 || predator_join(harts[i]) != 0)                                                                              \
-                return 1;                                                                                                                  \
-        print("result ");                                                                                                                  \
-        print_number(result());                                                                                                            \
-        print("\n");                                                                                                                       \
-        return 0;                                                                                                                          \
+// RUN(SETUP, WORK, RESULT, USUAL): `main`, which calls SETUP(), then WORK(number, rounds) in each
+// thread, and puts out what RESULT() gives.
+#define RUN(setup, work, result, usual)                                                            \
+    static int thread(void *number)                                                                \
+    {                                                                                              \
+        work((uint32_t)(uintptr_t)number, ROUNDS_OR(usual));                                       \
+        return 0;                                                                                  \
+    }                                                                                              \
+    int main(void)                                                                                 \
+    {                                                                                              \
+        int harts[THREADS];                                                                        \
+        setup();                                                                                   \
+        for (uint32_t i = 0; i < THREADS; i++)                                                     \
+            harts[i] = predator_spawn(thread, (void *)(uintptr_t)i);                               \
+        for (uint32_t i = 0; i < THREADS; i++)                                                     \
+            if (harts[i] < 0 || predator_join(harts[i]) != 0)                                      \
+                return 1;                                                                          \
+        print("result ");                                                                          \
+        print_number(result());                                                                    \
+        print("\n");                                                                               \
+        return 0;                                                                                  \
     }
 
 #else
@@ -185,7 +181,8 @@ static int clock_main(int count, char **words, uint32_t usual, uint32_t (*result
     pthread_barrier_init(&clock_run.all, NULL, THREADS);
     for (int i = 0; i < THREADS; i++) {
         clock_threads[i].cpu = count > i + 2 ? atoi(words[i + 2]) : -1;
-        if (pthread_create(&clock_threads[i].thread, NULL, clock_run_thread, (void *)(uintptr_t)i) != 0)
+        if (pthread_create(&clock_threads[i].thread, NULL, clock_run_thread,
+                           (void *)(uintptr_t)i) != 0)
             return 1;
     }
     for (int i = 0; i < THREADS; i++) {
@@ -200,19 +197,17 @@ static int clock_main(int count, char **words, uint32_t usual, uint32_t (*result
         voluntary += it->voluntary;
         involuntary += it->involuntary;
     }
-    printf("result %u\nns %lld\nswitches %ld %ld away %lld\n", result(), last - first, voluntary, involuntary, away);
+    printf("result %u\nns %lld\nswitches %ld %ld away %lld\n", result(), last - first, voluntary,
+           involuntary, away);
     return 0;
 }
 
-#define RUN(setup, work, result, usual)                                                                                                    \
-    static void clock_work(uint32_t number, uint32_t rounds)                                                                               \
-    {                                                                                                                                      \
-        work(number, rounds);                                                                                                              \
-    }                                                                                                                                      \
-    int main(int count, char **words)                                                                                                      \
-    {                                                                                                                                      \
-        setup();                                                                                                                           \
-        return clock_main(count, words, ROUNDS_OR(usual), result);                                                                         \
+#define RUN(setup, work, result, usual)                                                            \
+    static void clock_work(uint32_t number, uint32_t rounds) { work(number, rounds); }             \
+    int main(int count, char **words)                                                              \
+    {                                                                                              \
+        setup();                                                                                   \
+        return clock_main(count, words, ROUNDS_OR(usual), result);                                 \
     }
 
 #endif

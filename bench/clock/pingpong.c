@@ -1,5 +1,5 @@
-// How long a line takes from one processor to another: two threads, pinned to the two that are named, hand one word to and fro. It prints
-// the middle of 15 tries, in nanoseconds for one way.
+// How long a line takes from one processor to another: two threads, pinned to the two that are
+// named, hand one word to and fro. It prints the middle of 15 tries, in nanoseconds for one way.
 //
 //     gcc -O2 -pthread pingpong.c -o pingpong && ./pingpong 0 1
 #define _GNU_SOURCE
@@ -68,7 +68,8 @@ int main(int count, char **words)
         clock_gettime(CLOCK_MONOTONIC, &begin);
         play(0);
         clock_gettime(CLOCK_MONOTONIC, &end);
-        took[i] = ((end.tv_sec - begin.tv_sec) * 1e9 + (double)(end.tv_nsec - begin.tv_nsec)) / (2.0 * TIMES);
+        took[i] = ((end.tv_sec - begin.tv_sec) * 1e9 + (double)(end.tv_nsec - begin.tv_nsec)) /
+                  (2.0 * TIMES);
     }
     pthread_join(thread, NULL);
     qsort(took, TRIES, sizeof *took, is_less);

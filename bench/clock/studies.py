@@ -1,8 +1,8 @@
 #!/usr/bin/env python3
 """The studies that are kept, beside each other.
 
-usage: bench/clock/studies.py                prints the tables of docs/STUDIES.md and docs/GUIDE.md
-       bench/clock/studies.py --renew        puts them into both
+usage: bench/clock/studies.py                prints the tables of docs/STUDIES.md
+       bench/clock/studies.py --renew        puts them there
        bench/clock/studies.py --html FILE    writes a page with the points of all, which wants python3-jinja2
 
 A study is kept as results/NAME.tsv, which is the study.tsv that run.py writes."""
@@ -15,16 +15,7 @@ from statistics import median
 from typing import Callable, Iterator, Mapping, Sequence
 
 from counts import Count
-from judge import (
-    QUANTA,
-    USUAL,
-    Cell,
-    Row,
-    band_summary,
-    total_misses,
-    rank_correlation,
-    invalidation_rate,
-)
+from judge import QUANTA, USUAL, Cell, Row, band_summary, total_misses, rank_correlation, invalidation_rate
 from page import page
 from pairs import FORMS, HERE, TOP, Program, Trouble, find_programs
 from tables import Study, number_text, table
@@ -34,8 +25,6 @@ RESULTS = os.path.join(HERE, "results")
 # The programs of the table: of the first band and of the last, and those on which the bands and the bound
 # mislead.
 NAMED = ("nodes", "atomics", "readers", "stores", "blocks", "bytes", "guarded", "ring")
-# Those that GUIDE shows: one of the last band and one of the first.
-SHOWN = ("atomics", "guarded")
 
 
 def parse_number(text: str) -> int:
@@ -89,12 +78,7 @@ def parse_row(cells: Mapping[str, str], texts: Mapping[str, str]) -> Row:
     }
     program = Program(cells["program"], cells["kind"], texts.get(cells["program"], ""), "")
     return Row(
-        program,
-        parse_number(cells["threads"]),
-        parse_number(cells["guest rounds"]),
-        timed,
-        counts,
-        recorded,
+        program, parse_number(cells["threads"]), parse_number(cells["guest rounds"]), timed, counts, recorded
     )
 
 
@@ -107,8 +91,8 @@ def parse_values(text: str) -> Study:
         if name.startswith("line ")
     }
     machine = {
-        name: text
-        for name, text in notes.items()
+        name: told
+        for name, told in notes.items()
         if not name.startswith("line ") and name != "step"
     }
     texts = {it.name: it.text for it in find_programs()}
@@ -134,7 +118,7 @@ def bands_table(studies: Mapping[str, Study]) -> str:
     heads = ["False-sharing misses per 1,000 steps"]
     rows: list[list[Cell]] = [[it[0]] for it in band_summary([])]
     for name, study in studies.items():
-        heads += [f"{name}: cases", "least", "middle", "greatest"]
+        heads += [f"{name}: cases", "least", "median", "greatest"]
         rows = [own + more[1:] for own, more in zip(rows, band_summary(study.quiet_rows()))]
     return table(heads, rows)
 
@@ -143,10 +127,10 @@ def rank_table(study: Study) -> list[tuple[str, Cell]]:
     """The rank correlations of the slowdown with some numbers."""
     chosen = {
         "false-sharing misses": rate(USUAL),
-        "the same in turns of 10": rate(10),
-        "the same in turns of 1": rate(1),
+        "the same, quantum 10": rate(10),
+        "the same, quantum 1": rate(1),
     }
-    chosen |= {"both kinds of misses": total_misses, "the report's count": invalidation_rate}
+    chosen |= {"false- and true-sharing misses": total_misses, "invalidations": invalidation_rate}
     return [
         (f"rank correlation with {name}", rank_correlation(study.quiet_rows(), entry))
         for name, entry in chosen.items()
@@ -158,9 +142,9 @@ def rate(quantum: int) -> Callable[[Row], float | None]:
 
 
 def is_true_sharing(row: Row) -> bool:
-    """Whether most misses of the unpadded form are true-sharing misses."""
+    """Whether most misses of a program as it is are useful."""
     found = row.counts[FORMS[0], USUAL]
-    return found.true_sharing > found.false_sharing
+    return found.useful > found.useless
 
 
 def bound_facts(study: Study) -> list[tuple[str, Cell]]:
@@ -175,30 +159,30 @@ def bound_facts(study: Study) -> list[tuple[str, Cell]]:
     over = sum(row.share() > it + 0.02 for row, it in most)
     return [
         (
-            "*at most* was passed by 2 points",
+            "*at most* exceeded by 2 points",
             f"{over} of {len(most)}: {', '.join(passed)}" if over else f"0 of {len(most)}",
         ),
         (
-            "the part of *at most* that padding saved, in the middle",
+            "share of *at most* that padding saved, median",
             median(saved) if saved else None,
         ),
     ]
 
 
 def study_facts(study: Study) -> list[tuple[str, Cell]]:
-    """Further facts of a study in the document."""
+    """What else the document tells of a study."""
     rows, ways = study.quiet_rows(), sorted(study.lines.values())
     handed = [it for it in rows if is_true_sharing(it)]
     slower, gained = sum(it.slowdown() < 0.95 for it in handed), sum(
         it.slowdown() > 1.05 for it in handed
     )
     return [
-        ("pairs that nothing disturbed", f"{len(rows)} of {len(study.rows)}"),
+        ("undisturbed pairs", f"{len(rows)} of {len(study.rows)}"),
         ("ns from one processor to another", f"{ways[0]:.0f} to {ways[-1]:.0f}"),
         *rank_table(study),
         *bound_facts(study),
         (
-            "of those with mostly true-sharing misses, a pad cost 5% or more; saved it",
+            "of pairs with mostly true sharing, slower by 5% when padded; faster",
             f"{slower}; {gained} of {len(handed)}",
         ),
     ]
@@ -216,39 +200,31 @@ def slowdown_text(study: Study, name: str) -> str:
     """The slowdowns of a program with each number of threads, those of disturbed runs in brackets."""
     own = sorted((it for it in study.rows if it.program.name == name), key=lambda row: row.threads)
     return ", ".join(
-        number_text(text.slowdown()) if text.is_quiet() else f"({number_text(text.slowdown())})"
-        for text in own
+        number_text(it.slowdown()) if it.is_quiet() else f"({number_text(it.slowdown())})" for it in own
     )
 
 
-def programs_table(studies: Mapping[str, Study], names: Sequence[str], is_told: bool) -> str:
-    """Some programs: their texts, if these are wanted, their false-sharing misses, and their slowdowns."""
+def programs_table(studies: Mapping[str, Study], names: Sequence[str]) -> str:
+    """The false-sharing misses of some programs, and their slowdowns."""
     first, rows = next(iter(studies.values())), []
     for name in names:
         own = sorted(
             (it for it in first.rows if it.program.name == name), key=lambda row: row.threads
         )
         rates = ", ".join(number_text(it.rate()) for it in own)
-        what = [own[0].program.text] if is_told else []
-        rows.append(
-            [f"`{name}`", *what, rates, *[slowdown_text(it, name) for it in studies.values()]]
-        )
+        rows.append([f"`{name}`", rates, *[slowdown_text(it, name) for it in studies.values()]])
     heads = [
         "Program",
-        *(["What it does"] if is_told else []),
-        "False per 1,000 steps",
+        "False-sharing misses per 1,000 steps",
         *[f"{it}: slowdown" for it in studies],
     ]
-    return table(heads, rows, 2 if is_told else 1)
+    return table(heads, rows)
 
 
 def document_parts(studies: Mapping[str, Study]) -> dict[str, dict[str, str]]:
     """The texts between the marks of each document."""
-    tables = [bands_table(studies), facts_table(studies), programs_table(studies, NAMED, False)]
-    return {
-        "STUDIES.md": {"clock": "\n\n".join(tables)},
-        "GUIDE.md": {"clock": programs_table(studies, SHOWN, True)},
-    }
+    told = [bands_table(studies), facts_table(studies), programs_table(studies, NAMED)]
+    return {"STUDIES.md": {"clock": "\n\n".join(told)}}
 
 
 def renew_parts(text: str, found: Mapping[str, str], of: str) -> str:

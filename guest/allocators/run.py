@@ -13,21 +13,10 @@ import tempfile
 
 HERE = os.path.dirname(os.path.abspath(__file__))
 sys.path.insert(0, os.path.join(HERE, "..", "studies"))
-from report import (  # noqa: E402
-    BUILT,
-    PROGRAM,
-    TOP,
-    Run,
-    code_block,
-    renew_document,
-    markdown_table,
-    object_rows,
-)
+from report import BUILT, PROGRAM, TOP, Run, renew_document, markdown_table  # noqa: E402
 
 SETTINGS = "memory = 67108864\n"
 KIT = "the kit's `malloc`"
-# How many lines of a report are shown, and how many objects of each.
-MOST, MOST_OF_ONE = 4, 2
 SHIM = [os.path.join(HERE, "shim", "shim.c")]
 FETCHED = os.path.join(HERE, "fetched")
 # Each allocator's sources, and the flags that its own documents name for a release with locks.
@@ -99,12 +88,6 @@ def table_row(name, workload, run, heap):
     ]
 
 
-def first_lines(report):
-    """The first observed lines, and the beginning of what stands on each."""
-    lines = [(it.text, it.objects) for it in report.lines_of_kind("observed")[:MOST]]
-    return [text for rows in object_rows(lines, MOST_OF_ONE) for text in rows]
-
-
 def main(words):
     if not os.path.isdir(os.path.join(FETCHED, "mimalloc")):
         sys.exit("run.py: guest/allocators/fetch.sh fetches the allocators' sources first")
@@ -112,7 +95,7 @@ def main(words):
         for name in (it for it in ALLOCATORS if it != KIT):
             build(os.path.join(BUILT, f"{name.split()[0]}.elf"), *ALLOCATORS[name])
         return 0
-    rows, shown, wrong = [], [], 0
+    rows, wrong = [], 0
     with tempfile.TemporaryDirectory() as work:
         for name, (sources, flags) in ALLOCATORS.items():
             for workload, more in WORKLOADS.items():
@@ -121,21 +104,16 @@ def main(words):
                 run = Run(path, SETTINGS)
                 wrong += len(run.wrong)
                 rows.append(table_row(name, workload, run, heap_begin(path)))
-                if not more:
-                    shown.append(
-                        f"{name}:\n\n" + code_block(first_lines(run.report) or ["lines 0"])
-                    )
     heads = [
         "Allocator",
         "First blocks",
         "Lines with blocks",
         "of two threads",
         "Observed on the heap",
-        "Counts",
+        "Invalidations",
     ]
     parts = {
-        "allocators": markdown_table([*heads, "Observed elsewhere", "Counts", "Recount"], rows),
-        "allocators' lines": "\n\n".join(shown),
+        "allocators": markdown_table([*heads, "Observed elsewhere", "Invalidations", "Recount"], rows),
     }
     for name, text in parts.items():
         print(f"\n== {name}\n\n{text}")

@@ -52,21 +52,17 @@ SUITES = {
     program: AdvicePlan((), f"{program}-at-0")
     for program in ("linear_regression", "string_match", "word_count")
 }
-# What isn't shown of what is advised: why, where it is declared, how blocks are made, sizes and counts.
-WHY = r"^harts have words of their own in .*?: (?=give )"
-REST = re.compile(
-    WHY
-    + r"| \([\w.-]+:\d+\)|, and make the blocks by `[^`]*`|[:;] \d+ bytes become.*|; counted so.*"
-)
+# What isn't shown of a fix: where something is declared, how blocks are allocated, and sizes.
+REST = re.compile(r" \([\w.-]+:\d+\)|, allocated with `[^`]*`|, [\d,]+ → [\d,]+ bytes.*")
 # The code of a repair that is one of a type alone.
 CODE = re.compile(r"give each element [^`]*(`struct [^`]*`)")
-COUNTED = re.compile(r"useless (\d+) before, (\d+) after; useful (\d+), (\d+)")
+COUNTED = re.compile(r"misses false ([\d,]+) → ([\d,]+), true ([\d,]+) → ([\d,]+)")
 
 
-def fix_text(todo):
-    """What is advised, in short."""
-    code = CODE.match(todo)
-    return code[1] if code else REST.sub("", todo)
+def fix_text(fix):
+    """A fix, in short."""
+    code = CODE.match(fix)
+    return code[1] if code else REST.sub("", fix)
 
 
 def build_others(*studies, **more):
@@ -154,15 +150,20 @@ class Study:
     def row(self):
         """The row of the table, and what is wrong."""
         found = self.run_view(self.build(self.name))
-        advised = [it for it in found["objects"] if it["repaired"]]
-        together = [it for it in found["notes"] if it.startswith("all that is to do")]
-        counts = COUNTED.search(together[0] if together else advised[0]["todo"] if advised else "")
-        before = found["total"]["useless"], found["total"]["useful"]
-        foretold = (int(counts[2]), int(counts[4])) if counts else before
+        advised = [it for it in found["objects"] if it["tried"]]
+        together = [it for it in found["notes"] if it.startswith("all fixes together")]
+        before = found["total"]["false_sharing"], found["total"]["true_sharing"]
+        foretold = before
+        if together:
+            counts = [int(it.replace(",", "")) for it in COUNTED.findall(together[0])[0]]
+            foretold = counts[1], counts[3]
+        elif advised:
+            after = advised[0]["tried"]["after"]
+            foretold = after["false_sharing"], after["true_sharing"]
         counted = self.count_misses(self.build_fixed())
-        how = "; ".join(fix_text(it["todo"]) for it in advised) or "nothing"
+        how = "; ".join(fix_text(it["fix"]) for it in advised) or "nothing"
         is_good = abs(sum(counted) - sum(foretold)) * 10 < sum(before) and (
-            sum(counted) < sum(before) or not counts
+            sum(counted) < sum(before) or not advised
         )
         wrong = (
             []
@@ -189,7 +190,7 @@ def main(words):
             row, bad = Study(name, folder).row()
         rows.append(row)
         wrong += bad
-    heads = ["Program", "What is advised", "Useless and useful before", "Foretold", "Counted"]
+    heads = ["Program", "Advice", "Before", "Tried on the trace", "After the change"]
     text = markdown_table(heads, rows)
     print(text)
     for fault in wrong:

@@ -14,14 +14,7 @@ import tempfile
 HERE = os.path.dirname(os.path.abspath(__file__))
 sys.path.insert(0, os.path.join(HERE, "..", "studies"))
 from costs import Build, program_output  # noqa: E402
-from report import (  # noqa: E402
-    Run,
-    code_block,
-    renew_document,
-    address_text,
-    markdown_table,
-    object_rows,
-)
+from report import Run, renew_document, address_text, markdown_table  # noqa: E402
 
 OUT = os.path.join(HERE, "out")
 # Of each study its builds: as it is, and after each repair.
@@ -42,34 +35,11 @@ LARGE = {"zstd": SETTINGS + "memory = 67108864\n", "xz": SETTINGS + "memory = 67
 # observed, with how far its data moved.
 PREDICTED = ["rte_ring", "rte_ring-together", "kt_for-apart"]
 MOVED = {"rte_ring-together": ("rte_ring-together-at-24", 24)}
-# How many lines of a report, and how many of the misses, are shown, and how many objects of each.
-MOST, MOST_OF_ONE = 2, 2
 
 
-def first_rows(lines):
-    """The rows of the first lines of a list, each with the first objects on it."""
-    return [text for rows in object_rows(lines[:MOST], MOST_OF_ONE) for text in rows]
-
-
-def excerpt(name, run, build):
-    """The first observed lines of a report, and the lines with most false-sharing misses."""
-    observed = run.report.lines_of_kind("observed")
-    missed = [it for it in build.missed if it.false_sharing > 0]
-    return code_block(
-        [
-            f"{name}: lines {len(run.report.lines)}, {len(observed)} of them observed",
-            *first_rows([(it.text, it.objects) for it in observed]),
-        ]
-        + [
-            f"{name}: lines with false-sharing misses {len(missed)}",
-            *first_rows([(it.texts[0], it.texts[1:]) for it in missed]),
-        ]
-    )
-
-
-def count_false_sharing(text, base, size):
-    """The false-sharing misses of all lines in a range, by a text of misses."""
-    found = re.findall(r"^line (\S+) cold \d+ useful \d+ useless (\d+)$", text, re.MULTILINE)
+def count_false_sharing(told, base, size):
+    """The useless misses of all lines of a text of misses that lie in a range."""
+    found = re.findall(r"^line (\S+) cold \d+ useful \d+ useless (\d+)$", told, re.MULTILINE)
     return sum(int(count) for at, count in found if base <= int(at, 16) < base + size)
 
 
@@ -92,33 +62,15 @@ def prediction_row(name, runs):
             os.devnull,
         )
         there = count_false_sharing(
-            program_output(
-                "misses", trace, "--size", str(line.size), "--shift", str(line.base % line.size)
-            ),
+            program_output("misses", trace, "--size", str(line.size), "--shift", str(line.base % line.size)),
             line.base,
             line.size,
         )
-        inside = count_false_sharing(
-            program_output("misses", trace), line.base & -64, line.size + line.base % 64
-        )
-    row = [
-        name,
-        line.kind,
-        f"`{address_text(line.base)}`",
-        line.size,
-        line.count,
-        there,
-        inside,
-        "-",
-        "-",
-    ]
+        inside = count_false_sharing(program_output("misses", trace), line.base & -64, line.size + line.base % 64)
+    row = [name, line.kind, f"`{address_text(line.base)}`", line.size, line.count, there, inside, "-", "-"]
     if name in MOVED:
         other, far = MOVED[name]
-        seen = [
-            line
-            for line in runs[other].report.lines_of_kind("observed")
-            if line.base == line.base + far
-        ]
+        seen = [it for it in runs[other].report.lines_of_kind("observed") if it.base == line.base + far]
         row[-2:] = [f"`{address_text(it.base)}` of {other}" for it in seen] + [
             own.count for own in seen
         ] or ["-", "-"]
@@ -130,9 +82,8 @@ def main(words):
     if "--renew" in words and names != list(STUDIES):
         sys.exit("run.py: --renew is for all studies")
     subprocess.run([os.path.join(HERE, "build.sh"), *names], check=True)
-    runs, costs, conflicts, parts, wrong = {}, [], [], {}, []
+    runs, costs, fights, parts, wrong = {}, [], [], {}, []
     for study in names:
-        shown_here = []
         for name in STUDIES[study]:
             path = os.path.join(OUT, f"{name}.elf")
             settings = LARGE.get(study, SETTINGS)
@@ -143,44 +94,48 @@ def main(words):
                 run.report.sum_counts("observed"),
                 run.by_word.sum_counts("observed"),
             ]
-            costs.append([name, run.report.steps, *counts, *build.total, run.excerpt_title()])
+            lines = sum(it.useless > 0 for it in build.missed)
+            costs.append([name, run.report.steps, *counts, *build.total, lines, run.excerpt_title()])
             if build.pair and name == STUDIES[study][0]:
-                conflicts.append([name, f"`{address_text(build.base)}`", build.count, *build.pair])
-            shown_here.append(excerpt(name, run, build))
+                fights.append([name, f"`{address_text(build.base)}`", build.count, *build.pair])
             wrong += [f"{name}: {it}" for it in run.wrong + build.wrong]
-        parts[study] = "\n\n".join(shown_here)
     heads = [
         "Build",
         "Steps",
         "Observed lines",
-        "Counts",
+        "Invalidations",
         "By word",
         "Cold",
         "True",
         "False",
+        "Lines with false",
         "Recount",
     ]
     parts["others"] = markdown_table(heads, costs)
-    parts["others' conflicts"] = markdown_table(
-        ["Build", "Line", "Count", "Who takes it most", "From whom", "Taken", "For the same word"],
-        conflicts,
-    )
+    heads = [
+        "Build",
+        "Line",
+        "Invalidations",
+        "Most frequent invalidator",
+        "Invalidated",
+        "Times",
+        "Same word",
+    ]
+    parts["others' conflicts"] = markdown_table(heads, fights)
     heads = [
         "Build",
         "Kind",
         "Predicted line",
         "Size",
-        "Count",
+        "Invalidations",
         "False there",
         "False in its lines of 64",
         "Observed",
-        "Count",
+        "Invalidations",
     ]
-    parts["others foretold"] = markdown_table(
-        heads, [prediction_row(it, runs) for it in PREDICTED if it in runs]
-    )
-    for name, text in parts.items():
-        print(f"\n== {name}\n\n{text}")
+    parts["others predicted"] = markdown_table(heads, [prediction_row(it, runs) for it in PREDICTED if it in runs])
+    for name, told in parts.items():
+        print(f"\n== {name}\n\n{told}")
     for fault in wrong:
         print(fault)
     if "--renew" in words:

@@ -13,16 +13,7 @@ import subprocess
 import sys
 import tempfile
 
-from report import (
-    PROGRAM,
-    SETTINGS,
-    TOP,
-    Report,
-    study_builds,
-    renew_document,
-    address_text,
-    markdown_table,
-)
+from report import PROGRAM, SETTINGS, TOP, Report, study_builds, renew_document, address_text, markdown_table
 
 sys.path.insert(0, os.path.join(TOP, "tools"))
 import recount_misses  # noqa: E402
@@ -42,7 +33,7 @@ def source_place(path, pc, name):
     words = ["llvm-symbolizer", f"--obj={path}", "--output-style=JSON", f"{pc:#x}"]
     ran = subprocess.run(words, stdout=subprocess.PIPE, text=True, check=True)
     frames = json.loads(ran.stdout)[0]["Symbol"]
-    # (the compiler gives some inlined code no line: then the line of the call is used)
+    # (the compiler gives some inlined code no line, and then the call's is told)
     lines = [
         f"`{os.path.basename(frame['FileName'])}:{frame['Line']}`"
         for frame in frames
@@ -65,9 +56,7 @@ class Build:
             with open(settings, "w") as file:
                 file.write(settings_text)
             observed = Report(
-                program_output(
-                    "run", path, "--settings", settings, "--trace", trace, "--output", os.devnull
-                )
+                program_output("run", path, "--settings", settings, "--trace", trace, "--output", os.devnull)
             ).lines_of_kind("observed")
             counted = program_output("misses", trace)
             with open(trace, "rb") as file:
@@ -77,8 +66,7 @@ class Build:
                 r"^total cold (\d+) useful (\d+) useless (\d+)$", counted, re.MULTILINE
             ).groups()
             self.missed = [
-                MissLine(block)
-                for block in re.split(r"^(?=line )", counted, flags=re.MULTILINE)[1:]
+                MissLine(block) for block in re.split(r"^(?=line )", counted, flags=re.MULTILINE)[1:]
             ]
             lines = {it.base: it for it in observed}
             bases = [it.base for it in (self.missed if is_worst else observed)]
@@ -88,34 +76,28 @@ class Build:
 
     def explain_line(self, settings):
         start = self.line.start if self.line else 0
-        text = program_output(
+        told = program_output(
             "explain", self.path, address_text(self.base), "64", str(start), "--settings", settings
         )
-        self.count = int(re.search(r"^line .* count (\d+)$", text, re.MULTILINE)[1])
+        self.count = int(re.search(r"^line .* count (\d+)$", told, re.MULTILINE)[1])
         if self.line and self.count != self.line.count:
             self.wrong.append(
-                f"{self.path}: the report counts {self.line.count} of {address_text(self.base)},"
-                f" and explain {self.count}"
+                f"{self.path}: the report counts {self.line.count} of {address_text(self.base)}, and explain {self.count}"
             )
-        found = re.search(r"^pair (\S+) (\S+) taken (\d+) same (\d+)$", text, re.MULTILINE)
+        found = re.search(r"^pair (\S+) (\S+) taken (\d+) same (\d+)$", told, re.MULTILINE)
         if found is None:
             return None
-        names = dict(re.findall(r"^site (\S+) .* (\S+)$", text, re.MULTILINE))
+        names = dict(re.findall(r"^site (\S+) .* (\S+)$", told, re.MULTILINE))
         places = [source_place(self.path, int(it, 16), names[it]) for it in found.groups()[:2]]
         return [*reversed(places), *found.groups()[2:]]
 
 
 class MissLine:
-    """A line of the text of misses, with what stands on it."""
+    """A line of the text of misses."""
 
-    def __init__(self, text):
-        self.texts = [it for it in text.splitlines() if it.split()[0] in ("line", "object", "site")]
-        words = self.texts[0].split()
-        self.base, self.true_sharing, self.false_sharing = (
-            int(words[1], 16),
-            int(words[5]),
-            int(words[7]),
-        )
+    def __init__(self, told):
+        words = told.split()
+        self.base, self.useful, self.useless = int(words[1], 16), int(words[5]), int(words[7])
 
 
 def main(words):
@@ -123,7 +105,7 @@ def main(words):
     names = [it for it in words if it != "--renew"] or list(studies)
     if "--renew" in words and names != list(studies):
         sys.exit("costs.py: --renew is for all studies")
-    costs, conflicts, wrong = [], [], []
+    costs, fights, wrong = [], [], []
     with tempfile.TemporaryDirectory() as work:
         # (with line tables; the instructions are those of the builds without)
         subprocess.run([os.path.join(TOP, "guest", "build.sh"), "studies", work], check=True)
@@ -131,23 +113,23 @@ def main(words):
             build = Build(os.path.join(work, f"{name}.elf"), SETTINGS.get(name.split("-")[0], ""))
             costs.append([name, *build.total])
             if build.pair:
-                conflicts.append([name, f"`{address_text(build.base)}`", build.count, *build.pair])
+                fights.append([name, f"`{address_text(build.base)}`", build.count, *build.pair])
             wrong += build.wrong
     heads = [
         "Build",
         "Line",
-        "Count",
-        "Who takes it most",
-        "From whom",
-        "Taken",
-        "For the same word",
+        "Invalidations",
+        "Most frequent invalidator",
+        "Invalidated",
+        "Times",
+        "Same word",
     ]
     parts = {
-        "costs": markdown_table(["Build", "Cold", "True", "False"], costs),
-        "conflicts": markdown_table(heads, conflicts),
+        "costs": markdown_table(["Build", "Cold", "True sharing", "False sharing"], costs),
+        "conflicts": markdown_table(heads, fights),
     }
-    for name, text in parts.items():
-        print(f"\n== {name}\n\n{text}")
+    for name, told in parts.items():
+        print(f"\n== {name}\n\n{told}")
     for fault in wrong:
         print(fault)
     if "--renew" in words:

@@ -15,8 +15,7 @@ PAGE = os.path.join(TOP, "docs", "STUDIES.md")
 SETTINGS = {"bounded_queue": "quantum = 10\n"}
 
 sys.path.insert(0, os.path.join(TOP, "tools"))
-from recount import recount_lines  # noqa: E402
-from traces import read_accesses  # noqa: E402
+from recount import accesses, recount_lines  # noqa: E402
 
 
 def study_builds():
@@ -34,14 +33,12 @@ def address_text(addr):
 
 
 class Line:
-    """A listed line of a report: its own line, and the lines of what stands on it and of its words, as they
-    are printed."""
+    """A listed line of a report."""
 
     def __init__(self, text):
         words = text.split()
         self.text, self.kind, self.base = text, words[1], int(words[2], 16)
         self.size, self.start, self.count = (int(words[it]) for it in (3, 5, 7))
-        self.verdict, self.objects, self.words = words[9], [], []
 
 
 class Report:
@@ -55,10 +52,6 @@ class Report:
                 self.outcome = line
             elif words[:1] == ["steps"]:
                 self.steps = int(words[1])
-            elif words[:1] in (["object"], ["site"]):
-                self.lines[-1].objects.append(line)
-            elif words[:1] == ["word"]:
-                self.lines[-1].words.append(line)
 
     def lines_of_kind(self, *kinds):
         return [it for it in self.lines if it.kind in kinds]
@@ -75,7 +68,7 @@ def counts_since(trace, lines):
         for word in range(line.base // 4, (line.base + line.size) // 4):
             on.setdefault(word, []).append(at)
     held, counts = [set() for _ in lines], [0] * len(lines)
-    for position, (hart, addr, is_write) in enumerate(read_accesses(trace)):
+    for position, (hart, addr, is_write) in enumerate(accesses(trace)):
         for at in on.get(addr // 4, ()):
             counts[at] += is_write and position > lines[at].start and bool(held[at] - {hart})
             held[at] = {hart} if is_write else held[at] | {hart}
@@ -87,8 +80,7 @@ def report_of_call(words, trace):
     ran = subprocess.run([PROGRAM, *words], stdout=subprocess.PIPE, text=True, check=False)
     if "\nend\n" not in ran.stdout or not os.path.exists(trace):
         sys.exit(
-            f"{' '.join(words)}: no report with a trace, and status {ran.returncode} (the built"
-            f" program is wanted)\n{ran.stdout}"
+            f"{' '.join(words)}: no report with a trace, and status {ran.returncode} (the built program is wanted)\n{ran.stdout}"
         )
     return Report(ran.stdout)
 
@@ -117,9 +109,7 @@ class Run:
             with open(names["output"]) as file:
                 self.output = file.read()
         self.wrong = [] if self.report.outcome == "outcome exit 0" else [self.report.outcome]
-        self.wrong += recount_differences(trace, 64, self.report) + recount_differences(
-            trace, 4, self.by_word
-        )
+        self.wrong += recount_differences(trace, 64, self.report) + recount_differences(trace, 4, self.by_word)
         predicted = self.report.lines_of_kind("shifted", "doubled")
         for line, again in zip(predicted, counts_since(trace, predicted)):
             if again != line.count:
@@ -134,8 +124,7 @@ def recount_differences(trace, size, report):
     counted = {base: (start, count) for base, start, count in recount_lines(trace, size)}
     observed = {it.base: (it.start, it.count) for it in report.lines_of_kind("observed")}
     return [
-        f"line {address_text(key)} of {size}: reported {observed.get(key)}, recounted"
-        f" {counted.get(key)}"
+        f"line {address_text(key)} of {size}: reported {observed.get(key)}, recounted {counted.get(key)}"
         for key in sorted(counted.keys() | observed.keys())
         if counted.get(key) != observed.get(key)
     ]
@@ -146,21 +135,6 @@ def markdown_table(heads, rows):
     rows = [[str(it) for it in row] for row in rows]
     right = ["-:" if all(row[at].isdigit() for row in rows) else "-" for at in range(len(heads))]
     return "\n".join(f"| {' | '.join(row)} |" for row in [heads, right, *rows])
-
-
-def object_rows(lines, most=100):
-    """The rows of some lines, each given as its text and what stands on it: at most so many objects, without
-    their call sites, and none where they are those of the line before."""
-    made, before = [], None
-    for text, rows in lines:
-        shown_here = [it for it in rows if it.startswith("object ")][:most]
-        made.append([text, *(shown_here if shown_here != before else [])])
-        before = shown_here
-    return made
-
-
-def code_block(lines):
-    return "\n".join(f"    {it}" for it in lines)
 
 
 def commit_name():

@@ -8,28 +8,19 @@ report."""
 import os
 import sys
 
-from report import (
-    BUILT,
-    SETTINGS,
-    Run,
-    code_block,
-    study_builds,
-    commit_name,
-    renew_document,
-    address_text,
-    markdown_table,
-    object_rows,
-)
+from report import BUILT, SETTINGS, Run, study_builds, commit_name, renew_document, address_text, markdown_table
 
-# How many lines of a report a study shows.
-MOST = 4
-# The studies that show a prediction, and the place of their build where nothing is observed.
+# The studies that show predictions, and the offset of their build where nothing is observed; and how many
+# predictions each shows.
 PREDICTED = {"linear_regression": 0, "word_count": 0, "string_match": 0}
+MOST_PREDICTED = 2
 
 
 def summary_table(runs):
     rows = []
     for name, run in runs.items():
+        if "-at-" in name:
+            continue
         counts = [
             len(run.report.lines_of_kind("observed")),
             run.report.sum_counts("observed"),
@@ -45,27 +36,14 @@ def summary_table(runs):
             "Build",
             "Steps",
             "Observed lines",
-            "Counts",
+            "Invalidations",
             "By word",
             "Predicted lines",
-            "Counts",
+            "Invalidations",
             "Recount",
         ],
         rows,
     )
-
-
-def excerpt(name, run):
-    """The first observed lines of a report with what stands on them, or else the first predicted ones, as the
-    program printed them."""
-    lines, observed = run.report.lines, run.report.lines_of_kind("observed")
-    first = (observed or lines)[:MOST]
-    made = [
-        f"{name}: lines {len(lines)}" + (f", {len(observed)} of them observed" if lines else "")
-    ]
-    for rows in object_rows([(it.text, it.objects) for it in first]):
-        made += rows
-    return code_block(made + [".."] * (len(observed or lines) > MOST))
 
 
 def placement_table(runs):
@@ -79,24 +57,27 @@ def placement_table(runs):
                 + [len(report.lines_of_kind("shifted")), report.sum_counts("shifted")]
                 + [len(report.lines_of_kind("doubled")), report.sum_counts("doubled")]
             )
-    return markdown_table(
-        ["Place", "Observed", "Counts", "Shifted", "Counts", "Doubled", "Counts"], rows
-    )
+    heads = [
+        "Offset",
+        "Observed",
+        "Invalidations",
+        "Shifted",
+        "Invalidations",
+        "Doubled",
+        "Invalidations",
+    ]
+    return markdown_table(heads, rows)
 
 
 def prediction_rows(study, place, runs):
-    """Each shifted line that was predicted at a place, beside the line that is observed where the data lie
-    so."""
+    """The first shifted lines that are predicted at an offset, each beside the line that is observed where
+    the data lie so."""
     rows = []
-    for line in runs[f"{study}-at-{place}"].report.lines_of_kind("shifted"):
+    for line in runs[f"{study}-at-{place}"].report.lines_of_kind("shifted")[:MOST_PREDICTED]:
         moved = (place - line.base) % 64
         other = runs.get(f"{study}-at-{moved}")
         seen = (
-            [
-                line
-                for line in other.report.lines_of_kind("observed")
-                if line.base == line.base + moved - place
-            ]
+            [it for it in other.report.lines_of_kind("observed") if it.base == line.base + moved - place]
             if other
             else []
         )
@@ -120,19 +101,16 @@ def main(words):
             print(f"{name}: {fault}")
     parts = {"suite": summary_table(runs)}
     for study in names:
-        parts[study] = "\n\n".join(
-            excerpt(it, runs[it]) for it in studies[study] if "-at-" not in it
-        )
         if any("-at-" in it for it in studies[study]):
-            parts[f"{study} by place"] = placement_table({it: runs[it] for it in studies[study]})
+            parts[f"{study} by offset"] = placement_table({it: runs[it] for it in studies[study]})
     heads = [
         "Study",
-        "Place",
+        "Offset",
         "Predicted line",
-        "Count",
-        "Place of the other run",
+        "Invalidations",
+        "Offset of the other run",
         "Observed line",
-        "Count",
+        "Invalidations",
     ]
     rows = [
         row
@@ -140,7 +118,7 @@ def main(words):
         if study in names
         for row in prediction_rows(study, place, runs)
     ]
-    parts["foretold"] = markdown_table(heads, rows)
+    parts["predicted"] = markdown_table(heads, rows)
     slowest = max(runs, key=lambda own: runs[own].seconds)
     parts["commit"] = f"Made at commit {commit_name()}."
     for name, text in parts.items():

@@ -1,7 +1,9 @@
-/* The functions that make and free blocks: the C library's own run, and what they have made is told. */
+/* The functions that make and free blocks: the C library's own run, and what they have made is
+ * told. */
 #include "runtime.h"
 
-extern void *__libc_malloc(size_t), *__libc_calloc(size_t, size_t), *__libc_realloc(void *, size_t), *__libc_memalign(size_t, size_t);
+extern void *__libc_malloc(size_t), *__libc_calloc(size_t, size_t), *__libc_realloc(void *, size_t),
+    *__libc_memalign(size_t, size_t);
 extern void __libc_free(void *);
 
 static __thread Addr call_of_new LOCAL;
@@ -28,9 +30,18 @@ static void ends_block(void *block)
     inside = recording = 0;
 }
 SHOWN void *malloc(size_t size) { return made(__libc_malloc(size), size, CALLER); }
-SHOWN void *calloc(size_t count, size_t each) { return made(__libc_calloc(count, each), count * each, CALLER); }
-SHOWN void *memalign(size_t align, size_t size) { return made(__libc_memalign(align, size), size, CALLER); }
-SHOWN void *aligned_alloc(size_t align, size_t size) { return made(__libc_memalign(align, size), size, CALLER); }
+SHOWN void *calloc(size_t count, size_t each)
+{
+    return made(__libc_calloc(count, each), count * each, CALLER);
+}
+SHOWN void *memalign(size_t align, size_t size)
+{
+    return made(__libc_memalign(align, size), size, CALLER);
+}
+SHOWN void *aligned_alloc(size_t align, size_t size)
+{
+    return made(__libc_memalign(align, size), size, CALLER);
+}
 SHOWN int posix_memalign(void **out, size_t align, size_t size)
 {
     if (align % sizeof(void *) || align == 0 || (align & (align - 1)))
@@ -56,15 +67,15 @@ SHOWN void free(void *block)
 }
 
 /* C++'s `new` makes a block by `malloc`, and its caller is whose block it is. */
-#define NEW(name) \
-    SHOWN void *name(size_t size); \
-    SHOWN void *name(size_t size) \
-    { \
-        static void *(*own)(size_t); \
-        if (!own) \
-            own = (void *(*)(size_t))dlsym(RTLD_NEXT, #name); \
-        call_of_new = CALLER; \
-        return own(size); \
+#define NEW(name)                                                                                  \
+    SHOWN void *name(size_t size);                                                                 \
+    SHOWN void *name(size_t size)                                                                  \
+    {                                                                                              \
+        static void *(*own)(size_t);                                                               \
+        if (!own)                                                                                  \
+            own = (void *(*)(size_t))dlsym(RTLD_NEXT, #name);                                      \
+        call_of_new = CALLER;                                                                      \
+        return own(size);                                                                          \
     }
 NEW(_Znwm)
 NEW(_Znam)

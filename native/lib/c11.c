@@ -1,4 +1,5 @@
-/* The threads and locks of C11, which are those of POSIX by other names. The C library's own don't call these. */
+/* The threads and locks of C11, which are those of POSIX by other names. The C library's own don't
+ * call these. */
 #include "runtime.h"
 
 #include <threads.h>
@@ -19,7 +20,10 @@ static int told(int error)
     }
 }
 
-SHOWN int thrd_create(thrd_t *thread, thrd_start_t start, void *argument) { return told(create(thread, 0, 0, start, argument)); }
+SHOWN int thrd_create(thrd_t *thread, thrd_start_t start, void *argument)
+{
+    return told(create(thread, 0, 0, start, argument));
+}
 SHOWN int thrd_join(thrd_t thread, int *result)
 {
     void *its;
@@ -39,13 +43,28 @@ SHOWN int thrd_sleep(const struct timespec *time, struct timespec *rest_of_it)
 
 SHOWN int mtx_lock(mtx_t *lock) { return told(pthread_mutex_lock((pthread_mutex_t *)lock)); }
 SHOWN int mtx_trylock(mtx_t *lock) { return told(pthread_mutex_trylock((pthread_mutex_t *)lock)); }
-SHOWN int mtx_timedlock(mtx_t *lock, const struct timespec *time) { return told(pthread_mutex_timedlock((pthread_mutex_t *)lock, time)); }
+SHOWN int mtx_timedlock(mtx_t *lock, const struct timespec *time)
+{
+    return told(pthread_mutex_timedlock((pthread_mutex_t *)lock, time));
+}
 SHOWN int mtx_unlock(mtx_t *lock) { return told(pthread_mutex_unlock((pthread_mutex_t *)lock)); }
-SHOWN int cnd_wait(cnd_t *condition, mtx_t *lock) { return told(pthread_cond_wait((pthread_cond_t *)condition, (pthread_mutex_t *)lock)); }
+SHOWN int cnd_wait(cnd_t *condition, mtx_t *lock)
+{
+    return told(pthread_cond_wait((pthread_cond_t *)condition, (pthread_mutex_t *)lock));
+}
 SHOWN int cnd_timedwait(cnd_t *condition, mtx_t *lock, const struct timespec *time)
 {
     return told(pthread_cond_timedwait((pthread_cond_t *)condition, (pthread_mutex_t *)lock, time));
 }
-SHOWN int cnd_signal(cnd_t *condition) { return told(pthread_cond_signal((pthread_cond_t *)condition)); }
-SHOWN int cnd_broadcast(cnd_t *condition) { return told(pthread_cond_broadcast((pthread_cond_t *)condition)); }
-SHOWN void call_once(once_flag *once, void (*function)(void)) { pthread_once((pthread_once_t *)once, function); }
+SHOWN int cnd_signal(cnd_t *condition)
+{
+    return told(pthread_cond_signal((pthread_cond_t *)condition));
+}
+SHOWN int cnd_broadcast(cnd_t *condition)
+{
+    return told(pthread_cond_broadcast((pthread_cond_t *)condition));
+}
+SHOWN void call_once(once_flag *once, void (*function)(void))
+{
+    pthread_once((pthread_once_t *)once, function);
+}

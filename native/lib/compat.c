@@ -10,9 +10,11 @@
 
 volatile int calls_of_trace;
 
-SysRes predator_do_syscall(UWord number, UWord a, UWord b, UWord c, UWord d, UWord e, UWord f, UWord g, UWord h)
+SysRes predator_do_syscall(UWord number, UWord a, UWord b, UWord c, UWord d, UWord e, UWord f,
+                           UWord g, UWord h)
 {
-    int before = errno, writes = number == SYS_write || number == SYS_lseek || number == SYS_ftruncate;
+    int before = errno,
+        writes = number == SYS_write || number == SYS_lseek || number == SYS_ftruncate;
     if (writes)
         __sync_fetch_and_add(&calls_of_trace, 1);
     SysRes result = {own_syscall(number, a, b, c, d, e, f)};
@@ -72,7 +74,8 @@ Bool predator_is_kept(Int fd)
     UInt it;
     for (it = 0; it < kept_count; it++)
         if (kept[it].fd == fd)
-            is = fstat(fd, &about) == 0 && about.st_dev == kept[it].device && about.st_ino == kept[it].file;
+            is = fstat(fd, &about) == 0 && about.st_dev == kept[it].device &&
+                 about.st_ino == kept[it].file;
     errno = before;
     return is;
 }
@@ -87,7 +90,10 @@ void predator_hold_signals(void)
     CALL(SYS_rt_sigprocmask, SIG_BLOCK, &set, &signals_before, sizeof set);
 }
 
-void predator_let_signals(void) { CALL(SYS_rt_sigprocmask, SIG_SETMASK, &signals_before, 0, sizeof signals_before); }
+void predator_let_signals(void)
+{
+    CALL(SYS_rt_sigprocmask, SIG_SETMASK, &signals_before, 0, sizeof signals_before);
+}
 
 /* ---- Memory: powers of two, from pages of the system ---- */
 
@@ -314,8 +320,9 @@ static void read_symbols(DebugInfo *it)
     if (!own || own->sh_link >= head->e_shnum)
         return;
     const ElfW(Shdr) *names = &sections[own->sh_link];
-    if (own->sh_offset > size || own->sh_size > size - own->sh_offset || names->sh_offset > size || names->sh_size > size - names->sh_offset ||
-        names->sh_size == 0 || file[names->sh_offset + names->sh_size - 1] != 0)
+    if (own->sh_offset > size || own->sh_size > size - own->sh_offset || names->sh_offset > size ||
+        names->sh_size > size - names->sh_offset || names->sh_size == 0 ||
+        file[names->sh_offset + names->sh_size - 1] != 0)
         return;
     it->symbols = (void *)(file + own->sh_offset);
     it->count = own->sh_size / sizeof *it->symbols;
@@ -371,13 +378,15 @@ Word predator_DebugInfo_get_text_bias(const DebugInfo *it) { return it->base; }
 const HChar *predator_DebugInfo_get_filename(const DebugInfo *it) { return it->path; }
 Int predator_DebugInfo_syms_howmany(const DebugInfo *it) { return it->count; }
 
-void predator_DebugInfo_syms_getidx(const DebugInfo *it, Int at, Addr *addr, UInt *size, const HChar **name, const HChar ***others,
-                                    Bool *is_text, Bool *is_ifunc, Bool *is_global)
+void predator_DebugInfo_syms_getidx(const DebugInfo *it, Int at, Addr *addr, UInt *size,
+                                    const HChar **name, const HChar ***others, Bool *is_text,
+                                    Bool *is_ifunc, Bool *is_global)
 {
     const ElfW(Sym) *one = &it->symbols[at];
     UInt type = one->st_info & 15;
     *addr = it->base + one->st_value;
-    *size = one->st_shndx == SHN_UNDEF || (type != STT_OBJECT && type != STT_FUNC) ? 0 : one->st_size;
+    *size =
+        one->st_shndx == SHN_UNDEF || (type != STT_OBJECT && type != STT_FUNC) ? 0 : one->st_size;
     *name = it->names + one->st_name;
     *others = 0;
     *is_text = type == STT_FUNC;
@@ -445,7 +454,8 @@ static void read_mappings(void)
     while (mapping_count > 0)
         if (mappings[--mapping_count].path)
             predator_free(mappings[mapping_count].path);
-    while (more = CALL(SYS_read, sr_Res(file), text + count, sizeof text - 1 - count, 0), !sr_isError(more) && sr_Res(more) > 0) {
+    while (more = CALL(SYS_read, sr_Res(file), text + count, sizeof text - 1 - count, 0),
+           !sr_isError(more) && sr_Res(more) > 0) {
         HChar *row = text, *end;
         text[count += sr_Res(more)] = 0;
         for (; (end = strchr(row, '\n')); row = end + 1) {

@@ -1,10 +1,12 @@
-/* Runs within a program that was compiled with -fsanitize=thread and linked with this library in the place of the compiler's own: each
-   access calls a function of it, which notes it. One thread holds the turn, and every other one waits here, so that threads run one
-   at a time and in an order that depends on nothing but the program.
+/* Runs within a program that was compiled with -fsanitize=thread and linked with this library in
+   the place of the compiler's own: each access calls a function of it, which notes it. One thread
+   holds the turn, and every other one waits here, so that threads run one at a time and in an order
+   that depends on nothing but the program.
 
-   The environment says what is done: PREDATOR_TRACE is the trace, PREDATOR_TABLE the table back, PREDATOR_QUANTUM the length of a turn,
-   PREDATOR_ALL=1 records while one thread lives too, PREDATOR_PCS=1 tells each access's instruction, PREDATOR_MOST ends the trace after so
-   many accesses. native/predator-native sets them. */
+   The environment says what is done: PREDATOR_TRACE is the trace, PREDATOR_TABLE the table back,
+   PREDATOR_QUANTUM the length of a turn, PREDATOR_ALL=1 records while one thread lives too,
+   PREDATOR_PCS=1 tells each access's instruction, PREDATOR_MOST ends the trace after so many
+   accesses. native/predator-native sets them. */
 #include "runtime.h"
 
 Hart harts[MOST_PLACES + 1]; /* (the last is nobody's) */
@@ -18,12 +20,12 @@ __thread unsigned long steps LOCAL;
 volatile int holder, recording;
 static int records_all, stopped;
 static volatile int busy;
-static unsigned long turns; /* were given so far */
+static unsigned long turns;  /* were given so far */
 static volatile int ends_by; /* the signal that is to end the program */
 static void end_now(void);
 static long quantum = 100, own_process;
 #define DEFINED(name) __typeof__(name) *own_##name;
-#define FIND(name) OWN(name);
+#define FIND(name)    OWN(name);
 ALL(DEFINED)
 
 /* ---- Turns ---- */
@@ -66,15 +68,17 @@ void give(int hart)
 typedef struct {
     unsigned long turns, steps; /* so many turns were given, and so often was the holder here */
     long left;
-    long long ran, since; /* for so many ns the holder has had the processor, and had when it was here last; or -1 where it wasn't looked at */
-    char does; /* S where it sleeps in a call of the system, R where it runs */
+    long long ran, since; /* for so many ns the holder has had the processor, and had when it was
+                             here last; or -1 where it wasn't looked at */
+    char does;            /* S where it sleeps in a call of the system, R where it runs */
 } Look;
 
-/* A thread that doesn't come here for so long, and runs, may wait for another one in code that isn't seen here: where one did, the next is
-   waited for less. */
+/* A thread that doesn't come here for so long, and runs, may wait for another one in code that
+   isn't seen here: where one did, the next is waited for less. */
 static long long patience = 1000000000;
 
-/* What a thread does, and how long it has had the processor: nothing where a trace is being written. */
+/* What a thread does, and how long it has had the processor: nothing where a trace is being
+ * written. */
 static void look_at(int tid, Look *it)
 {
     char path[60], text[300];
@@ -82,7 +86,8 @@ static void look_at(int tid, Look *it)
     struct timespec ran;
     it->ran = -1;
     snprintf(path, sizeof path, "/proc/self/task/%d/stat", tid);
-    SysRes file = tid > 0 && !recording && calls_of_trace == 0 ? predator_open(path, O_RDONLY, 0) : (SysRes){-ENOENT};
+    SysRes file = tid > 0 && !recording && calls_of_trace == 0 ? predator_open(path, O_RDONLY, 0)
+                                                               : (SysRes){-ENOENT};
     if (sr_isError(file))
         return;
     SysRes count = CALL(SYS_read, sr_Res(file), text, sizeof text - 1, 0);
@@ -90,7 +95,8 @@ static void look_at(int tid, Look *it)
     text[sr_isError(count) ? 0 : sr_Res(count)] = 0;
     end = strrchr(text, ')');
     /* (the clock of a thread's time is named by its number) */
-    if (!end || end[1] != ' ' || calls_of_trace || sr_isError(CALL(SYS_clock_gettime, ~(UWord)tid << 3 | 6, &ran, 0, 0)))
+    if (!end || end[1] != ' ' || calls_of_trace ||
+        sr_isError(CALL(SYS_clock_gettime, ~(UWord)tid << 3 | 6, &ran, 0, 0)))
         return;
     it->does = end[2];
     it->ran = ran.tv_sec * 1000000000LL + ran.tv_nsec;
@@ -99,12 +105,15 @@ static void look_at(int tid, Look *it)
 /* Whether it has been asleep since the last look, or runs and hasn't been here for long. */
 static int is_silent(const Look *now, const Look *last)
 {
-    if (now->ran < 0 || last->ran < 0 || now->turns != last->turns || now->steps != last->steps || now->left != last->left)
+    if (now->ran < 0 || last->ran < 0 || now->turns != last->turns || now->steps != last->steps ||
+        now->left != last->left)
         return 0;
-    return now->does == 'S' ? last->does == 'S' && now->ran == last->ran : now->does == 'R' && now->ran - now->since >= patience;
+    return now->does == 'S' ? last->does == 'S' && now->ran == last->ran
+                            : now->does == 'R' && now->ran - now->since >= patience;
 }
 
-/* The holder's turn is taken, if it is still silent then: from here on it can't go on without being seen. */
+/* The holder's turn is taken, if it is still silent then: from here on it can't go on without being
+ * seen. */
 static int is_taken(int it, const Look *now)
 {
     static const struct timespec moment = {0, 1000000};
@@ -114,7 +123,8 @@ static int is_taken(int it, const Look *now)
     if (now->does == 'R')
         CALL(SYS_nanosleep, &moment, 0, 0, 0);
     look_at(harts[it].tid, &again);
-    if (again.ran >= 0 && *harts[it].steps == now->steps && left == now->left && (now->does == 'R' || (again.does == 'S' && again.ran == now->ran))) {
+    if (again.ran >= 0 && *harts[it].steps == now->steps && left == now->left &&
+        (now->does == 'R' || (again.does == 'S' && again.ran == now->ran))) {
         harts[it].state = AWAY;
         if (now->does == 'R')
             patience = 5000000;
@@ -124,8 +134,9 @@ static int is_taken(int it, const Look *now)
     return 0;
 }
 
-/* For a thread that has waited for its turn for some time. Where the holder has slept since the last look, in a call of the system that isn't
-   known here, or runs in code that isn't, it loses the turn: what it waits for may be another thread. */
+/* For a thread that has waited for its turn for some time. Where the holder has slept since the
+   last look, in a call of the system that isn't known here, or runs in code that isn't, it loses
+   the turn: what it waits for may be another thread. */
 static void look_at_holder(int me, Look *last)
 {
     enter();
@@ -137,10 +148,11 @@ static void look_at_holder(int me, Look *last)
         now.steps = *harts[it].steps;
         look_at(harts[it].tid, &now);
     }
-    now.since = last->ran >= 0 && now.turns == last->turns && now.steps == last->steps && now.left == last->left ? last->since : now.ran;
-    if (it < 0 && harts[me].state == WANTS)
-        give(me);
-    else if (is_silent(&now, last) && is_taken(it, &now))
+    now.since = last->ran >= 0 && now.turns == last->turns && now.steps == last->steps &&
+                        now.left == last->left
+                    ? last->since
+                    : now.ran;
+    if ((it < 0 && harts[me].state == WANTS) || (is_silent(&now, last) && is_taken(it, &now)))
         give(me);
     *last = now;
     leave();
@@ -149,7 +161,8 @@ static void look_at_holder(int me, Look *last)
 void rest(int me)
 {
     Look last = {.ran = -1};
-    while (__atomic_load_n(&harts[me].turn, __ATOMIC_ACQUIRE) == 0 && __atomic_load_n(&holder, __ATOMIC_ACQUIRE) != me) {
+    while (__atomic_load_n(&harts[me].turn, __ATOMIC_ACQUIRE) == 0 &&
+           __atomic_load_n(&holder, __ATOMIC_ACQUIRE) != me) {
         struct timespec each = {0, patience < 50000000 ? patience : 50000000};
         SysRes waited = CALL(SYS_futex, &harts[me].turn, FUTEX_WAIT_PRIVATE, 0, &each);
         if (sr_isError(waited) && sr_Err(waited) == ETIMEDOUT)
@@ -221,7 +234,8 @@ int wake(const void *at, int most)
         Hart *first = 0;
         int it;
         for (it = 0; it < top; it++)
-            if ((harts[it].state == WAITS || harts[it].timed) && harts[it].at == at && (!first || harts[it].since < first->since))
+            if ((harts[it].state == WAITS || harts[it].timed) && harts[it].at == at &&
+                (!first || harts[it].since < first->since))
                 first = &harts[it];
         if (!first)
             break;
@@ -287,10 +301,10 @@ UInt predator_get_StackTrace(ThreadId tid, Addr *own, UInt most, Addr *sps, Addr
 
 /* ---- The beginning and the end ---- */
 
-
 void at_end(int status, void *none)
 {
-    if (CALL(SYS_getpid, 0, 0, 0, 0).value != own_process) /* a child of vfork, which has this program's memory */
+    if (CALL(SYS_getpid, 0, 0, 0, 0).value !=
+        own_process) /* a child of vfork, which has this program's memory */
         return;
     hold();
     if (self >= 0 || live == 0)
@@ -310,8 +324,9 @@ static void end_now(void)
         CALL(SYS_kill, own_process, ends_by, 0, 0);
 }
 
-/* A signal from outside, to whatever thread. What was recorded is written by the thread that has the turn, once it comes here; by this one where
-   none has it; and where the turn isn't to be had for two seconds, what was written stays. */
+/* A signal from outside, to whatever thread. What was recorded is written by the thread that has
+   the turn, once it comes here; by this one where none has it; and where the turn isn't to be had
+   for two seconds, what was written stays. */
 static void at_signal(int number)
 {
     static const struct timespec each = {0, 20000000};
@@ -337,7 +352,8 @@ static void at_signal(int number)
     errno = before;
 }
 
-/* A fault of the program's own, which holds the turn. Where the program has a handler of its own, that is in this one's place. */
+/* A fault of the program's own, which holds the turn. Where the program has a handler of its own,
+ * that is in this one's place. */
 static void at_fault(int number)
 {
     if (self >= 0)
@@ -391,7 +407,8 @@ static long number_of(const char *name, long least, long most, long usual)
     errno = 0;
     long value = strtol(text, &end, 10);
     if (*end || errno || value < least || value > most) {
-        predator_printf("predator native: %s is %ld to %ld, and not '%s'\n", name, least, most, text);
+        predator_printf("predator native: %s is %ld to %ld, and not '%s'\n", name, least, most,
+                        text);
         _Exit(125);
     }
     return value;
@@ -425,7 +442,8 @@ void __attribute__((constructor)) begin(void)
     }
     for (fault = 0; trace_is_open() && fault < 4; fault++) {
         static const int ends[4] = {SIGTERM, SIGINT, SIGHUP, SIGQUIT};
-        struct sigaction action = {.sa_handler = at_signal, .sa_flags = SA_RESTART | SA_NODEFER}, own;
+        struct sigaction action = {.sa_handler = at_signal, .sa_flags = SA_RESTART | SA_NODEFER},
+                         own;
         if (sigaction(ends[fault], 0, &own) == 0 && own.sa_handler == SIG_DFL)
             sigaction(ends[fault], &action, 0);
     }

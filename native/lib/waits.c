@@ -1,4 +1,4 @@
-/* What waits: threads and their joins, locks, conditions, barriers, semaphores, and the calls that wait for what is no thread. */
+/* What waits for another thread: joins, locks, conditions, barriers, semaphores. */
 #include "runtime.h"
 
 /* ---- Threads ---- */
@@ -37,7 +37,8 @@ static void *begins(void *mine)
     return result;
 }
 
-int create(pthread_t *thread, const pthread_attr_t *attributes, void *(*start)(void *), int (*start_c11)(void *), void *argument)
+int create(pthread_t *thread, const pthread_attr_t *attributes, void *(*start)(void *),
+           int (*start_c11)(void *), void *argument)
 {
     int hart, error, state = PTHREAD_CREATE_JOINABLE;
     begin();
@@ -77,7 +78,8 @@ int create(pthread_t *thread, const pthread_attr_t *attributes, void *(*start)(v
     return error;
 }
 
-SHOWN int pthread_create(pthread_t *thread, const pthread_attr_t *attributes, void *(*start)(void *), void *argument)
+SHOWN int pthread_create(pthread_t *thread, const pthread_attr_t *attributes,
+                         void *(*start)(void *), void *argument)
 {
     return create(thread, attributes, start, 0, argument);
 }
@@ -136,7 +138,8 @@ static int is_late(clockid_t clock, const struct timespec *time)
 {
     struct timespec now;
     clock_gettime(clock, &now);
-    return now.tv_sec > time->tv_sec || (now.tv_sec == time->tv_sec && now.tv_nsec >= time->tv_nsec);
+    return now.tv_sec > time->tv_sec ||
+           (now.tv_sec == time->tv_sec && now.tv_nsec >= time->tv_nsec);
 }
 
 /* Where nobody else wants the turn, time has to pass. */
@@ -152,7 +155,8 @@ static void pass_time(void)
     come_back();
 }
 
-/* Waits until another thread wakes those that wait at a place, or it is late, and says whether it is. */
+/* Waits until another thread wakes those that wait at a place, or it is late, and says whether it
+ * is. */
 static int wait_until(const void *at, clockid_t clock, const struct timespec *time)
 {
     Hart *me = &harts[self];
@@ -171,17 +175,24 @@ static int wait_until(const void *at, clockid_t clock, const struct timespec *ti
     return late;
 }
 
-#define TIMED(name, own, thing) \
-    SHOWN int name(thing *it, const struct timespec *time) { return own(it, CLOCK_REALTIME, time, CALLER); }
-#define CLOCKED(name, own, thing) \
-    SHOWN int name(thing *it, clockid_t clock, const struct timespec *time) { return own(it, clock, time, CALLER); }
+#define TIMED(name, own, thing)                                                                    \
+    SHOWN int name(thing *it, const struct timespec *time)                                         \
+    {                                                                                              \
+        return own(it, CLOCK_REALTIME, time, CALLER);                                              \
+    }
+#define CLOCKED(name, own, thing)                                                                  \
+    SHOWN int name(thing *it, clockid_t clock, const struct timespec *time)                        \
+    {                                                                                              \
+        return own(it, clock, time, CALLER);                                                       \
+    }
 
 SHOWN int pthread_tryjoin_np(pthread_t thread, void **result)
 {
     Hart *it = self < 0 ? 0 : hart_of(thread);
     return it && it->state != ENDED ? EBUSY : pthread_join(thread, result);
 }
-SHOWN int pthread_clockjoin_np(pthread_t thread, void **result, clockid_t clock, const struct timespec *time)
+SHOWN int pthread_clockjoin_np(pthread_t thread, void **result, clockid_t clock,
+                               const struct timespec *time)
 {
     Hart *it = self < 0 ? 0 : hart_of(thread);
     while (it && it->state != ENDED && time) {
@@ -203,7 +214,8 @@ static int locked(pthread_mutex_t *lock, clockid_t clock, const struct timespec 
     int error;
     touch(lock, 4, 1, caller);
     while ((error = OWN(pthread_mutex_trylock)(lock)) == EBUSY) {
-        if (lock->__data.__owner == (int)CALL(SYS_gettid, 0, 0, 0, 0).value && lock->__data.__kind % 4 == PTHREAD_MUTEX_ERRORCHECK)
+        if (lock->__data.__owner == (int)CALL(SYS_gettid, 0, 0, 0, 0).value &&
+            lock->__data.__kind % 4 == PTHREAD_MUTEX_ERRORCHECK)
             return EDEADLK;
         if (time && is_late(clock, time))
             return ETIMEDOUT;
@@ -223,16 +235,25 @@ static int unlocked(pthread_mutex_t *lock, Addr caller)
     return error;
 }
 
-SHOWN int pthread_mutex_lock(pthread_mutex_t *lock) { return self < 0 ? OWN(pthread_mutex_lock)(lock) : locked(lock, 0, 0, CALLER); }
+SHOWN int pthread_mutex_lock(pthread_mutex_t *lock)
+{
+    return self < 0 ? OWN(pthread_mutex_lock)(lock) : locked(lock, 0, 0, CALLER);
+}
 SHOWN int pthread_mutex_timedlock(pthread_mutex_t *lock, const struct timespec *time)
 {
-    return self < 0 ? OWN(pthread_mutex_timedlock)(lock, time) : locked(lock, CLOCK_REALTIME, time, CALLER);
+    return self < 0 ? OWN(pthread_mutex_timedlock)(lock, time)
+                    : locked(lock, CLOCK_REALTIME, time, CALLER);
 }
-SHOWN int pthread_mutex_clocklock(pthread_mutex_t *lock, clockid_t clock, const struct timespec *time)
+SHOWN int pthread_mutex_clocklock(pthread_mutex_t *lock, clockid_t clock,
+                                  const struct timespec *time)
 {
-    return self < 0 ? OWN(pthread_mutex_clocklock)(lock, clock, time) : locked(lock, clock, time, CALLER);
+    return self < 0 ? OWN(pthread_mutex_clocklock)(lock, clock, time)
+                    : locked(lock, clock, time, CALLER);
 }
-SHOWN int pthread_mutex_unlock(pthread_mutex_t *lock) { return self < 0 ? OWN(pthread_mutex_unlock)(lock) : unlocked(lock, CALLER); }
+SHOWN int pthread_mutex_unlock(pthread_mutex_t *lock)
+{
+    return self < 0 ? OWN(pthread_mutex_unlock)(lock) : unlocked(lock, CALLER);
+}
 SHOWN int pthread_mutex_trylock(pthread_mutex_t *lock)
 {
     if (self < 0)
@@ -243,7 +264,8 @@ SHOWN int pthread_mutex_trylock(pthread_mutex_t *lock)
     return error;
 }
 
-static int waited_for(pthread_cond_t *condition, pthread_mutex_t *lock, clockid_t clock, const struct timespec *time, Addr caller)
+static int waited_for(pthread_cond_t *condition, pthread_mutex_t *lock, clockid_t clock,
+                      const struct timespec *time, Addr caller)
 {
     int late = 0, error;
     touch(condition, 4, 1, caller);
@@ -258,17 +280,22 @@ static int waited_for(pthread_cond_t *condition, pthread_mutex_t *lock, clockid_
 }
 SHOWN int pthread_cond_wait(pthread_cond_t *condition, pthread_mutex_t *lock)
 {
-    return self < 0 ? OWN(pthread_cond_wait)(condition, lock) : waited_for(condition, lock, 0, 0, CALLER);
+    return self < 0 ? OWN(pthread_cond_wait)(condition, lock)
+                    : waited_for(condition, lock, 0, 0, CALLER);
 }
-SHOWN int pthread_cond_timedwait(pthread_cond_t *condition, pthread_mutex_t *lock, const struct timespec *time)
+SHOWN int pthread_cond_timedwait(pthread_cond_t *condition, pthread_mutex_t *lock,
+                                 const struct timespec *time)
 {
     /* (where the C library keeps the clock that the condition was made with) */
     clockid_t clock = condition->__data.__wrefs & 2 ? CLOCK_MONOTONIC : CLOCK_REALTIME;
-    return self < 0 ? OWN(pthread_cond_timedwait)(condition, lock, time) : waited_for(condition, lock, clock, time, CALLER);
+    return self < 0 ? OWN(pthread_cond_timedwait)(condition, lock, time)
+                    : waited_for(condition, lock, clock, time, CALLER);
 }
-SHOWN int pthread_cond_clockwait(pthread_cond_t *condition, pthread_mutex_t *lock, clockid_t clock, const struct timespec *time)
+SHOWN int pthread_cond_clockwait(pthread_cond_t *condition, pthread_mutex_t *lock, clockid_t clock,
+                                 const struct timespec *time)
 {
-    return self < 0 ? OWN(pthread_cond_clockwait)(condition, lock, clock, time) : waited_for(condition, lock, clock, time, CALLER);
+    return self < 0 ? OWN(pthread_cond_clockwait)(condition, lock, clock, time)
+                    : waited_for(condition, lock, clock, time, CALLER);
 }
 SHOWN int pthread_cond_signal(pthread_cond_t *condition)
 {
@@ -287,26 +314,28 @@ SHOWN int pthread_cond_broadcast(pthread_cond_t *condition)
     return 0;
 }
 
-#define RWLOCK(way) \
-    static int way##_locked(pthread_rwlock_t *lock, clockid_t clock, const struct timespec *time, Addr caller) \
-    { \
-        int error; \
-        touch(lock, 4, 1, caller); \
-        while ((error = OWN(pthread_rwlock_try##way##lock)(lock)) == EBUSY) { \
-            if (time && is_late(clock, time)) \
-                return ETIMEDOUT; \
-            if (time) \
-                pass_time(); \
-            else \
-                wait_for(lock); \
-        } \
-        return error; \
-    } \
-    SHOWN int pthread_rwlock_##way##lock(pthread_rwlock_t *lock) \
-    { \
-        return self < 0 ? OWN(pthread_rwlock_##way##lock)(lock) : way##_locked(lock, 0, 0, CALLER); \
-    } \
-    TIMED(pthread_rwlock_timed##way##lock, way##_locked, pthread_rwlock_t) \
+#define RWLOCK(way)                                                                                \
+    static int way##_locked(pthread_rwlock_t *lock, clockid_t clock, const struct timespec *time,  \
+                            Addr caller)                                                           \
+    {                                                                                              \
+        int error;                                                                                 \
+        touch(lock, 4, 1, caller);                                                                 \
+        while ((error = OWN(pthread_rwlock_try##way##lock)(lock)) == EBUSY) {                      \
+            if (time && is_late(clock, time))                                                      \
+                return ETIMEDOUT;                                                                  \
+            if (time)                                                                              \
+                pass_time();                                                                       \
+            else                                                                                   \
+                wait_for(lock);                                                                    \
+        }                                                                                          \
+        return error;                                                                              \
+    }                                                                                              \
+    SHOWN int pthread_rwlock_##way##lock(pthread_rwlock_t *lock)                                   \
+    {                                                                                              \
+        return self < 0 ? OWN(pthread_rwlock_##way##lock)(lock)                                    \
+                        : way##_locked(lock, 0, 0, CALLER);                                        \
+    }                                                                                              \
+    TIMED(pthread_rwlock_timed##way##lock, way##_locked, pthread_rwlock_t)                         \
     CLOCKED(pthread_rwlock_clock##way##lock, way##_locked, pthread_rwlock_t)
 RWLOCK(rd)
 RWLOCK(wr)
@@ -338,7 +367,8 @@ SHOWN int pthread_spin_unlock(pthread_spinlock_t *lock)
 typedef struct {
     unsigned count, arrived, phase;
 } Barrier;
-SHOWN int pthread_barrier_init(pthread_barrier_t *barrier, const pthread_barrierattr_t *attributes, unsigned count)
+SHOWN int pthread_barrier_init(pthread_barrier_t *barrier, const pthread_barrierattr_t *attributes,
+                               unsigned count)
 {
     Barrier *it = (Barrier *)barrier;
     if (count == 0)
@@ -381,7 +411,10 @@ static int waited(sem_t *semaphore, clockid_t clock, const struct timespec *time
     }
     return 0;
 }
-SHOWN int sem_wait(sem_t *semaphore) { return self < 0 ? OWN(sem_wait)(semaphore) : waited(semaphore, 0, 0, CALLER); }
+SHOWN int sem_wait(sem_t *semaphore)
+{
+    return self < 0 ? OWN(sem_wait)(semaphore) : waited(semaphore, 0, 0, CALLER);
+}
 TIMED(sem_timedwait, waited, sem_t)
 CLOCKED(sem_clockwait, waited, sem_t)
 SHOWN int sem_post(sem_t *semaphore)
@@ -439,10 +472,15 @@ static long at_futex(const UWord *words)
     const struct timespec *time = (const struct timespec *)words[3];
     ready();
     if (what == FUTEX_WAKE || what == FUTEX_WAKE_BITSET) {
-        int woken = wake(at, what == FUTEX_WAKE || (unsigned)words[5] == FUTEX_BITSET_MATCH_ANY ? count : MOST_PLACES);
-        return woken < count ? woken + OWN(syscall)(SYS_futex, at, words[1], count - woken, 0, 0, words[5]) : woken;
+        int woken = wake(at, what == FUTEX_WAKE || (unsigned)words[5] == FUTEX_BITSET_MATCH_ANY
+                                 ? count
+                                 : MOST_PLACES);
+        return woken < count
+                   ? woken + OWN(syscall)(SYS_futex, at, words[1], count - woken, 0, 0, words[5])
+                   : woken;
     }
-    if ((what != FUTEX_WAIT && what != FUTEX_WAIT_BITSET) || !(words[1] & FUTEX_PRIVATE_FLAG)) { /* who wakes it may be another program */
+    if ((what != FUTEX_WAIT && what != FUTEX_WAIT_BITSET) ||
+        !(words[1] & FUTEX_PRIVATE_FLAG)) { /* who wakes it may be another program */
         go_away();
         long result = OWN(syscall)(SYS_futex, at, words[1], words[2], words[3], words[4], words[5]);
         come_back();
@@ -480,77 +518,3 @@ SHOWN long syscall(long number, ...)
         return at_futex(words);
     return OWN(syscall)(number, words[0], words[1], words[2], words[3], words[4], words[5]);
 }
-
-/* ---- Calls that wait for what is no thread ---- */
-
-#define WAITING(name, type, list, words) \
-    SHOWN type name list \
-    { \
-        if (self < 0 || live < 2) \
-            return OWN(name) words; \
-        go_away(); \
-        type result = OWN(name) words; \
-        come_back(); \
-        return result; \
-    }
-WAITING(read, ssize_t, (int file, void *bytes, size_t count), (file, bytes, count))
-WAITING(poll, int, (struct pollfd * files, nfds_t count, int time), (files, count, time))
-WAITING(ppoll, int, (struct pollfd * files, nfds_t count, const struct timespec *time, const sigset_t *set), (files, count, time, set))
-WAITING(select, int, (int count, fd_set *a, fd_set *b, fd_set *c, struct timeval *time), (count, a, b, c, time))
-WAITING(pselect, int, (int count, fd_set *a, fd_set *b, fd_set *c, const struct timespec *time, const sigset_t *set), (count, a, b, c, time, set))
-WAITING(epoll_wait, int, (int file, struct epoll_event *events, int most, int time), (file, events, most, time))
-WAITING(accept, int, (int file, struct sockaddr *addr, socklen_t *length), (file, addr, length))
-WAITING(accept4, int, (int file, struct sockaddr *addr, socklen_t *length, int flags), (file, addr, length, flags))
-WAITING(recv, ssize_t, (int file, void *bytes, size_t count, int flags), (file, bytes, count, flags))
-WAITING(recvfrom, ssize_t, (int file, void *bytes, size_t count, int flags, struct sockaddr *addr, socklen_t *length), (file, bytes, count, flags, addr, length))
-WAITING(recvmsg, ssize_t, (int file, struct msghdr *message, int flags), (file, message, flags))
-WAITING(wait, pid_t, (int *status), (status))
-WAITING(waitpid, pid_t, (pid_t process, int *status, int flags), (process, status, flags))
-WAITING(nanosleep, int, (const struct timespec *time, struct timespec *rest_of_it), (time, rest_of_it))
-WAITING(clock_nanosleep, int, (clockid_t clock, int flags, const struct timespec *time, struct timespec *rest_of_it), (clock, flags, time, rest_of_it))
-WAITING(usleep, int, (useconds_t time), (time))
-WAITING(sleep, unsigned, (unsigned time), (time))
-SHOWN int close(int file)
-{
-    if (trace_has(file)) {
-        errno = EBADF;
-        return -1;
-    }
-    return OWN(close)(file);
-}
-SHOWN void _exit(int status)
-{
-    at_end(status, 0);
-    for (;;)
-        syscall(SYS_exit_group, status);
-}
-
-/* ---- Another program in this one's place: the trace ends here, if it works ---- */
-
-SHOWN int execve(const char *path, char *const words[], char *const names[])
-{
-    if (self >= 0)
-        trace_flush();
-    return OWN(execve)(path, words, names);
-}
-SHOWN int execv(const char *path, char *const words[]) { return execve(path, words, environ); }
-SHOWN int execvp(const char *path, char *const words[])
-{
-    if (self >= 0)
-        trace_flush();
-    return execvpe(path, words, environ);
-}
-#define LISTED(name, call) \
-    SHOWN int name(const char *path, const char *first, ...) \
-    { \
-        char *words[1000] = {(char *)first}; \
-        int count = 0; \
-        va_list list; \
-        va_start(list, first); \
-        while (words[count] && count < 998) \
-            words[++count] = va_arg(list, char *); \
-        va_end(list); \
-        return call(path, words); \
-    }
-LISTED(execl, execv)
-LISTED(execlp, execvp)

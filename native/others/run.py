@@ -25,7 +25,7 @@ from report import renew_document, markdown_table  # noqa: E402
 OUT = os.path.join(HERE, "out")
 ROWS = os.path.join(HERE, "first_rows.txt")
 # A row of a screen: its place, four numbers, and the object.
-ROW = re.compile(r"^ +([123])(?: +[0-9-]+){4}  (.*)$", re.MULTILINE)
+ROW = re.compile(r"^ *([123])(?: +[0-9,]+){4}  (.*(?:\n {30,}.*)*)$", re.MULTILINE)
 # What stands for a new folder, for a text in it, a folder of a thousand texts, sixty objects to be linked, a
 # short film, and a server's settings.
 FOLDER, TEXT, TREE, OBJECTS, FILM, CONFIG = "FOLDER", "TEXT", "TREE", "OBJECTS", "FILM", "CONFIG"
@@ -206,8 +206,7 @@ def compile_all(folder: str, listed: str) -> None:
             for own in range(30):
                 other = f"f{(program * 7 + 1) % 60}_{own * 3 % 30}"
                 file.write(
-                    f"int {other}(int);\nint f{program}_{own}(int x) {{ return x > 1 ? {other}(x -"
-                    f" {own + 1}) + {program * own} : x; }}\n"
+                    f"int {other}(int);\nint f{program}_{own}(int x) {{ return x > 1 ? {other}(x - {own + 1}) + {program * own} : x; }}\n"
                 )
             file.write("int main(void) { return f0_0(3); }\n" if program == 0 else "")
     subprocess.run(["gcc", "-c", "-g", "-O1", *names], cwd=folder, check=True)
@@ -253,10 +252,7 @@ def is_named(name: str) -> bool:
     if re.match("memory at|block without", name):
         return False
     if re.search(
-        (
-            r"near (?:a panic|panics) at (?!library/)|near an assertion at |in a method of"
-            r' (?!std::|tbb::)|\(near the text "'
-        ),
+        r'near (?:a panic|panics) at (?!library/)|near an assertion at |in a method of (?!std::|tbb::)|\(near the text "',
         name,
     ):
         return True
@@ -274,7 +270,7 @@ def is_named(name: str) -> bool:
 
 def object_name(name: str) -> str:
     """A row's object, without what tells it from others of its name and what lies beside it."""
-    name = re.sub(r" \(\d+ lives\).*|, beside .*", "", name)
+    name = re.sub(r" \([\d,]+ blocks\).*", "", " ".join(name.split()))
     return name if len(name) <= 200 else name[:200] + " .."
 
 
@@ -294,19 +290,19 @@ def table_row(study: Study, program: str) -> tuple[list[object], str]:
         for label in objects
         if any(what in label["name"] + json.dumps(label["sites"]) for what in study.looked_at)
     ]
-    known = sum(it["useless"] for it in objects if is_named(it["name"]))
-    is_clean = "nothing here is worth doing" in screen
+    known = sum(it["false_sharing"] for it in objects if is_named(it["name"]))
+    is_clean = "no change is worth it" in screen
     rows = "".join(f"  {place}  {object_name(name)}\n" for place, name in ROW.findall(screen))
     cells = [
         os.path.basename(program),
         f"{found['accesses']:,}",
         f"{size / found['accesses']:.1f}",
-        total["useful"],
-        total["useless"],
-        sum(it["useless"] for it in own) if own else "-",
-        f"{100 * known // total['useless']} %" if total["useless"] else "-",
+        total["true_sharing"],
+        total["false_sharing"],
+        sum(it["false_sharing"] for it in own) if own else "-",
+        f"{100 * known // total['false_sharing']} %" if total["false_sharing"] else "-",
     ]
-    return cells, f"{cells[0]}{': nothing here is worth doing' if is_clean else ''}\n{rows}"
+    return cells, f"{cells[0]}{': no change is worth it' if is_clean else ''}\n{rows}"
 
 
 def main(words: Sequence[str]) -> int:
@@ -317,18 +313,15 @@ def main(words: Sequence[str]) -> int:
         if study not in STUDIES:
             sys.exit(f"run.py: {study}: the studies are {', '.join(STUDIES)}")
     build_path(names)
-    heads = ["Program", "Accesses", "Bytes each", "Useful", "Useless", "Of the object", "Named"]
+    heads = ["Program", "Accesses", "Bytes each", "True", "False", "Of the object", "Named"]
     found = [table_row(STUDIES[name], build) for name in names for build in STUDIES[name].builds]
-    text, rows = markdown_table(heads, [cells for cells, _ in found]), "".join(
-        it for _, it in found
-    )
+    text, rows = markdown_table(heads, [cells for cells, _ in found]), "".join(it for _, it in found)
     print(text, rows, sep="\n")
     if "--renew" in words:
         renew_document({"others of this machine": text})
         with open(ROWS, "w", encoding="utf-8") as file:
             file.write(
-                "The first three rows of each program's screen, as native/others/run.py has"
-                f" recorded and shown it.\n\n{rows}"
+                f"The first three rows of each program's screen, as native/others/run.py has recorded and shown it.\n\n{rows}"
             )
     return 0
 

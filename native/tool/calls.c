@@ -1,10 +1,12 @@
-/* Calls of the system: which of them wait, and for what. A thread that waits for another one comes back once it was woken, and one whose
-   call waits for nobody keeps its turn; so the order of these is the same on every run. Any other call takes its time. */
+/* Calls of the system: which of them wait, and for what. A thread that waits for another one comes
+   back once it was woken, and one whose call waits for nobody keeps its turn; so the order of these
+   is the same on every run. Any other call takes its time. */
 #include "tool.h"
 
 static Addr waits_at[MOST_THREADS + 1]; /* the word that a thread waits at, or 0 */
-static Addr ends_at[MOST_THREADS + 1];  /* the word at which the system wakes those that join the thread */
-static Addr next_word;                  /* that of the thread that is about to be made */
+static Addr
+    ends_at[MOST_THREADS + 1]; /* the word at which the system wakes those that join the thread */
+static Addr next_word;         /* that of the thread that is about to be made */
 
 void calls_create(ThreadId parent, ThreadId child) { ends_at[child] = parent ? next_word : 0; }
 
@@ -36,11 +38,18 @@ static Bool is_futex(UInt call, const UWord *words, UInt one, UInt other, UInt t
     return call == __NR_futex && (what == one || what == other || what == third);
 }
 
-static Bool is_wait(UInt call, const UWord *words) { return is_futex(call, words, VKI_FUTEX_WAIT, FUTEX_WAIT_BITSET, FUTEX_WAIT_BITSET); }
+static Bool is_wait(UInt call, const UWord *words)
+{
+    return is_futex(call, words, VKI_FUTEX_WAIT, FUTEX_WAIT_BITSET, FUTEX_WAIT_BITSET);
+}
 
-static Bool is_wake(UInt call, const UWord *words) { return is_futex(call, words, VKI_FUTEX_WAKE, FUTEX_WAKE_OP, FUTEX_WAKE_BITSET); }
+static Bool is_wake(UInt call, const UWord *words)
+{
+    return is_futex(call, words, VKI_FUTEX_WAKE, FUTEX_WAKE_OP, FUTEX_WAKE_BITSET);
+}
 
-/* Another word than a thread's own may be shared with another program, which wakes it when it likes. */
+/* Another word than a thread's own may be shared with another program, which wakes it when it
+ * likes. */
 static Bool is_shared(const UWord *words)
 {
     ThreadId it;
@@ -52,7 +61,8 @@ static Bool is_shared(const UWord *words)
     return True;
 }
 
-/* How many threads a wake has brought back. Some of those at a shared word may be another program's. */
+/* How many threads a wake has brought back. Some of those at a shared word may be another
+ * program's. */
 static UInt woken(const UWord *words, UInt count)
 {
     UInt own = 0;
@@ -68,25 +78,26 @@ static UInt woken(const UWord *words, UInt count)
 static Bool lies_here(UWord number, UWord folder, UWord path, UWord flags)
 {
     struct vki_stat it;
-    UInt kind;
     if (sr_isError(CALL(number, folder, number == __NR_fstat ? (UWord)&it : path, &it, flags)))
         return False;
-    kind = it.st_mode & 0170000;
-    return (kind == 0100000 || kind == 0040000) && (it.st_dev >> 8 & 0xfff) != 0;
+    return (VKI_S_ISREG(it.st_mode) || VKI_S_ISDIR(it.st_mode)) && (it.st_dev >> 8 & 0xfff) != 0;
 }
 
-/* The kinds of file systems that have no device of their own, by what statfs says of them. */
+/* The kinds of file systems that have no device of their own, by what statfs says of them (the
+   kernel's linux/magic.h). */
+enum { TMPFS_MAGIC = 0x01021994, OVERLAYFS_SUPER_MAGIC = 0x794c7630 };
+
 static Bool lies_in_memory(UWord fd)
 {
     struct {
         Word kind, rest[15];
     } of;
     struct vki_stat it;
-    UInt kind;
-    if (sr_isError(CALL(__NR_fstatfs, fd, &of, 0, 0)) || sr_isError(CALL(__NR_fstat, fd, &it, 0, 0)))
+    if (sr_isError(CALL(__NR_fstatfs, fd, &of, 0, 0)) ||
+        sr_isError(CALL(__NR_fstat, fd, &it, 0, 0)))
         return False;
-    kind = it.st_mode & 0170000;
-    return (kind == 0100000 || kind == 0040000) && (of.kind == 0x01021994 /* tmpfs */ || of.kind == 0x794c7630 /* overlay */);
+    return (VKI_S_ISREG(it.st_mode) || VKI_S_ISDIR(it.st_mode)) &&
+           (of.kind == TMPFS_MAGIC || of.kind == OVERLAYFS_SUPER_MAGIC);
 }
 
 /* A call that comes back at once, or by the disk alone. */
@@ -96,7 +107,7 @@ static Bool waits_for_nobody(UInt call, const UWord *words)
     case __NR_madvise:
         return True;
     case __NR_open:
-        return lies_here(__NR_newfstatat, (UWord)(Word)-100 /* AT_FDCWD */, words[0], 0);
+        return lies_here(__NR_newfstatat, (UWord)(Word)VKI_AT_FDCWD, words[0], 0);
     case __NR_openat:
         return lies_here(__NR_newfstatat, words[0], words[1], 0);
     case __NR_read:

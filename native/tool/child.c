@@ -1,5 +1,6 @@
-/* Which process is recorded with --child: the first of those that come of the program in which there is something to record. That is who takes the
-   one byte of a pipe; none writes anything before. Until then the pipe and the files are handed on, to what is forked and to what a process
+/* Which process is recorded with --child: the first of those that come of the program in which
+   there is something to record. That is who takes the one byte of a pipe; none writes anything
+   before. Until then the pipe and the files are handed on, to what is forked and to what a process
    becomes. */
 #include "tool.h"
 
@@ -19,7 +20,8 @@ static void drop(void)
 static Bool is_there(void)
 {
     Int count = 0;
-    return child_token >= 0 && !sr_isError(CALL(__NR_ioctl, child_token, FIONREAD, &count, 0)) && count > 0;
+    return child_token >= 0 && !sr_isError(CALL(__NR_ioctl, child_token, FIONREAD, &count, 0)) &&
+           count > 0;
 }
 
 /* A word for valgrind, where the process becomes another program. */
@@ -86,7 +88,8 @@ void child_becomes(Bool another)
     keep(trace_fd(True), hands_on);
 }
 
-/* A program with another user's rights, which valgrind would have fail, and one for another machine run without the tool. */
+/* A program with another user's rights, which valgrind would have fail, and one for another machine
+ * run without the tool. */
 static Bool can_be_run(const HChar *path)
 {
     struct vki_stat it;
@@ -99,7 +102,8 @@ static Bool can_be_run(const HChar *path)
         return False;
     VG_(read)(sr_Res(file), head, sizeof head);
     VG_(close)(sr_Res(file));
-    return VG_(memcmp)(head, "\177ELF", 4) != 0 || (head[4] == 2 && head[18] == 62 && head[19] == 0);
+    return VG_(memcmp)(head, "\177ELF", 4) != 0 ||
+           (head[4] == 2 && head[18] == 62 && head[19] == 0);
 }
 
 /* Valgrind's own answer, turned to this one by the linker's --wrap. */

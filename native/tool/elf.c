@@ -1,5 +1,6 @@
-/* What valgrind's own reader of files leaves out or reads too much of. The symbols of data, of what may be written: unique ones, as C++ has for
-   what several files define, and those of a layout that it doesn't know. And which files' inlined functions are read. */
+/* What valgrind's own reader of files leaves out or reads too much of. The symbols of data, of what
+   may be written: unique ones, as C++ has for what several files define, and those of a layout that
+   it doesn't know. And which files' inlined functions are read. */
 #include "parts.h"
 
 #include <elf.h>
@@ -39,7 +40,8 @@ typedef struct {
 
 static Range relocated(const Elf *elf)
 {
-    Elf64_Phdr *segments = bytes_at(elf->fd, elf->head->e_phoff, elf->head->e_phnum * sizeof *segments);
+    Elf64_Phdr *segments =
+        bytes_at(elf->fd, elf->head->e_phoff, elf->head->e_phnum * sizeof *segments);
     Range found = {0, 0};
     UInt it;
     for (it = 0; segments && it < elf->head->e_phnum; it++)
@@ -62,8 +64,8 @@ static Elf opened(const HChar *path)
         return it;
     it.fd = sr_Res(file);
     it.head = bytes_at(it.fd, 0, sizeof *it.head);
-    if (it.head && VG_(strncmp)((HChar *)it.head->e_ident, ELFMAG, SELFMAG) == 0 && it.head->e_shentsize == sizeof(Elf64_Shdr) &&
-        it.head->e_phentsize == sizeof(Elf64_Phdr))
+    if (it.head && VG_(strncmp)((HChar *)it.head->e_ident, ELFMAG, SELFMAG) == 0 &&
+        it.head->e_shentsize == sizeof(Elf64_Shdr) && it.head->e_phentsize == sizeof(Elf64_Phdr))
         it.sections = bytes_at(it.fd, it.head->e_shoff, it.head->e_shnum * sizeof *it.sections);
     return it;
 }
@@ -80,16 +82,21 @@ static void close_elf(Elf *it)
 
 static Bool is_data(const Elf *elf, const Elf64_Sym *it)
 {
-    return ELF64_ST_TYPE(it->st_info) == STT_OBJECT && it->st_size > 0 && it->st_size < 1UL << 32 && it->st_shndx < elf->head->e_shnum &&
-           (elf->sections[it->st_shndx].sh_flags & SHF_WRITE) && !(elf->without.from <= it->st_value && it->st_value < elf->without.to);
+    return ELF64_ST_TYPE(it->st_info) == STT_OBJECT && it->st_size > 0 && it->st_size < 1UL << 32 &&
+           it->st_shndx < elf->head->e_shnum &&
+           (elf->sections[it->st_shndx].sh_flags & SHF_WRITE) &&
+           !(elf->without.from <= it->st_value && it->st_value < elf->without.to);
 }
 
-static void note_all(const Elf *elf, const Elf64_Sym *symbols, SizeT count, const HChar *names, SizeT length)
+static void note_all(const Elf *elf, const Elf64_Sym *symbols, SizeT count, const HChar *names,
+                     SizeT length)
 {
     SizeT it;
     for (it = 0; it < count; it++)
-        if (is_data(elf, &symbols[it]) && symbols[it].st_name < length && names[symbols[it].st_name])
-            note_symbol(elf->bias + symbols[it].st_value, symbols[it].st_size, names + symbols[it].st_name, True);
+        if (is_data(elf, &symbols[it]) && symbols[it].st_name < length &&
+            names[symbols[it].st_name])
+            note_symbol(elf->bias + symbols[it].st_value, symbols[it].st_size,
+                        names + symbols[it].st_name, True);
 }
 
 static void read_sections(const Elf *elf)
@@ -127,20 +134,24 @@ void symbols_left_out(const HChar *path, Addr bias)
 static Bool has_debug_information(const HChar *path)
 {
     Elf elf = opened(path);
-    const Elf64_Shdr *text = elf.sections && elf.head->e_shstrndx < elf.head->e_shnum ? &elf.sections[elf.head->e_shstrndx] : NULL;
+    const Elf64_Shdr *text = elf.sections && elf.head->e_shstrndx < elf.head->e_shnum
+                                 ? &elf.sections[elf.head->e_shstrndx]
+                                 : NULL;
     HChar *names = text ? bytes_at(elf.fd, text->sh_offset, text->sh_size) : NULL;
     Bool has = False;
     UInt it;
     for (it = 0; names && it < elf.head->e_shnum && !has; it++)
-        has = elf.sections[it].sh_name < text->sh_size && VG_(strcmp)(names + elf.sections[it].sh_name, ".debug_info") == 0;
+        has = elf.sections[it].sh_name < text->sh_size &&
+              VG_(strcmp)(names + elf.sections[it].sh_name, ".debug_info") == 0;
     if (names)
         VG_(free)(names);
     close_elf(&elf);
     return has;
 }
 
-/* Valgrind reads a file once it is mapped. Of one whose debug information stands apart, as the C library's, the inlined functions aren't read:
-   that would take a third of the start, and who shows a trace finds them there. */
+/* Valgrind reads a file once it is mapped. Of one whose debug information stands apart, as the C
+   library's, the inlined functions aren't read: that would take a third of the start, and who shows
+   a trace finds them there. */
 ULong __wrap_vgPlain_di_notify_mmap(Addr addr, Bool any_kind, Int fd);
 extern ULong __real_vgPlain_di_notify_mmap(Addr addr, Bool any_kind, Int fd);
 ULong __wrap_vgPlain_di_notify_mmap(Addr addr, Bool any_kind, Int fd)

@@ -1,12 +1,15 @@
-/* What the launcher is in the end: it starts the program, hands signals on to it, waits for it and for what runs beside it, and ends as it did.
+/* What the launcher is in the end: it starts the program, hands signals on to it, waits for it and
+   for what runs beside it, and ends as it did.
 
        hold TOKEN FEED TOLD REPLAYED COMMAND [WORDS ..]
 
-   FEED and TOLD are the descriptors that the trace and the table go to, and from REPLAYED comes the status of what counts them; -1 where there is none.
-   The processes beside the program are this one's children from before.
+   FEED and TOLD are the descriptors that the trace and the table go to, and from REPLAYED comes the
+   status of what counts them; -1 where there is none. The processes beside the program are this
+   one's children from before.
 
-   TOKEN is -1, or with `--child` a pipe with one byte, which the process that is recorded takes. Then a guard stands between this process and the
-   program: what outlives the program becomes a child of the guard's, gets the signals that come, and is waited for too. Where this process is
+   TOKEN is -1, or with `--child` a pipe with one byte, which the process that is recorded takes.
+   Then a guard stands between this process and the program: what outlives the program becomes a
+   child of the guard's, gets the signals that come, and is waited for too. Where this process is
    killed, the program is killed with it; or the guard is told, and kills all of them. */
 #define _GNU_SOURCE
 #include <errno.h>
@@ -19,7 +22,7 @@
 #include <sys/wait.h>
 #include <unistd.h>
 
-#define LEFT_ALONE SIGRTMAX /* what the guard gets where this process is killed */
+#define LEFT_ALONE    SIGRTMAX /* what the guard gets where this process is killed */
 #define MOST_CHILDREN 4096
 
 static sigset_t taken, before;
@@ -27,9 +30,13 @@ static struct sigaction child_before;
 static pid_t told_of[MOST_CHILDREN]; /* the guard's children that a signal was handed on to */
 static int told_count;
 
-static int status_of(int status) { return WIFSIGNALED(status) ? 128 + WTERMSIG(status) : WEXITSTATUS(status); }
+static int status_of(int status)
+{
+    return WIFSIGNALED(status) ? 128 + WTERMSIG(status) : WEXITSTATUS(status);
+}
 
-/* A child that ends with this process where that is killed, or with `number` is told so; in the child 0. */
+/* A child that ends with this process where that is killed, or with `number` is told so; in the
+ * child 0. */
 static pid_t start(int number)
 {
     pid_t own = getpid(), child = fork();
@@ -111,11 +118,14 @@ static void guard(char **words)
 /* Where no process was recorded, what is there to be read is a trace without an access. */
 static void tell_none(int token, int feed)
 {
-    static const unsigned char trace[45] = {'P', 'R', 'D', 'T', 'R', 'C', '0', '1', [17] = 1, [20] = 6};
+    static const unsigned char trace[45] = {'P', 'R', 'D', 'T',      'R',
+                                            'C', '0', '1', [17] = 1, [20] = 6};
     char byte;
     if (token < 0 || read(token, &byte, 1) != 1)
         return;
-    fputs("predator native: no access was recorded: no process that the program started had two threads at a time\n", stderr);
+    fputs("predator native: no access was recorded: no process that the program started had two "
+          "threads at a time\n",
+          stderr);
     if (write(feed, trace, sizeof trace) != sizeof trace)
         perror("predator native: the trace");
 }

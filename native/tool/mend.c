@@ -1,8 +1,8 @@
-/* Gives a trace an end that was cut where its program was killed: what is left of a last record that isn't whole goes, and an end as `part`
-   takes its place.
+/* Gives a trace an end that was cut where its program was killed: what is left of a last record
+   that isn't whole goes, and an end as `part` takes its place.
 
-       mend TRACE      in the file; one that has its end stays as it is, and any other file is refused
-       mend -          copies a trace from standard input to standard output; what is no such trace is copied as it is */
+       mend TRACE      in the file; one that has its end stays as it is, and another file is refused
+       mend -          from standard input to standard output; what is no such trace is copied */
 #define _GNU_SOURCE
 #include <errno.h>
 #include <fcntl.h>
@@ -11,10 +11,10 @@
 #include <string.h>
 #include <unistd.h>
 
-#define HEADER 20
-#define END_BYTES 25
-#define LONGEST (12 + 65535) /* a symbol whose name is as long as can be spelled */
-#define PIECE (1 << 18)
+#include "format.h"
+
+#define LONGEST (SYMBOL_HEAD_BYTES + 65535) /* a symbol whose name is as long as can be spelled */
+#define PIECE   (1 << 18)
 
 static unsigned char bytes[PIECE + LONGEST];
 static uint64_t accesses;
@@ -31,13 +31,14 @@ static int say(const char *path, const char *what)
 static size_t number_size(const unsigned char *it, size_t count)
 {
     size_t size;
-    for (size = 1; size <= count && size <= 5; size++)
-        if (it[size - 1] < 128 || size == 5)
+    for (size = 1; size <= count && size <= LONGEST_NUMBER; size++)
+        if (it[size - 1] < 128 || size == LONGEST_NUMBER)
             return size;
     return 0;
 }
 
-/* The same of an access of a later version: its tag, its hart, and one number, or in version 3 two. */
+/* The same of an access of a later version: its tag, its hart, and one number, or in version 3 two.
+ */
 static size_t access_size(const unsigned char *it, size_t count)
 {
     size_t size = 2, own;
@@ -55,24 +56,25 @@ static size_t access_size(const unsigned char *it, size_t count)
 static size_t size_of(const unsigned char *it, size_t count)
 {
     switch (*it) {
-    case 3:
-    case 6:
-        return 25;
-    case 4:
-        return 5;
-    case 5:
-        return count < 12 ? 0 : 12 + (it[10] | it[11] << 8);
-    case 1:
-    case 2:
+    case TAG_ALLOC:
+        return ALLOC_BYTES;
+    case TAG_END:
+        return END_BYTES;
+    case TAG_FREE:
+        return FREE_BYTES;
+    case TAG_SYMBOL:
+        return count < SYMBOL_HEAD_BYTES ? 0 : SYMBOL_HEAD_BYTES + (it[10] | it[11] << 8);
+    case TAG_READ:
+    case TAG_WRITE:
         if (version == '1')
-            return 8;
+            return ACCESS_BYTES;
         break;
-    case 0x11:
-    case 0x12:
-    case 0x14:
-    case 0x21:
-    case 0x22:
-    case 0x24:
+    case TAG_READ_OF_SIZE | 1:
+    case TAG_READ_OF_SIZE | 2:
+    case TAG_READ_OF_SIZE | 4:
+    case TAG_WRITE_OF_SIZE | 1:
+    case TAG_WRITE_OF_SIZE | 2:
+    case TAG_WRITE_OF_SIZE | 4:
         if (version != '1')
             return access_size(it, count);
     }
@@ -85,18 +87,19 @@ static size_t whole(const unsigned char *from, size_t count)
 {
     size_t place = 0, size;
     if (state == BEGINS) {
-        if (count < HEADER)
+        if (count < HEADER_BYTES)
             return 0;
         version = from[7];
-        state = memcmp(from, "PRDTRC0", 7) == 0 && '1' <= version && version <= '3' ? GOES_ON : STRANGE;
-        place = HEADER;
+        state =
+            memcmp(from, "PRDTRC0", 7) == 0 && '1' <= version && version <= '3' ? GOES_ON : STRANGE;
+        place = HEADER_BYTES;
     }
     while (state == GOES_ON && place < count) {
         size = size_of(from + place, count - place);
         if (size == 0 || size > count - place)
             break;
-        accesses += from[place] <= 2 || from[place] > 6;
-        if (from[place] == 6)
+        accesses += from[place] <= TAG_WRITE || from[place] > TAG_END;
+        if (from[place] == TAG_END)
             state = ENDED;
         place += size;
     }
@@ -117,15 +120,15 @@ static int put(int file, const unsigned char *from, size_t count)
 
 static int put_end(int file)
 {
-    unsigned char end[END_BYTES] = {6, 4};
+    unsigned char end[END_BYTES] = {TAG_END, OUTCOME_PART};
     int it;
     for (it = 0; it < 8; it++)
         end[17 + it] = accesses >> (8 * it);
     return put(file, end, END_BYTES);
 }
 
-/* Reads a trace, and copies it to a file where there is one, but for a last record that isn't whole. `place` is behind the last whole one,
-   and `left` how many bytes follow there. */
+/* Reads a trace, and copies it to a file where there is one, but for a last record that isn't
+   whole. `place` is behind the last whole one, and `left` how many bytes follow there. */
 static int read_records(int from, int to, uint64_t *place, size_t *left)
 {
     size_t count = 0, done;
@@ -178,11 +181,14 @@ int main(int argc, char **argv)
     if (file < 0 || !read_records(file, -1, &place, &left))
         return say(argv[1], strerror(errno));
     if (state == ENDED && left == 0)
-        return printf("%s: %llu accesses, and its end: it stays as it is\n", argv[1], (unsigned long long)accesses), 0;
+        return printf("%s: %llu accesses, and its end: it stays as it is\n", argv[1],
+                      (unsigned long long)accesses),
+               0;
     if (state != GOES_ON)
         return say(argv[1], "this is no trace that was cut");
     if (ftruncate(file, place) != 0 || lseek(file, place, SEEK_SET) < 0 || !put_end(file))
         return say(argv[1], strerror(errno));
-    printf("%s: cut at byte %llu, behind %llu accesses, where it ends now\n", argv[1], (unsigned long long)place, (unsigned long long)accesses);
+    printf("%s: cut at byte %llu, behind %llu accesses, where it ends now\n", argv[1],
+           (unsigned long long)place, (unsigned long long)accesses);
     return 0;
 }

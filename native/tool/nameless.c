@@ -1,7 +1,9 @@
-/* What lies where no object is: the stacks of threads, and files that are mapped and are no code. The table back has a row for each. */
+/* What lies where no object is: the stacks of threads, and files that are mapped and are no code.
+ * The table back has a row for each. */
 #include "parts.h"
 
-/* What the C library keeps of a thread at the thread's own pointer, which is the top of its stack. */
+/* What the C library keeps of a thread at the thread's own pointer, which is the top of its stack.
+ */
 #define THREAD_BYTES 2304
 
 static Addr up(Addr addr) { return (addr + PAGE - 1) & ~(PAGE - 1); }
@@ -33,7 +35,8 @@ void stack_begins(ThreadId tid)
 {
     ULong own = 0;
     Addr end = VG_(thread_get_stack_max)(tid) + 1;
-    VG_(get_shadow_regs_area)(tid, (UChar *)&own, 0, offsetof(VexGuestAMD64State, guest_FS_CONST), sizeof own);
+    VG_(get_shadow_regs_area)
+    (tid, (UChar *)&own, 0, offsetof(VexGuestAMD64State, guest_FS_CONST), sizeof own);
     if (tid == 1) /* (valgrind knows how far it may grow) */
         trace_stack(0, end - VG_(thread_get_stack_size)(tid), end);
     else
@@ -54,7 +57,8 @@ void tell_file(Addr addr)
     Addr from, to;
     const HChar *path;
     UInt it;
-    if (!mapping_of(addr, False, &from, &to, &path) || !path || path[0] == '[' || VG_(OSetWord_Contains)(files, from))
+    if (!mapping_of(addr, False, &from, &to, &path) || !path || path[0] == '[' ||
+        VG_(OSetWord_Contains)(files, from))
         return;
     VG_(OSetWord_Insert)(files, from);
     for (it = 0; it < library_count; it++) /* (the program may have loaded it by another way) */
@@ -63,4 +67,7 @@ void tell_file(Addr addr)
     table_text("file 0x%lx 0x%lx %s\n", from, to, path);
 }
 
-void nameless_begin(void) { files = VG_(OSetWord_Create)(VG_(malloc), "predator.files", VG_(free)); }
+void nameless_begin(void)
+{
+    files = VG_(OSetWord_Create)(VG_(malloc), "predator.files", VG_(free));
+}

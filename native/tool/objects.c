@@ -1,6 +1,6 @@
-/* What has a name in a trace: symbols of data, and blocks with their call sites (sites.c). They are told for the regions that have a place:
-   where a region gets one, those that lie in it, and from then on each block that is made in it. What reaches over several regions is told
-   in pieces. */
+/* What has a name in a trace: symbols of data, and blocks with their call sites (sites.c). They are
+   told for the regions that have a place: where a region gets one, those that lie in it, and from
+   then on each block that is made in it. What reaches over several regions is told in pieces. */
 #include "parts.h"
 
 /* ---- Symbols ---- */
@@ -25,17 +25,17 @@ UInt plain_length(const HChar *name)
 
 void put_symbol(UInt kind, UInt addr, UInt size, const HChar *name)
 {
-    UChar bytes[12 + NAME_MOST];
+    UChar bytes[SYMBOL_HEAD_BYTES + NAME_MOST];
     UInt length = plain_length(name);
     if (length > NAME_MOST)
         length = NAME_MOST;
-    bytes[0] = 5;
+    bytes[0] = TAG_SYMBOL;
     bytes[1] = kind;
     spell(bytes + 2, addr, 4);
     spell(bytes + 6, size, 4);
     spell(bytes + 10, length, 2);
-    VG_(memcpy)(bytes + 12, name, length);
-    trace_put(bytes, 12 + length);
+    VG_(memcpy)(bytes + SYMBOL_HEAD_BYTES, name, length);
+    trace_put(bytes, SYMBOL_HEAD_BYTES + length);
 }
 
 static void tell_symbol(const Region *region, const Symbol *it)
@@ -43,7 +43,7 @@ static void tell_symbol(const Region *region, const Symbol *it)
     Addr first;
     SizeT size = part_of(region->region, it->addr, it->size, &first);
     if (size > 0)
-        put_symbol(1, folded(region - regions, first), size, it->name);
+        put_symbol(SYMBOL_OF_DATA, folded(region - regions, first), size, it->name);
 }
 
 void symbols_of(const Region *region)
@@ -92,7 +92,8 @@ static void read_library(const DebugInfo *info, Addr text, SizeT text_size)
         UInt size;
         const HChar *name, **others;
         Bool is_text, is_ifunc, is_global;
-        VG_(DebugInfo_syms_getidx)(info, it, &addr, &size, &name, &others, &is_text, &is_ifunc, &is_global);
+        VG_(DebugInfo_syms_getidx)
+        (info, it, &addr, &size, &name, &others, &is_text, &is_ifunc, &is_global);
         if (!is_text && !is_ifunc && size > 0 && !(text <= addr && addr < text + text_size))
             note_symbol(addr, size, name, False);
     }
@@ -138,7 +139,7 @@ static Block last_freed[MOST_THREADS + 1];
 
 static void put_block(const Block *it, UInt index)
 {
-    UChar bytes[25];
+    UChar bytes[ALLOC_BYTES];
     Addr first;
     UInt site;
     SizeT size = part_of(regions[index].region, it->addr, it->size, &first);
@@ -146,15 +147,16 @@ static void put_block(const Block *it, UInt index)
         first = it->addr;
     else if (size == 0)
         return;
-    bytes[0] = 3;
+    bytes[0] = TAG_ALLOC;
     spell(bytes + 1, folded(index, first), 4);
     spell(bytes + 5, size, 4);
     for (site = 0; site < 4; site++)
         spell(bytes + 9 + 4 * site, it->sites[site] ? site_of(it->sites[site]) : 0, 4);
-    trace_put(bytes, 25);
+    trace_put(bytes, ALLOC_BYTES);
 }
 
-/* The regions that the block lies in and that have a place, one after the other, from `from` on; or -1. */
+/* The regions that the block lies in and that have a place, one after the other, from `from` on; or
+ * -1. */
 static Int next_region(const Block *it, Addr *from)
 {
     Addr last = it->addr + (it->size ? it->size - 1 : 0);
@@ -182,10 +184,10 @@ static void tell_end(const Block *it)
     Addr from = it->addr & ~(REGION - 1), first;
     Int index;
     while (it->told && (index = next_region(it, &from)) >= 0) {
-        UChar bytes[5] = {4};
+        UChar bytes[FREE_BYTES] = {TAG_FREE};
         part_of(regions[index].region, it->addr, it->size, &first);
         spell(bytes + 1, folded(index, first), 4);
-        trace_put(bytes, 5);
+        trace_put(bytes, FREE_BYTES);
     }
 }
 
@@ -199,11 +201,13 @@ void blocks_of(const Region *region)
     for (large_one = 0; large_one < large_count; large_one++)
         if (large[large_one]->told)
             put_block(large[large_one], region - regions);
-    /* Telling a block may give a place to the region of a call site, whose blocks are told then: so the search begins anew. */
+    /* Telling a block may give a place to the region of a call site, whose blocks are told then: so
+     * the search begins anew. */
     do {
         count = 0;
         VG_(OSetGen_ResetIterAt)(blocks, &from);
-        while (count < 256 && (it = VG_(OSetGen_Next)(blocks)) && it->addr < region->region + REGION) {
+        while (count < 256 && (it = VG_(OSetGen_Next)(blocks)) &&
+               it->addr < region->region + REGION) {
             if (it->told && it->size <= REGION)
                 found[count++] = it;
             from = it->addr + 1;

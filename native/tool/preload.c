@@ -1,11 +1,13 @@
-/* Runs within the program: a wrapper around each function that makes or frees blocks. The function itself runs as it is, since where
-   it puts the blocks is what is looked at. A block is told once it is there, and its end before it is freed: between the two no other
-   thread can have its address. */
+/* Runs within the program: a wrapper around each function that makes or frees blocks. The function
+   itself runs as it is, since where it puts the blocks is what is looked at. A block is told once
+   it is there, and its end before it is freed: between the two no other thread can have its
+   address. */
 #include <stddef.h>
 
 #include "requests.h"
 
-#define TELL(what, block, size) VALGRIND_DO_CLIENT_REQUEST_STMT(PREDATOR_REQUEST_##what, block, size, 0, 0, 0)
+#define TELL(what, block, size)                                                                    \
+    VALGRIND_DO_CLIENT_REQUEST_STMT(PREDATOR_REQUEST_##what, block, size, 0, 0, 0)
 /* The function of this name in any file of the program. */
 #define NAMED(name) I_WRAP_SONAME_FNNAME_ZU(VgSoSynsomalloc, name)
 
@@ -49,33 +51,33 @@ void *NAMED(realloc)(void *old, size_t size)
     return block;
 }
 
-#define ALIGNED(name) \
-    void *NAMED(name)(size_t align, size_t size); \
-    void *NAMED(name)(size_t align, size_t size) \
-    { \
-        OrigFn own; \
-        void *block; \
-        VALGRIND_GET_ORIG_FN(own); \
-        CALL_FN_W_WW(block, own, align, size); \
-        if (block) \
-            TELL(BLOCK, block, size); \
-        return block; \
+#define ALIGNED(name)                                                                              \
+    void *NAMED(name)(size_t align, size_t size);                                                  \
+    void *NAMED(name)(size_t align, size_t size)                                                   \
+    {                                                                                              \
+        OrigFn own;                                                                                \
+        void *block;                                                                               \
+        VALGRIND_GET_ORIG_FN(own);                                                                 \
+        CALL_FN_W_WW(block, own, align, size);                                                     \
+        if (block)                                                                                 \
+            TELL(BLOCK, block, size);                                                              \
+        return block;                                                                              \
     }
 
 ALIGNED(memalign)
 ALIGNED(aligned_alloc)
 
-#define PAGED(name) \
-    void *NAMED(name)(size_t size); \
-    void *NAMED(name)(size_t size) \
-    { \
-        OrigFn own; \
-        void *block; \
-        VALGRIND_GET_ORIG_FN(own); \
-        CALL_FN_W_W(block, own, size); \
-        if (block) \
-            TELL(BLOCK, block, size); \
-        return block; \
+#define PAGED(name)                                                                                \
+    void *NAMED(name)(size_t size);                                                                \
+    void *NAMED(name)(size_t size)                                                                 \
+    {                                                                                              \
+        OrigFn own;                                                                                \
+        void *block;                                                                               \
+        VALGRIND_GET_ORIG_FN(own);                                                                 \
+        CALL_FN_W_W(block, own, size);                                                             \
+        if (block)                                                                                 \
+            TELL(BLOCK, block, size);                                                              \
+        return block;                                                                              \
     }
 
 PAGED(valloc)

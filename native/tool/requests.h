@@ -1,10 +1,12 @@
-/* What a program may tell the tool. Include this in a program to record a part of it alone, with `--marked`:
+/* What a program may tell the tool. Include this in a program to record a part of it alone, with
+   `--marked`:
 
        PREDATOR_START;
        ..
        PREDATOR_STOP;
 
-   Outside the tool both do nothing, and take a few instructions. They need the header of Debian's package `valgrind`. */
+   Outside the tool both do nothing, and take a few instructions. They need the header of Debian's
+   package `valgrind`. */
 #ifndef PREDATOR_REQUESTS_H
 #define PREDATOR_REQUESTS_H
 
@@ -20,6 +22,6 @@ enum {
 };
 
 #define PREDATOR_START VALGRIND_DO_CLIENT_REQUEST_STMT(PREDATOR_REQUEST_START, 0, 0, 0, 0, 0)
-#define PREDATOR_STOP VALGRIND_DO_CLIENT_REQUEST_STMT(PREDATOR_REQUEST_STOP, 0, 0, 0, 0, 0)
+#define PREDATOR_STOP  VALGRIND_DO_CLIENT_REQUEST_STMT(PREDATOR_REQUEST_STOP, 0, 0, 0, 0, 0)
 
 #endif

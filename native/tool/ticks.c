@@ -1,9 +1,10 @@
-/* The processor's counter of time, as the program reads it. It goes on by the same steps on every run, so that who reads it to pass a
-   moment does the same each time; only where a call has waited, or has asked for the time, has it passed as much as the real one. */
+/* The processor's counter of time, as the program reads it. It goes on by the same steps on every
+   run, so that who reads it to pass a moment does the same each time; only where a call has waited,
+   or has asked for the time, has it passed as much as the real one. */
 #include "tool.h"
 
 #define BEGIN (1UL << 32)
-#define STEP 1000
+#define STEP  1000
 
 static ULong now = BEGIN, real;
 

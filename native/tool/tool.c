@@ -1,32 +1,33 @@
 /* The tool: which accesses a thread makes, and where its turn ends.
 
-   Each access is noted in a buffer by a few instructions of the translated code itself: one word with its address, its size and
-   whether it writes. Before the code leaves a block it looks whether the turn's accesses are used up, and if so has valgrind believe
-   that its own count of blocks is. What is in the buffer belongs to one thread, and is written to the trace before another one runs. */
+   Each access is noted in a buffer by a few instructions of the translated code itself: one word
+   with its address, its size and whether it writes. Before the code leaves a block it looks whether
+   the turn's accesses are used up, and if so has valgrind believe that its own count of blocks is.
+   What is in the buffer belongs to one thread, and is written to the trace before another one runs.
+ */
 #include "tool.h"
 
 #include "requests.h"
 
 #define ADDRESS_BITS 48
-#define SIZE_SHIFT 48
-#define WRITES (1UL << 63)
-#define SLACK 65536 /* accesses: more than one block of code can note */
+#define SIZE_SHIFT   48
+#define WRITES       (1UL << 63)
+#define SLACK        65536 /* accesses: more than one block of code can note */
 
 static ULong quantum = 100;
 static const HChar *trace_path, *table_path;
 static Bool records_all, marked_only;
 
-static UInt stride = 1;                      /* words of each access in the buffer */
-static ULong *buffer, *noted, *limit, *most; /* the buffer, its next free word, the end of the turn, and where the buffer is full */
-static ThreadId noted_of;                    /* the thread whose accesses are in it */
+static UInt stride = 1; /* words of each access in the buffer */
+static ULong *buffer, *noted, *limit,
+    *most; /* the buffer, its next free word, the end of the turn, and where the buffer is full */
+static ThreadId noted_of; /* the thread whose accesses are in it */
 static Bool turn_is_over;
 static Bool begins[MOST_THREADS + 1]; /* threads that haven't run yet */
-static Bool instruments; /* code that is translated now notes its accesses */
+static Bool instruments;              /* code that is translated now notes its accesses */
 static UInt live, started; /* threads, and calls of PREDATOR_START without one of PREDATOR_STOP */
 static Int exit_code = -1;
 static Bool has_preload, had_threads;
-static UChar cpus[128]; /* the processors that the program may use, before it was put on one */
-static Int cpus_size;
 
 /* ---- Instructions, by their numbers from 1 on ---- */
 
@@ -51,7 +52,8 @@ static UInt number_of(Addr addr)
         return it->number;
     if (instruction_count + 1 >= instruction_room) {
         instruction_room = instruction_room ? 2 * instruction_room : 4096;
-        instructions = VG_(realloc)("predator.instructions", instructions, instruction_room * sizeof *instructions);
+        instructions = VG_(realloc)("predator.instructions", instructions,
+                                    instruction_room * sizeof *instructions);
     }
     it = VG_(OSetGen_AllocNode)(numbers, sizeof *it);
     it->addr = addr;
@@ -78,7 +80,8 @@ static void write_noted(void)
         for (it = buffer; it < noted && trace_records; it += stride) {
             ULong word = *it;
             UInt pc = stride > 1 ? pc_of(it[1]) : 0;
-            trace_access(noted_of - 1, word >> 63, word & ((1UL << ADDRESS_BITS) - 1), word >> SIZE_SHIFT & 0x7fff, pc);
+            trace_access(noted_of - 1, word >> 63, word & ((1UL << ADDRESS_BITS) - 1),
+                         word >> SIZE_SHIFT & 0x7fff, pc);
         }
     limit -= noted - buffer;
     if (limit < buffer)
@@ -98,14 +101,12 @@ static void translate_with_notes(Bool notes)
     VG_(discard_translations)(4096, ~0UL - 8191, "predator");
 }
 
-static void take_one_processor(void);
-
 /* Whether this is the process that is recorded, from now on. */
 static Bool is_taken(void)
 {
     if (!child_takes())
         return False;
-    take_one_processor();
+    processor_take();
     return True;
 }
 
@@ -137,7 +138,8 @@ static void on_start(ThreadId tid, ULong blocks)
     }
     if (tid > MOST_HARTS && trace_records)
         trace_stop("more than 256 threads live at a time");
-    if (instruments && !trace_is_open()) { /* nothing is written any more: the program goes on as fast as valgrind can */
+    if (instruments && !trace_is_open()) { /* nothing is written any more: the program goes on as
+                                              fast as valgrind can */
         translate_with_notes(False);
         begin_turn();
     }
@@ -157,7 +159,7 @@ typedef struct {
     IRSB *out;
     IRExpr *base; /* the next free word, as it stood when the first of `count` accesses was noted */
     UInt count;
-    Addr addr;    /* the instruction, and its number once that was asked for */
+    Addr addr; /* the instruction, and its number once that was asked for */
     UInt number;
 } Notes;
 
@@ -170,7 +172,10 @@ static IRExpr *named(IRSB *out, IRType type, IRExpr *what)
     return IRExpr_RdTmp(temp);
 }
 
-static IRExpr *loaded(IRSB *out, void *from) { return named(out, Ity_I64, IRExpr_Load(Iend_LE, Ity_I64, number((Addr)from))); }
+static IRExpr *loaded(IRSB *out, void *from)
+{
+    return named(out, Ity_I64, IRExpr_Load(Iend_LE, Ity_I64, number((Addr)from)));
+}
 
 static void set_noted(Notes *it, IRExpr *value)
 {
@@ -178,7 +183,8 @@ static void set_noted(Notes *it, IRExpr *value)
     IRExpr *counter, *over;
     addStmtToIRSB(out, IRStmt_Store(Iend_LE, number((Addr)&noted), value));
     over = named(out, Ity_I1, IRExpr_Binop(Iop_CmpLE64U, loaded(out, &limit), value));
-    counter = named(out, Ity_I32, IRExpr_Get(offsetof(VexGuestArchState, host_EvC_COUNTER), Ity_I32));
+    counter =
+        named(out, Ity_I32, IRExpr_Get(offsetof(VexGuestArchState, host_EvC_COUNTER), Ity_I32));
     counter = named(out, Ity_I32, IRExpr_ITE(over, IRExpr_Const(IRConst_U32(0)), counter));
     addStmtToIRSB(out, IRStmt_Put(offsetof(VexGuestArchState, host_EvC_COUNTER), counter));
     it->base = NULL;
@@ -189,12 +195,15 @@ static void set_noted(Notes *it, IRExpr *value)
 static void settle(Notes *it)
 {
     if (it->count > 0)
-        set_noted(it, named(it->out, Ity_I64, IRExpr_Binop(Iop_Add64, it->base, number(8 * stride * it->count))));
+        set_noted(it, named(it->out, Ity_I64,
+                            IRExpr_Binop(Iop_Add64, it->base, number(8 * stride * it->count))));
 }
 
 static void store_word(Notes *it, UInt at, IRExpr *word)
 {
-    IRExpr *place = at == 0 ? it->base : named(it->out, Ity_I64, IRExpr_Binop(Iop_Add64, it->base, number(8 * at)));
+    IRExpr *place =
+        at == 0 ? it->base
+                : named(it->out, Ity_I64, IRExpr_Binop(Iop_Add64, it->base, number(8 * at)));
     addStmtToIRSB(it->out, IRStmt_Store(Iend_LE, place, word));
 }
 
@@ -211,11 +220,15 @@ static void note_word(Notes *it, IRExpr *word)
     it->count++;
 }
 
-static ULong head(Bool writes, UInt size) { return (writes ? WRITES : 0) | (ULong)size << SIZE_SHIFT; }
+static ULong head(Bool writes, UInt size)
+{
+    return (writes ? WRITES : 0) | (ULong)size << SIZE_SHIFT;
+}
 
 static void note(Notes *it, Bool writes, IRExpr *addr, UInt size)
 {
-    note_word(it, named(it->out, Ity_I64, IRExpr_Binop(Iop_Or64, addr, number(head(writes, size)))));
+    note_word(it,
+              named(it->out, Ity_I64, IRExpr_Binop(Iop_Or64, addr, number(head(writes, size)))));
 }
 
 /* An access that is made where `guard` holds. */
@@ -236,16 +249,19 @@ static void note_swap(Notes *it, const IRCAS *swap)
     static const IROp equals[4] = {Iop_CasCmpEQ8, Iop_CasCmpEQ16, Iop_CasCmpEQ32, Iop_CasCmpEQ64};
     IRType type = typeOfIRExpr(it->out->tyenv, swap->dataLo);
     UInt size = sizeofIRType(type), rank = size == 8 ? 3 : size / 2;
-    IRExpr *same = named(it->out, Ity_I1, IRExpr_Binop(equals[rank], IRExpr_RdTmp(swap->oldLo), swap->expdLo));
+    IRExpr *same =
+        named(it->out, Ity_I1, IRExpr_Binop(equals[rank], IRExpr_RdTmp(swap->oldLo), swap->expdLo));
     if (swap->dataHi) {
-        IRExpr *high = named(it->out, Ity_I1, IRExpr_Binop(equals[rank], IRExpr_RdTmp(swap->oldHi), swap->expdHi));
+        IRExpr *high = named(it->out, Ity_I1,
+                             IRExpr_Binop(equals[rank], IRExpr_RdTmp(swap->oldHi), swap->expdHi));
         IRExpr *both = named(it->out, Ity_I64, IRExpr_Unop(Iop_1Uto64, high));
         IRExpr *low = named(it->out, Ity_I64, IRExpr_Unop(Iop_1Uto64, same));
         both = named(it->out, Ity_I64, IRExpr_Binop(Iop_And64, both, low));
         same = named(it->out, Ity_I1, IRExpr_Unop(Iop_64to1, both));
         size *= 2;
     }
-    IRExpr *kind = named(it->out, Ity_I64, IRExpr_ITE(same, number(head(True, size)), number(head(False, size))));
+    IRExpr *kind = named(it->out, Ity_I64,
+                         IRExpr_ITE(same, number(head(True, size)), number(head(False, size))));
     note_word(it, named(it->out, Ity_I64, IRExpr_Binop(Iop_Or64, swap->addr, kind)));
 }
 
@@ -259,8 +275,8 @@ static void note_helper(Notes *it, const IRDirty *call)
         note_where(it, call->guard, True, call->mAddr, call->mSize);
 }
 
-/* The address of the compare-and-swap of the instruction that begins at a statement, or none: an atomic operation is translated into a
-   load and a compare-and-swap, and is one access. */
+/* The address of the compare-and-swap of the instruction that begins at a statement, or none: an
+   atomic operation is translated into a load and a compare-and-swap, and is one access. */
 static const IRExpr *swap_of(const IRSB *in, Int from)
 {
     Int it;
@@ -279,8 +295,9 @@ static Bool is_own(Addr addr)
     return own_size > 0 && own_text <= addr && addr < own_text + own_size;
 }
 
-static IRSB *instrument(VgCallbackClosure *closure, IRSB *in, const VexGuestLayout *layout, const VexGuestExtents *extents,
-                        const VexArchInfo *host, IRType guest_word, IRType host_word)
+static IRSB *instrument(VgCallbackClosure *closure, IRSB *in, const VexGuestLayout *layout,
+                        const VexGuestExtents *extents, const VexArchInfo *host, IRType guest_word,
+                        IRType host_word)
 {
     Notes notes = {deepCopyIRSBExceptStmts(in), NULL, 0, 0, 0};
     const IRExpr *swap = NULL;
@@ -310,12 +327,14 @@ static IRSB *instrument(VgCallbackClosure *closure, IRSB *in, const VexGuestLayo
             break;
         }
         case Ist_Store:
-            note(&notes, True, one->Ist.Store.addr, sizeofIRType(typeOfIRExpr(in->tyenv, one->Ist.Store.data)));
+            note(&notes, True, one->Ist.Store.addr,
+                 sizeofIRType(typeOfIRExpr(in->tyenv, one->Ist.Store.data)));
             break;
         case Ist_LoadG: {
             IRType whole, read;
             typeOfIRLoadGOp(one->Ist.LoadG.details->cvt, &whole, &read);
-            note_where(&notes, one->Ist.LoadG.details->guard, False, one->Ist.LoadG.details->addr, sizeofIRType(read));
+            note_where(&notes, one->Ist.LoadG.details->guard, False, one->Ist.LoadG.details->addr,
+                       sizeofIRType(read));
             break;
         }
         case Ist_StoreG:
@@ -405,59 +424,10 @@ static void on_map(Addr addr, SizeT size, Bool reads, Bool writes, Bool runs, UL
     }
 }
 
-static Int pinned_to = -1, first_policy;
-
-static void set_policy(Int policy)
-{
-    Int priority = 0;
-    CALL(__NR_sched_setscheduler, 0, policy, &priority, 0);
-}
-
-static void pin(void)
-{
-    UChar one[sizeof cpus] = {0};
-    one[pinned_to / 8] = 1 << pinned_to % 8;
-    CALL(__NR_sched_setaffinity, 0, sizeof one, one, 0);
-    set_policy(3 /* SCHED_BATCH */);
-}
-
-static UInt first_cpu(void)
-{
-    UInt it = 0;
-    while (it + 1 < 8 * sizeof cpus && !(cpus[it / 8] >> it % 8 & 1))
-        it++;
-    return it;
-}
-
-/* As it was before the tool. */
-static void unpin(void)
-{
-    CALL(__NR_sched_setaffinity, 0, cpus_size, cpus, 0);
-    set_policy(first_policy);
-}
-
-/* One processor for all threads: two never run at a time, and what a thread wakes waits until that thread has done what it does. */
-static void take_one_processor(void)
-{
-    UInt cpu = 0;
-    SysRes got = CALL(__NR_sched_getaffinity, 0, sizeof cpus, cpus, 0);
-    if (sr_isError(got))
-        return;
-    cpus_size = sr_Res(got);
-    if (sr_isError(CALL(__NR_getcpu, &cpu, 0, 0, 0)) || cpu >= 8 * sizeof cpus)
-        return;
-    pinned_to = cpu;
-    got = CALL(__NR_sched_getscheduler, 0, 0, 0, 0);
-    first_policy = sr_isError(got) ? 0 : sr_Res(got);
-    pin();
-}
-
 static void on_fork_child(ThreadId tid)
 {
     noted = buffer;
-    if (pinned_to >= 0)
-        unpin();
-    pinned_to = -1;
+    processor_give_back();
     if (!child_follows()) {
         trace_leave();
         return;
@@ -475,13 +445,12 @@ static void before_call(ThreadId tid, UInt call, UWord *words, UInt count)
     if (call == __NR_exit_group || (call == __NR_exit && live == 1))
         exit_code = words[0] & 0xff;
     /* Where it works, the program is another one, and the tool is gone. */
-    if (call == __NR_execve || call == 322 /* execveat */) {
+    if (call == __NR_execve || call == __NR_execveat) {
         write_noted();
         child_becomes(True);
         if (!child_waits())
             trace_flush();
-        if (pinned_to >= 0)
-            unpin();
+        processor_leave();
     }
 }
 
@@ -489,20 +458,9 @@ static void after_call(ThreadId tid, UInt call, UWord *words, UInt count, SysRes
 {
     calls_after(tid, call, words, result);
     ticks_pass(call);
-    if (call == __NR_execve || call == 322)
+    if (call == __NR_execve || call == __NR_execveat)
         child_becomes(False); /* it failed */
-    if (pinned_to < 0)
-        return;
-    if (call == __NR_execve || call == 322)
-        pin(); /* it failed */
-    if (sr_isError(result))
-        return;
-    if (call == __NR_sched_getaffinity) /* as if it weren't on one processor */
-        VG_(memcpy)((void *)words[2], cpus, sr_Res(result) < cpus_size ? sr_Res(result) : cpus_size);
-    if (call == __NR_getcpu && words[0]) /* which one it is differs from run to run */
-        *(UInt *)words[0] = first_cpu();
-    if (call == __NR_sched_setaffinity)
-        pin();
+    processor_after_call(call, words, result);
 }
 
 static Bool on_option(const HChar *word)
@@ -516,17 +474,25 @@ static Bool on_option(const HChar *word)
         child_token = number;
     else if (VG_BINT_CLO(word, "--root", number, 1, 1L << 30))
         child_root = number;
-    else if (VG_STR_CLO(word, "--trace", trace_path)) {
-    } else if (VG_STR_CLO(word, "--table", table_path)) {
-    } else if (VG_BOOL_CLO(word, "--all", records_all)) {
-    } else if (VG_BOOL_CLO(word, "--marked", marked_only)) {
-    } else if (VG_BOOL_CLO(word, "--pcs", trace_pcs)) {
-    } else
-        return False;
+    else
+        return VG_STR_CLO(word, "--trace", trace_path) || VG_STR_CLO(word, "--table", table_path) ||
+               VG_BOOL_CLO(word, "--all", records_all) ||
+               VG_BOOL_CLO(word, "--marked", marked_only) || VG_BOOL_CLO(word, "--pcs", trace_pcs);
     return True;
 }
 
-static void print_usage(void) { VG_(printf)("    see docs/NATIVE.md of predator\n"); }
+static void print_usage(void)
+{
+    VG_(printf)
+    ("    --trace=FILE        the trace is written there\n"
+     "    --table=FILE        its address map is written there [FILE.table]\n"
+     "    --quantum=N         a thread's turn is N accesses, from 1 to 100000 [100]\n"
+     "    --most=N            the trace ends after N accesses\n"
+     "    --all=yes|no        accesses are recorded while one thread lives, too [no]\n"
+     "    --marked=yes|no     only between PREDATOR_START and PREDATOR_STOP [no]\n"
+     "    --pcs=yes|no        each access has its instruction [no]\n"
+     "    --child=FD --root=PID   a descendant is recorded (set by predator native)\n");
+}
 
 static void after_options(void)
 {
@@ -551,8 +517,8 @@ static void after_options(void)
         VG_(exit)(125);
     instruments = records_all && !child_waits();
     judge_recording();
-    if (!child_waits() && pinned_to < 0)
-        take_one_processor();
+    if (!child_waits())
+        processor_take();
 }
 
 static void at_end(Int code)
@@ -561,12 +527,14 @@ static void at_end(Int code)
     if (child_waits())
         return;
     if (trace_is_open() && trace_accesses == 0)
-        VG_(printf)("predator native: no access was recorded: %s\n",
-                    marked_only ? "no PREDATOR_START was reached"
-                    : had_threads ? "its threads made none"
-                                  : "the program had one thread all the time, and --all records that too");
+        VG_(printf)
+    ("predator native: no access was recorded: %s\n",
+     marked_only   ? "no PREDATOR_START was reached"
+     : had_threads ? "its threads made none"
+                   : "the program had one thread all the time, and --all records that too");
     if (trace_is_open() && !has_preload)
-        VG_(printf)("predator native: the program loads no libraries, so its blocks weren't seen\n");
+        VG_(printf)
+    ("predator native: the program loads no libraries, so its blocks weren't seen\n");
     trace_end(exit_code >= 0, exit_code);
 }
 

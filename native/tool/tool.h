@@ -1,4 +1,5 @@
-/* What the parts of the tool share. The tool runs inside valgrind, with valgrind's own small library and no C library. */
+/* What the parts of the tool share. The tool runs inside valgrind, with valgrind's own small
+ * library and no C library. */
 #ifndef PREDATOR_TOOL_H
 #define PREDATOR_TOOL_H
 
@@ -23,7 +24,8 @@
 #include "pub_tool_guest.h"
 #include "pub_tool_tooliface.h"
 
-/* In valgrind's library, and in none of its headers. native/build looks at the version that they belong to. */
+/* In valgrind's library, and in none of its headers. native/build looks at the version that they
+ * belong to. */
 extern SysRes VG_(do_syscall)(UWord number, UWord, UWord, UWord, UWord, UWord, UWord, UWord, UWord);
 extern Int VG_(safe_fd)(Int fd);
 extern Bool VG_(clo_read_inline_info);
@@ -32,8 +34,9 @@ extern Int VG_(sigemptyset)(vki_sigset_t *);
 extern Int VG_(sigaddset)(vki_sigset_t *, Int signal);
 extern void VG_(discard_translations)(Addr start, ULong size, const HChar *who);
 extern Int VG_(DebugInfo_syms_howmany)(const DebugInfo *);
-extern void VG_(DebugInfo_syms_getidx)(const DebugInfo *, Int, Addr *addr, UInt *size, const HChar **name, const HChar ***others,
-                                       Bool *is_text, Bool *is_ifunc, Bool *is_global);
+extern void VG_(DebugInfo_syms_getidx)(const DebugInfo *, Int, Addr *addr, UInt *size,
+                                       const HChar **name, const HChar ***others, Bool *is_text,
+                                       Bool *is_ifunc, Bool *is_global);
 typedef struct {
     ThreadId tid;
     UInt status;
@@ -43,7 +46,8 @@ extern ThreadId VG_(lwpid_to_vgtid)(Int lwp);
 extern Addr VG_(brk_base), VG_(brk_limit);
 enum { STATUS_RUNS = 2, STATUS_IN_CALL = 3, STATUS_YIELDS = 4 };
 
-/* The mapping that an address lies in, if there is one: where it begins and ends, and the path of its file, `[heap]` or none. */
+/* The mapping that an address lies in, if there is one: where it begins and ends, and the path of
+ * its file, `[heap]` or none. */
 static inline Bool mapping_of(Addr addr, Bool anew, Addr *from, Addr *to, const HChar **path)
 {
     const NSegment *it = VG_(am_find_nsegment)(addr);
@@ -62,7 +66,11 @@ static inline const HChar *mapped_file(Addr addr)
 }
 #define MAPPED_FILE(addr) mapped_file(addr)
 
-#define CALL(number, a, b, c, d) VG_(do_syscall)(number, (UWord)(a), (UWord)(b), (UWord)(c), (UWord)(d), 0, 0, 0, 0)
+/* Numbers of Linux that valgrind's headers don't name. */
+enum { SCHED_BATCH = 3, ETIMEDOUT = 110 };
+
+#define CALL(number, a, b, c, d)                                                                   \
+    VG_(do_syscall)(number, (UWord)(a), (UWord)(b), (UWord)(c), (UWord)(d), 0, 0, 0, 0)
 
 /* More threads than a trace has harts, so that the tool can say so and the program go on. */
 #define MOST_THREADS 2000
@@ -75,34 +83,42 @@ typedef enum {
     CALL_YIELDS, /* comes back at once, and gives the turn away */
     CALL_KEEPS   /* comes back at once, and keeps the turn */
 } Call;
-void turns_call(ThreadId tid, Call call);         /* what the call is that a thread is about to make */
-void turns_woke(Int count);                       /* so many of those that wait come back */
-void turns_unwoken(ThreadId tid);                 /* one that waited comes back by itself */
-void turns_leaves(Addr word);                     /* a thread ends, and the system clears a word once it is gone */
-void turns_expect(ThreadId tid);                  /* a thread is about to exist: the turn is kept for it */
+void turns_call(ThreadId tid, Call call); /* what the call is that a thread is about to make */
+void turns_woke(Int count);               /* so many of those that wait come back */
+void turns_unwoken(ThreadId tid);         /* one that waited comes back by itself */
+void turns_leaves(Addr word);    /* a thread ends, and the system clears a word once it is gone */
+void turns_expect(ThreadId tid); /* a thread is about to exist: the turn is kept for it */
 void turns_forget(ThreadId tid);
 
 /* calls.c: what a call of the system waits for. */
 void calls_create(ThreadId parent, ThreadId child);
 void calls_exit(ThreadId tid);
-void calls_forked(ThreadId tid);                  /* no other thread is there any more */
+void calls_forked(ThreadId tid); /* no other thread is there any more */
 void calls_before(ThreadId tid, UInt call, const UWord *words);
 void calls_after(ThreadId tid, UInt call, const UWord *words, SysRes result);
 
+/* processor.c: the one processor that all threads share. */
+void processor_take(void);      /* from now on, if not already */
+void processor_leave(void);     /* the program may use all it had, until a call fails */
+void processor_give_back(void); /* the same for good, in a child that was forked */
+void processor_after_call(UInt call, const UWord *words, SysRes result);
+
 /* ticks.c: the processor's counter of time. */
-IRStmt *ticks_instead(IRStmt *it);                /* a statement that reads the counter reads one of ours; any other stays */
-void ticks_pass(UInt call);                       /* a call has come back */
+IRStmt *ticks_instead(
+    IRStmt *it); /* a statement that reads the counter reads one of ours; any other stays */
+void ticks_pass(UInt call); /* a call has come back */
 
 /* child.c: which process is recorded, where it isn't the program's own. */
-extern Int child_token, child_root;               /* a pipe's descriptor, or -1; and the program's own process, or 0 where this is it */
+extern Int child_token, child_root; /* a pipe's descriptor, or -1; and the program's own process, or
+                                       0 where this is it */
 void child_begin(void);
-Bool child_waits(void);                           /* whether this process may not be recorded, or not yet */
-Bool child_takes(void);                           /* whether it is recorded, now that there is something to record */
-Bool child_follows(void);                         /* whether one that was forked may be */
-void child_becomes(Bool another);                 /* the process is about to become another program, or did not */
+Bool child_waits(void);   /* whether this process may not be recorded, or not yet */
+Bool child_takes(void);   /* whether it is recorded, now that there is something to record */
+Bool child_follows(void); /* whether one that was forked may be */
+void child_becomes(Bool another); /* the process is about to become another program, or did not */
 
 #include "trace.h"
 
-void stack_begins(ThreadId tid);                  /* nameless.c: a thread is about to run for the first time */
+void stack_begins(ThreadId tid); /* nameless.c: a thread is about to run for the first time */
 
 #endif

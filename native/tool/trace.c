@@ -1,13 +1,16 @@
-/* What is written: the trace, version 1 of docs/FORMATS.md or with instructions version 3, and the table back.
+/* What is written: the trace, version 1 of docs/FORMATS.md or with instructions version 3, and the
+   table back.
 
-   Addresses of 64 bits become 32 while the program runs. Regions of 1 MiB get places of 1 MiB and 4 KiB in the order of their first
-   touch, so what lies side by side in a region stays so, and no two regions become neighbours. Instructions that are told with accesses get
-   numbers from the other end on, so that data lies where it does without; one behind the other, so that the next one is mostly near. */
+   Addresses of 64 bits become 32 while the program runs. Regions of 1 MiB get places of 1 MiB and 4
+   KiB in the order of their first touch, so what lies side by side in a region stays so, and no two
+   regions become neighbours. Instructions that are told with accesses get numbers from the other
+   end on, so that data lies where it does without; one behind the other, so that the next one is
+   mostly near. */
 #include "parts.h"
 
-#define FIRST 0x10000UL
+#define FIRST        0x10000UL
 #define MOST_REGIONS 4080 /* the last place ends below 2^32 */
-#define PIECE (1 << 20)
+#define PIECE        (1 << 20)
 #ifndef FILE_IS_KEPT /* valgrind keeps the tool's files from the program */
 #define FILE_IS_KEPT(fd) True
 #define KEEP_FILE(fd)
@@ -19,16 +22,14 @@
 #ifndef PROGRAM_PATH
 #define PROGRAM_PATH VG_(args_the_exename)
 #endif
-#define END_BYTES 25
-#define LONGEST_ACCESS 12
-enum { EXIT = 0, PART = 4 }; /* outcomes */
 
 ULong trace_accesses, trace_most;
 Bool trace_records, trace_pcs;
 
-/* A file that is written from its front. What stands of the trace is a whole trace after each piece: behind each piece stands an end,
-   where the file can be written so. It is taken away before the next piece is written, so at any moment, also where a kill comes in the
-   middle of a write, the file has the first bytes of the trace, or these and an end. */
+/* A file that is written from its front. What stands of the trace is a whole trace after each
+   piece: behind each piece stands an end, where the file can be written so. It is taken away before
+   the next piece is written, so at any moment, also where a kill comes in the middle of a write,
+   the file has the first bytes of the trace, or these and an end. */
 typedef struct {
     Int fd;
     const HChar *path;
@@ -42,8 +43,8 @@ static File trace = {-1}, table = {-1};
 
 Bool trace_has(Int fd) { return fd >= 0 && (fd == trace.fd || fd == table.fd); }
 
-/* The number of a descriptor that a path names as /dev/fd/N, or -1. It is taken over, and not opened once more: the program must not
-   inherit it. */
+/* The number of a descriptor that a path names as /dev/fd/N, or -1. It is taken over, and not
+   opened once more: the program must not inherit it. */
 static Int given_fd(const HChar *path)
 {
     Int fd = 0;
@@ -61,20 +62,24 @@ static Int given_fd(const HChar *path)
 static Bool file_open(File *it, const HChar *path, Bool seeks)
 {
     Int given = given_fd(path);
-    SysRes opened = given >= 0 ? CALL(__NR_fcntl, given, VKI_F_GETFD, 0, 0) : VG_(open)(path, VKI_O_WRONLY | VKI_O_CREAT | VKI_O_TRUNC, 0666);
+    SysRes opened = given >= 0 ? CALL(__NR_fcntl, given, VKI_F_GETFD, 0, 0)
+                               : VG_(open)(path, VKI_O_WRONLY | VKI_O_CREAT | VKI_O_TRUNC, 0666);
     if (sr_isError(opened)) {
         VG_(printf)("predator native: %s: %s\n", path, VG_(strerror)(sr_Err(opened)));
         return False;
     }
     it->fd = VG_(safe_fd)(given >= 0 ? given : (Int)sr_Res(opened));
     KEEP_FILE(it->fd);
-    it->path = given < 0 ? VG_(strdup)("predator.path", path) : seeks ? "the trace's pipe" : "the table's pipe";
+    it->path = given < 0 ? VG_(strdup)("predator.path", path)
+               : seeks   ? "the trace's pipe"
+                         : "the table's pipe";
     it->bytes = VG_(malloc)("predator.file", PIECE + 4096);
     it->count = 0;
     it->length = 0;
     it->seeks = seeks && VG_(lseek)(it->fd, 0, VKI_SEEK_CUR) == 0;
-    if (!it->seeks) /* a pipe has room for a whole piece, where the system allows it: the program waits less often */
-        CALL(__NR_fcntl, it->fd, 1031 /* F_SETPIPE_SZ */, PIECE, 0);
+    if (!it->seeks) /* a pipe has room for a whole piece, where the system allows it: the program
+                       waits less often */
+        CALL(__NR_fcntl, it->fd, VKI_F_SETPIPE_SZ, PIECE, 0);
     return it->fd >= 0;
 }
 
@@ -85,7 +90,8 @@ static void file_drop(File *it)
     it->fd = -1;
 }
 
-/* A write to a pipe that nobody reads, or above a limit, sends a signal that the program must not get. */
+/* A write to a pipe that nobody reads, or above a limit, sends a signal that the program must not
+ * get. */
 static void eat(Int number)
 {
     vki_sigset_t set;
@@ -93,14 +99,15 @@ static void eat(Int number)
     struct vki_timespec none = {0, 0};
     VG_(sigemptyset)(&set);
     VG_(sigaddset)(&set, number);
-    VG_(do_syscall)(__NR_rt_sigtimedwait, (UWord)&set, (UWord)&info, (UWord)&none, sizeof set, 0, 0, 0, 0);
+    VG_(do_syscall)
+    (__NR_rt_sigtimedwait, (UWord)&set, (UWord)&info, (UWord)&none, sizeof set, 0, 0, 0, 0);
 }
 
 /* How many of the bytes were written, and why no more. */
 static UInt all_written(Int fd, const UChar *bytes, UInt count, UWord *error)
 {
     UInt done = 0;
-    *error = FILE_IS_KEPT(fd) ? 0 : 9 /* EBADF */;
+    *error = FILE_IS_KEPT(fd) ? 0 : VKI_EBADF;
     HOLD_SIGNALS();
     while (done < count && *error == 0) {
         SysRes wrote = CALL(__NR_write, fd, bytes + done, count - done, 0);
@@ -128,7 +135,7 @@ void spell(UChar *at, ULong value, UInt bytes)
 static void spell_end(UChar *at, UInt outcome, UInt value)
 {
     VG_(memset)(at, 0, END_BYTES);
-    at[0] = 6;
+    at[0] = TAG_END;
     at[1] = outcome;
     spell(at + 5, value, 4);
     spell(at + 17, trace_accesses, 8);
@@ -172,19 +179,25 @@ static void trace_piece(Bool is_last, UInt outcome, UInt value)
     VG_(printf)("predator native: %s: %s\n", trace.path, VG_(strerror)(error));
     if (!FILE_IS_KEPT(trace.fd)) { /* nothing was written, and what stands is whole */
         trace_accesses = whole_accesses;
-        VG_(printf)("predator native: the program closed the trace, which ends after %llu accesses, and goes on\n", trace_accesses);
+        VG_(printf)
+        ("predator native: the program closed the trace, which ends after %llu accesses, and goes "
+         "on\n",
+         trace_accesses);
     } else if (trace.seeks) { /* back to the last whole piece, and its end */
         UChar bytes[END_BYTES];
         trace_accesses = whole_accesses;
-        spell_end(bytes, PART, 0);
+        spell_end(bytes, OUTCOME_PART, 0);
         VG_(lseek)(trace.fd, trace.length, VKI_SEEK_SET);
         CALL(__NR_ftruncate, trace.fd, trace.length, 0, 0);
         if (trace.length == 0 || all_written(trace.fd, bytes, END_BYTES, &error) < END_BYTES)
             VG_(printf)("predator native: %s: what stands there is no whole trace\n", trace.path);
         else
-            VG_(printf)("predator native: the trace ends after %llu accesses, and the program goes on\n", trace_accesses);
+            VG_(printf)
+        ("predator native: the trace ends after %llu accesses, and the program goes on\n",
+         trace_accesses);
     } else {
-        VG_(printf)("predator native: what was written of the trace has no end, and the program goes on\n");
+        VG_(printf)
+        ("predator native: what was written of the trace has no end, and the program goes on\n");
     }
     file_drop(&trace);
     trace_records = False;
@@ -227,8 +240,11 @@ void table_text(const HChar *format, ...)
 Region regions[MOST_REGIONS];
 UInt region_count;
 static ULong code_end = 1UL << 32; /* the lowest number that an instruction has */
-static UInt region_hash[16384];               /* an index and 1, or 0 */
-static struct { Addr region; UInt index; } near_regions[256]; /* the same for what was used last, index and 1 */
+static UInt region_hash[16384];    /* an index and 1, or 0 */
+static struct {
+    Addr region;
+    UInt index;
+} near_regions[256]; /* the same for what was used last, index and 1 */
 
 static ULong place_of_region(UInt index) { return FIRST + index * (REGION + PAGE); }
 
@@ -289,7 +305,8 @@ UInt code_number(void)
 
 SizeT part_of(Addr region, Addr addr, SizeT size, Addr *first)
 {
-    Addr from = addr > region ? addr : region, to = addr + size < region + REGION ? addr + size : region + REGION;
+    Addr from = addr > region ? addr : region,
+         to = addr + size < region + REGION ? addr + size : region + REGION;
     *first = from;
     return from < to ? to - from : 0;
 }
@@ -309,16 +326,17 @@ Bool trace_begin(const HChar *path, const HChar *table_path)
         return False;
     objects_begin();
     nameless_begin();
-    table_text("program %s%s%s\n", own[0] == '/' ? "" : VG_(get_startup_wd)(), own[0] == '/' ? "" : "/", own);
+    table_text("program %s%s%s\n", own[0] == '/' ? "" : VG_(get_startup_wd)(),
+               own[0] == '/' ? "" : "/", own);
     return True;
 }
 
 Bool trace_start(void)
 {
-    UChar header[20] = "PRDTRC01";
+    UChar header[HEADER_BYTES] = "PRDTRC01";
     header[7] = trace_pcs ? '3' : '1';
     spell(header + 16, MOST_HARTS, 2);
-    trace_put(header, 20);
+    trace_put(header, HEADER_BYTES);
     trace_flush();
     return trace.fd >= 0;
 }
@@ -330,7 +348,7 @@ Bool trace_is_open(void) { return trace.fd >= 0; }
 void trace_flush(void)
 {
     file_flush(&table);
-    trace_piece(False, PART, 0);
+    trace_piece(False, OUTCOME_PART, 0);
 }
 
 static void finish(UInt outcome, UInt value)
@@ -347,17 +365,19 @@ static void finish(UInt outcome, UInt value)
 void trace_end(Bool by_exit, Int code)
 {
     if (by_exit)
-        finish(EXIT, code);
+        finish(OUTCOME_EXIT, code);
     else
-        finish(PART, 0);
+        finish(OUTCOME_PART, 0);
 }
 
 void trace_stop(const HChar *why)
 {
     if (trace.fd < 0)
         return;
-    VG_(printf)("predator native: %s: the trace ends here, after %llu accesses, and the program goes on\n", why, trace_accesses);
-    finish(PART, 0);
+    VG_(printf)
+    ("predator native: %s: the trace ends here, after %llu accesses, and the program goes on\n",
+     why, trace_accesses);
+    finish(OUTCOME_PART, 0);
 }
 
 void trace_leave(void)
@@ -376,8 +396,12 @@ void trace_resume(void)
 
 /* ---- Accesses ---- */
 
-/* The pages that were touched last, each by its last address, with their first address in the trace. */
-static struct { Addr last; UInt place; } near_pages[1024];
+/* The pages that were touched last, each by its last address, with their first address in the
+ * trace. */
+static struct {
+    Addr last;
+    UInt place;
+} near_pages[1024];
 
 /* What the address is in the trace, or 0 where it gets no place. */
 static __attribute__((noinline)) UInt place_anew(Addr addr)
@@ -394,15 +418,17 @@ static __attribute__((noinline)) UInt place_anew(Addr addr)
 static inline UInt place_of(Addr addr)
 {
     UInt near = addr / PAGE % 1024;
-    return near_pages[near].last == (addr | (PAGE - 1)) ? near_pages[near].place + addr % PAGE : place_anew(addr);
+    return near_pages[near].last == (addr | (PAGE - 1)) ? near_pages[near].place + addr % PAGE
+                                                        : place_anew(addr);
 }
 
 static inline void put_plain(UInt hart, Bool writes, UInt addr, UInt size)
 {
-    ULong record = (writes ? 2 : 1) | (ULong)hart << 8 | (ULong)addr << 24 | (ULong)size << 56;
+    ULong record =
+        (writes ? TAG_WRITE : TAG_READ) | (ULong)hart << 8 | (ULong)addr << 24 | (ULong)size << 56;
     /* (records of blocks have odd sizes) */
     __builtin_memcpy(trace.bytes + trace.count, &record, sizeof record);
-    trace.count += 8;
+    trace.count += ACCESS_BYTES;
 }
 
 /* Spells a number that stands for the one before it, in groups of seven bits. */
@@ -423,34 +449,36 @@ static UInt last_addr, last_pc[MOST_HARTS];
 static inline void put_sited(UInt hart, Bool writes, UInt addr, UInt size, UInt pc)
 {
     UChar *at = trace.bytes + trace.count;
-    *at++ = (writes ? 0x20 : 0x10) | size;
+    *at++ = (writes ? TAG_WRITE_OF_SIZE : TAG_READ_OF_SIZE) | size;
     *at++ = hart;
     at = put_step(at, addr, &last_addr);
     at = put_step(at, pc, &last_pc[hart]);
     trace.count = at - trace.bytes;
 }
 
-/* One of 1, 2, 4 or 8 bytes that lies whole in a place, which is most of them. That of 8 is two: what is put behind one that isn't, doesn't
-   count. */
+/* One of 1, 2, 4 or 8 bytes that lies whole in a place, which is most of them. That of 8 is two:
+   what is put behind one that isn't, doesn't count. */
 static inline void put_whole(UInt hart, Bool writes, UInt place, UInt size, UInt pc)
 {
     Bool two = size == 8;
     UInt piece = two ? 4 : size;
     if (trace_pcs) {
         put_sited(hart, writes, place, piece, pc);
-        UInt other = (writes ? 0x24 : 0x14) | hart << 8 | 8 << 16; /* 4 bytes farther, by the same instruction */
+        UInt other = (writes ? TAG_WRITE_OF_SIZE : TAG_READ_OF_SIZE) | 4 | hart << 8 |
+                     8 << 16; /* 4 bytes farther, by the same instruction */
         __builtin_memcpy(trace.bytes + trace.count, &other, sizeof other);
         last_addr += two ? 4 : 0;
         trace.count += two ? 4 : 0;
     } else {
         put_plain(hart, writes, place, piece);
         put_plain(hart, writes, place + 4, 4);
-        trace.count -= two ? 0 : 8;
+        trace.count -= two ? 0 : ACCESS_BYTES;
     }
     trace_accesses += 1 + two;
 }
 
-static __attribute__((noinline)) void put_pieces(UInt hart, Bool writes, Addr addr, UInt size, UInt pc)
+static __attribute__((noinline)) void put_pieces(UInt hart, Bool writes, Addr addr, UInt size,
+                                                 UInt pc)
 {
     while (size > 0) {
         UInt piece = addr % 4 == 0 && size >= 4 ? 4 : addr % 2 == 0 && size >= 2 ? 2 : 1;
@@ -481,8 +509,10 @@ void trace_access(UInt hart, Bool writes, Addr addr, UInt size, UInt pc)
     if (libraries_came)
         read_libraries();
     UInt near = addr / PAGE % 1024;
-    Bool is_whole = size <= 8 && (size & (size - 1)) == 0 && (addr & ((size < 4 ? size : 4) - 1)) == 0 && addr % PAGE + size <= PAGE;
-    Bool goes_on = trace_records && (trace_most == 0 || trace_accesses + 2 < trace_most) && trace.count + 2 * LONGEST_ACCESS <= PIECE;
+    Bool is_whole = size <= 8 && (size & (size - 1)) == 0 &&
+                    (addr & ((size < 4 ? size : 4) - 1)) == 0 && addr % PAGE + size <= PAGE;
+    Bool goes_on = trace_records && (trace_most == 0 || trace_accesses + 2 < trace_most) &&
+                   trace.count + 2 * LONGEST_ACCESS <= PIECE;
     if (is_whole && goes_on && near_pages[near].last == (addr | (PAGE - 1)))
         put_whole(hart, writes, near_pages[near].place + addr % PAGE, size, pc);
     else

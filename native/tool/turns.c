@@ -1,26 +1,29 @@
-/* Whose turn it is. This takes the place of valgrind's lock: one thread at a time holds it, and lets it go at the end of its turn or
-   before a call of the system that may wait. Here the threads stand in a ring, in the order of their numbers, and the turn goes to
-   the next one that wants it. A thread that only ends its turn wants the next one from that moment on, and not from when it comes to
-   ask, and so does one that is about to exist. Threads that were woken from a lock or a join are waited for, until they stand in the
-   ring. So the order is the same on every run, as far as what the system's other calls wait for is. */
+/* Whose turn it is. This takes the place of valgrind's lock: one thread at a time holds it, and
+   lets it go at the end of its turn or before a call of the system that may wait. Here the threads
+   stand in a ring, in the order of their numbers, and the turn goes to the next one that wants it.
+   A thread that only ends its turn wants the next one from that moment on, and not from when it
+   comes to ask, and so does one that is about to exist. Threads that were woken from a lock or a
+   join are waited for, until they stand in the ring. So the order is the same on every run, as far
+   as what the system's other calls wait for is. */
 #include "tool.h"
 
 typedef struct {
-    Int lwp;     /* the system's number of the thread, or 0 */
-    Bool wants;  /* stands in the ring */
-    Bool sleeps; /* waits at `turn` */
+    Int lwp;      /* the system's number of the thread, or 0 */
+    Bool wants;   /* stands in the ring */
+    Bool sleeps;  /* waits at `turn` */
     Bool was_due; /* its call has waited, and it was one of the `due` */
-    UInt turn;   /* 1 once the turn was given to it */
+    UInt turn;    /* 1 once the turn was given to it */
 } Place;
 
 static Place places[MOST_THREADS + 1];
 static ThreadId owner, top; /* who holds the turn, or 0; no place above `top` is in use */
 static Int owner_lwp;
 static Bool held;
-static Int there, wanting; /* places in use, and those of them that stand in the ring */
+static Int there, wanting;     /* places in use, and those of them that stand in the ring */
 static volatile Int busy, due; /* `due` threads were woken and aren't there yet */
 static Int going; /* the thread, by the system's number, that gave the turn away to wait, or 0 */
-static Addr leaving; /* the word that the system clears once the last thread that ended is gone, or 0 */
+static Addr
+    leaving; /* the word that the system clears once the last thread that ended is gone, or 0 */
 Call turn_calls[MOST_THREADS + 1];
 static Int waiting; /* threads whose call is CALL_WAITS */
 
@@ -189,8 +192,8 @@ static Bool is_running(Int lwp)
     return end && end[1] == ' ' && (end[2] == 'R' || end[2] == 'D');
 }
 
-/* One that is about to wait has given the turn away before it does. Until it sleeps nobody goes on, who could wake it too early; a
-   minute at most. */
+/* One that is about to wait has given the turn away before it does. Until it sleeps nobody goes on,
+   who could wake it too early; a minute at most. */
 static void await_asleep(void)
 {
     struct vki_timespec each = {0, 1000000};
@@ -204,7 +207,8 @@ static void await_asleep(void)
             CALL(__NR_nanosleep, &each, 0, 0, 0);
 }
 
-/* Others see that a thread has ended by a word that the system clears some time later. Until then nobody goes on; a minute at most. */
+/* Others see that a thread has ended by a word that the system clears some time later. Until then
+ * nobody goes on; a minute at most. */
 static void await_gone(void)
 {
     struct vki_timespec each = {0, 1000000};
@@ -212,7 +216,8 @@ static void await_gone(void)
     UInt times;
     leaving = 0;
     for (times = 0; word && times < 60000; times++) {
-        if (!VG_(am_is_valid_for_client)(word, sizeof(UInt), VKI_PROT_READ) || *(volatile UInt *)word == 0)
+        if (!VG_(am_is_valid_for_client)(word, sizeof(UInt), VKI_PROT_READ) ||
+            *(volatile UInt *)word == 0)
             return;
         if (times < 100)
             yield();
@@ -282,7 +287,8 @@ static Bool others_run(void)
     SysRes folder = VG_(open)("/proc/self/task", VKI_O_RDONLY, 0);
     if (sr_isError(folder))
         return False;
-    while (!is && (count = sr_Res(CALL(__NR_getdents64, sr_Res(folder), names, sizeof names, 0))) > 0)
+    while (!is &&
+           (count = sr_Res(CALL(__NR_getdents64, sr_Res(folder), names, sizeof names, 0))) > 0)
         for (at = 0; at < count && !is; at += names[at + 16] | names[at + 17] << 8) {
             const HChar *name = (const HChar *)names + at + 19;
             Int other = VG_(strtoll10)(name, NULL);
@@ -292,8 +298,8 @@ static Bool others_run(void)
     return is;
 }
 
-/* Waits until all threads that were woken stand in the ring. Where none comes and every one sleeps, none was woken; but not for ever. Called
-   and left with the places entered. */
+/* Waits until all threads that were woken stand in the ring. Where none comes and every one sleeps,
+   none was woken; but not for ever. Called and left with the places entered. */
 static void await_due(void)
 {
     struct vki_timespec each = {0, 50000000};
@@ -301,16 +307,19 @@ static void await_due(void)
     while (due > 0) {
         UInt seen = due;
         leave();
-        SysRes waited = CALL(__NR_futex, &due, VKI_FUTEX_WAIT | VKI_FUTEX_PRIVATE_FLAG, seen, &each);
-        Bool is_over = sr_isError(waited) && sr_Err(waited) == 110 /* ETIMEDOUT */ && ((!others_run() && !others_run()) || ++times == 1200);
+        SysRes waited =
+            CALL(__NR_futex, &due, VKI_FUTEX_WAIT | VKI_FUTEX_PRIVATE_FLAG, seen, &each);
+        Bool is_over = sr_isError(waited) && sr_Err(waited) == ETIMEDOUT &&
+                       ((!others_run() && !others_run()) || ++times == 1200);
         enter();
         if (is_over && due == seen)
             due = 0;
     }
 }
 
-/* A thread alone in the ring never sleeps, so those whose call of the system is done would wait for the system to stop it. Where other
-   programs take the processor each time it is given away, that is done less often. */
+/* A thread alone in the ring never sleeps, so those whose call of the system is done would wait for
+   the system to stop it. Where other programs take the processor each time it is given away, that
+   is done less often. */
 static void let_others_come(void)
 {
     static UInt skip, skipped;
@@ -323,7 +332,9 @@ static void let_others_come(void)
     began = __builtin_ia32_rdtsc();
     yield();
     enter();
-    skip = wanting == before && __builtin_ia32_rdtsc() - began > 400000 ? (skip < 1000 ? 2 * skip + 1 : skip) : 0;
+    skip = wanting == before && __builtin_ia32_rdtsc() - began > 400000
+               ? (skip < 1000 ? 2 * skip + 1 : skip)
+               : 0;
 }
 
 void __wrap_vgModuleLocal_release_sched_lock(void *lock)

@@ -23,8 +23,8 @@ three_times() { # QUANTUM PROGRAM
 for row in "10 ./kinds" "1 ./again" "10 ./again" "1000 ./again"; do
     read -r quantum name <<<"$row"
     busy three_times "$quantum" "$name"
-    same "$name at $quantum, busy: the same trace" "same same" "$(cmp -s same1 same2 && echo same) $(cmp -s same1 same3 && echo same)"
-    same "$name at $quantum, busy: the same table" same "$(cmp -s same1.table same3.table && echo same)"
+    expect_equal "$name at $quantum, busy: the same trace" "same same" "$(cmp -s same1 same2 && echo same) $(cmp -s same1 same3 && echo same)"
+    expect_equal "$name at $quantum, busy: the same table" same "$(cmp -s same1.table same3.table && echo same)"
 done
 
 rm -f t t.table same* from-pipe said

@@ -19,19 +19,19 @@ rows_of() { # TABLE WHERE
 each_row() { # NAME ADDRESSES
     while read -r kind where thread; do
         case $kind in
-            stack) same "$1: a stack" "stack $thread" "$(rows_of t.table "$where")" ;;
-            file) same "$1: a mapped file" "file $PWD/data file" "$(rows_of t.table "$where")" ;;
-            plain) same "$1: other memory" "" "$(rows_of t.table "$where")" ;;
+            stack) expect_equal "$1: a stack" "stack $thread" "$(rows_of t.table "$where")" ;;
+            file) expect_equal "$1: a mapped file" "file $PWD/data file" "$(rows_of t.table "$where")" ;;
+            plain) expect_equal "$1: other memory" "" "$(rows_of t.table "$where")" ;;
         esac
     done <<<"$2"
-    same "$1: each is told once" 4 "$(grep -c -e '^stack ' -e '^file ' t.table)"
+    expect_equal "$1: each is told once" 4 "$(grep -c -e '^stack ' -e '^file ' t.table)"
 }
 for it in "" --built; do
     program=./nameless${it:+.tsan}
     each_row "nameless${it:+, built}" "$("$run" ${it:+"$it"} --trace t -- "$program")"
     last=$("$run" ${it:+"$it"} --trace t -- "$program" block | sed -n 's/^stack \(.*\) 2$/\1/p')
-    same "a stack that is a block${it:+, built}" "" "$(rows_of t.table "$last")"
+    expect_equal "a stack that is a block${it:+, built}" "" "$(rows_of t.table "$last")"
 done
 "$run" --trace t -- ./counters >/dev/null 2>&1
-same "stacks of eight threads, and the first" "$(seq -s ' ' 0 8)" "$(sed -n 's/^stack .* //p' t.table | paste -s -d ' ')"
+expect_equal "stacks of eight threads, and the first" "$(seq -s ' ' 0 8)" "$(sed -n 's/^stack .* //p' t.table | paste -s -d ' ')"
 rm -f t t.table

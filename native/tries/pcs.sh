@@ -10,46 +10,46 @@ inlined="bump sites.c:10 < work sites.c:22"
 for name in counters sites; do
     "$run" --no-pcs --trace t -- ./$name >/dev/null 2>&1
     "$run" --trace p -- ./$name >/dev/null 2>&1
-    same "pcs: $name: the same without them" alike "$("$judge" alike p t)"
-    same "pcs: $name: each is told once" 0 "$("$judge" untold p)"
+    expect_equal "pcs: $name: the same without them" alike "$("$judge" alike p t)"
+    expect_equal "pcs: $name: each is told once" 0 "$("$judge" untold p)"
 done
-same "pcs: a line, and what is inlined there" "work sites.c:10 < $inlined" "$("$judge" sites p counts 4)"
-same "no pcs: nothing is told of them" 0 "$(grep -c "^frame " t.table)"
+expect_equal "pcs: a line, and what is inlined there" "work sites.c:10 < $inlined" "$("$judge" sites p counts 4)"
+expect_equal "no pcs: nothing is told of them" 0 "$(grep -c "^frame " t.table)"
 row=$(grep "^site .* make - .*/sites+0x" t.table)
-has "a call in another section" "sites.c:15" "$(addr2line -e sites "${row##*+}")"
+expect_part "a call in another section" "sites.c:15" "$(addr2line -e sites "${row##*+}")"
 strip sites -o bare
 "$run" --trace p -- ./bare >/dev/null 2>&1
-has "pcs: stripped: the file and the place in it" "/bare+0x" "$(grep "^site .* - - " p.table)"
-has "pcs: stripped: a library's function" " start_thread " "$(grep "^site .*/libc.so.6+0x" p.table)"
+expect_part "pcs: stripped: the file and the place in it" "/bare+0x" "$(grep "^site .* - - " p.table)"
+expect_part "pcs: stripped: a library's function" " start_thread " "$(grep "^site .*/libc.so.6+0x" p.table)"
 "$run" --quantum 10 --trace p -- ./kinds >/dev/null 2>&1
-within "pcs: bytes for 100 accesses" 300 550 "$("$judge" each p)"
+expect_between "pcs: bytes for 100 accesses" 300 550 "$("$judge" each p)"
 (export KEPT=$work/from-pipe && pass keeps --pcs --table back --quantum 10 -- ./counters >/dev/null 2>&1)
-same "pcs: through the pipe" "exit 0 3" "$("$judge" end from-pipe) $(head -c 8 from-pipe | tail -c 1)"
-same "pcs: through the pipe: the table" same "$(grep -q '^site .*/counters.c:.*/counters+0x' back && echo same)"
+expect_equal "pcs: through the pipe" "exit 0 3" "$("$judge" end from-pipe) $(head -c 8 from-pipe | tail -c 1)"
+expect_equal "pcs: through the pipe: the table" same "$(grep -q '^site .*/counters.c:.*/counters+0x' back && echo same)"
 for at in 20 1000 14871 14872 14873 14874 14875 14876 14877 500003; do
     head -c $at p >cut.t
-    has "pcs: mended at $at" "where it ends now" "$("$run" --mend cut.t)"
-    same "pcs: mended at $at: end" part "$("$judge" end cut.t)"
-    same "pcs: mended at $at: in the pipe" same "$(head -c $at p | "$here/out/mend" - | cmp -s - cut.t && echo same)"
+    expect_part "pcs: mended at $at" "where it ends now" "$("$run" --mend cut.t)"
+    expect_equal "pcs: mended at $at: end" part "$("$judge" end cut.t)"
+    expect_equal "pcs: mended at $at: in the pipe" same "$(head -c $at p | "$here/out/mend" - | cmp -s - cut.t && echo same)"
 done
 cp p kept
-has "pcs: a whole one stays" "it stays as it is" "$("$run" --mend kept)"
-same "pcs: a whole one stays: its bytes" same "$(cmp -s kept p && echo same)"
+expect_part "pcs: a whole one stays" "it stays as it is" "$("$run" --mend kept)"
+expect_equal "pcs: a whole one stays: its bytes" same "$(cmp -s kept p && echo same)"
 refused "pcs: a mend" 125 "stands alone" --mend p --pcs
 refused "pcs: a mend without" 125 "stands alone" --mend p --no-pcs
 refused "pcs: both" 125 "two ways to say what an access has" --pcs --no-pcs --trace p -- ./counters
-same "pcs: the versions" "3 3 1" "$(for words in "" --pcs --no-pcs; do "$run" ${words:+$words} --trace v -- ./counters >/dev/null 2>&1; head -c 8 v | tail -c 1; done | sed 's/./& /g; s/ $//')"
+expect_equal "pcs: the versions" "3 3 1" "$(for words in "" --pcs --no-pcs; do "$run" ${words:+$words} --trace v -- ./counters >/dev/null 2>&1; head -c 8 v | tail -c 1; done | sed 's/./& /g; s/ $//')"
 
 for name in counters sites; do
     "$run" --built --no-pcs --trace t -- ./$name.tsan >/dev/null 2>&1
     "$run" --built --pcs --trace p -- ./$name.tsan >/dev/null 2>&1
     if setarch -R true 2>/dev/null; then
-        same "built: pcs: $name: the same without them" alike "$("$judge" alike p t)"
+        expect_equal "built: pcs: $name: the same without them" alike "$("$judge" alike p t)"
     fi
-    same "built: pcs: $name: each is told once" 0 "$("$judge" untold p)"
+    expect_equal "built: pcs: $name: each is told once" 0 "$("$judge" untold p)"
 done
-same "built: pcs: a function" "work -" "$("$judge" sites p counts 4)"
+expect_equal "built: pcs: a function" "work -" "$("$judge" sites p counts 4)"
 found=$(sed -n 's/^site .* work .*\/sites.tsan+//p' p.table | addr2line -s -i -f -e sites.tsan | paste -s -d ' ')
-has "built: pcs: a line, and what is inlined there" "${inlined/ </}" "$found"
-has "built: a call in another section" " make " "$(grep "^site .* make .*/sites.tsan+0x" t.table)"
+expect_part "built: pcs: a line, and what is inlined there" "${inlined/ </}" "$found"
+expect_part "built: a call in another section" " make " "$(grep "^site .* make .*/sites.tsan+0x" t.table)"
 rm -f p p.table t t.table kept bare

@@ -1,16 +1,19 @@
-// Stands between a program and the C library, for main.py, which builds it and loads it before the library (LD_PRELOAD). It writes
-// down each call that opens, reads, writes or asks about a file, has one of them fail, and in a planted try makes a mistake in the
-// program's name. What it does is told by the environment:
+// Stands between a program and the C library, for main.py, which builds it and loads it before the
+// library (LD_PRELOAD). It writes down each call that opens, reads, writes or asks about a file,
+// has one of them fail, and in a planted try makes a mistake in the program's name. What it does is
+// told by the environment:
 //
 //     EDGES_LOG=FILE     each call comes there as a line: CALL FD ASKED ANSWER ERROR NAME
 //     EDGES_AT=N         the N-th of these calls, from 1 on, goes wrong in one of these ways
 //     EDGES_ERROR=E        it isn't made, and answers -1 with this errno. (A close is made.)
-//     EDGES_SHARE=WORD     it is asked for `less` bytes (all but one), for `half` of them, for `one`, or answers that it took `none`
-//     EDGES_LASTS=1      each later call fails too, with the same errno, but for those that close or are about standard error
-//     EDGES_INODES=WORD  files have other numbers: `long` ones, that differ above 2^32 alone, or one number on many `devices`
-//     EDGES_ROOM=N       files that are written have room for N bytes together; a write takes what has room, and ENOSPC is answered then
-//     EDGES_BEHIND=FILE  the file EDGES_NAME becomes this one when it was read to its end
-//     EDGES_PLANT=WORD   a mistake, one of those that `plant` below names. EDGES_NAME=FILE is the file that it is about
+//     EDGES_SHARE=WORD     it is asked for `less` bytes (all but one), for `half` of them, for
+//     `one`, or answers that it took `none` EDGES_LASTS=1      each later call fails too, with the
+//     same errno, but for those that close or are about standard error EDGES_INODES=WORD  files
+//     have other numbers: `long` ones, that differ above 2^32 alone, or one number on many
+//     `devices` EDGES_ROOM=N       files that are written have room for N bytes together; a write
+//     takes what has room, and ENOSPC is answered then EDGES_BEHIND=FILE  the file EDGES_NAME
+//     becomes this one when it was read to its end EDGES_PLANT=WORD   a mistake, one of those that
+//     `plant` below names. EDGES_NAME=FILE is the file that it is about
 #define _GNU_SOURCE
 #include <ctype.h>
 #include <dlfcn.h>
@@ -43,10 +46,7 @@ static const char *word_of(const char *name)
     return word ? word : "";
 }
 
-static int plant(const char *word)
-{
-    return strcmp(planted, word) == 0;
-}
+static int plant(const char *word) { return strcmp(planted, word) == 0; }
 
 // (first of all, before the program opens a file)
 __attribute__((constructor)) static void begin(void)
@@ -62,8 +62,10 @@ __attribute__((constructor)) static void begin(void)
     behind = word_of("EDGES_BEHIND");
     inodes = word_of("EDGES_INODES");
     if (name) {
-        // It goes where no number is missed: the program's files have those that they would have without it.
-        int file = (int)syscall(SYS_openat, AT_FDCWD, name, O_WRONLY | O_CREAT | O_APPEND | O_CLOEXEC, 0600);
+        // It goes where no number is missed: the program's files have those that they would have
+        // without it.
+        int file = (int)syscall(SYS_openat, AT_FDCWD, name,
+                                O_WRONLY | O_CREAT | O_APPEND | O_CLOEXEC, 0600);
         log_file = (int)syscall(SYS_fcntl, file, F_DUPFD_CLOEXEC, LEAST_LOG);
         syscall(SYS_close, file);
     }
@@ -82,7 +84,8 @@ static long told(const char *call, int fd, long asked, long answer, const char *
 {
     char line[PATH_MAX + 100];
     int was = errno;
-    int length = snprintf(line, sizeof line, "%s %d %ld %ld %d %.*s\n", call, fd, asked, answer, answer < 0 ? was : 0, PATH_MAX, name);
+    int length = snprintf(line, sizeof line, "%s %d %ld %ld %d %.*s\n", call, fd, asked, answer,
+                          answer < 0 ? was : 0, PATH_MAX, name);
     if (log_file >= 0)
         syscall(SYS_write, log_file, line, (size_t)length);
     errno = was;
@@ -115,10 +118,7 @@ static size_t share_of(size_t count)
     return strcmp(share, "one") == 0 ? 1 : count;
 }
 
-static int is_device(const char *name)
-{
-    return strncmp(name, "/dev/", 5) == 0;
-}
+static int is_device(const char *name) { return strncmp(name, "/dev/", 5) == 0; }
 
 // What a mistake makes of a name that is opened, and of how.
 static void mistake_name(const char **name, int *flags, char *room_for)
@@ -137,9 +137,11 @@ static void mistake_name(const char **name, int *flags, char *room_for)
     if (plant("writing") && (*flags & O_ACCMODE) == O_RDONLY)
         *flags = (*flags & ~O_ACCMODE) | O_RDWR;
     if (plant("early") && (*flags & O_ACCMODE) == O_RDONLY)
-        syscall(SYS_close, syscall(SYS_openat, AT_FDCWD, named, O_WRONLY | O_CREAT | O_TRUNC | O_CLOEXEC, 0600));
+        syscall(SYS_close, syscall(SYS_openat, AT_FDCWD, named,
+                                   O_WRONLY | O_CREAT | O_TRUNC | O_CLOEXEC, 0600));
     if (plant("order") && *flags & O_CREAT)
-        syscall(SYS_close, syscall(SYS_openat, AT_FDCWD, named, O_WRONLY | O_CREAT | O_TRUNC | O_CLOEXEC, 0600));
+        syscall(SYS_close, syscall(SYS_openat, AT_FDCWD, named,
+                                   O_WRONLY | O_CREAT | O_TRUNC | O_CLOEXEC, 0600));
 }
 
 int open(const char *name, int flags, ...)
@@ -253,7 +255,8 @@ int ftruncate(int fd, off_t length)
 {
     if (is_failing(fd))
         return (int)told("ftruncate", fd, length, -1, "");
-    return (int)told("ftruncate", fd, length, plant("tail") ? 0 : syscall(SYS_ftruncate, fd, length), "");
+    return (int)told("ftruncate", fd, length,
+                     plant("tail") ? 0 : syscall(SYS_ftruncate, fd, length), "");
 }
 
 // Gives a file another number, by which it is told apart as before.
@@ -286,9 +289,11 @@ int statx(int fd, const char *restrict name, int flags, unsigned mask, struct st
 // The words of the command line, as a program gets them that drops those behind the twelfth.
 typedef int main_of(int, char **, char **);
 
-int __libc_start_main(main_of *call, int count, char **words, void (*first)(void), void (*last)(void), void (*after)(void), void *stack)
+int __libc_start_main(main_of *call, int count, char **words, void (*first)(void),
+                      void (*last)(void), void (*after)(void), void *stack)
 {
-    typedef int start_of(main_of *, int, char **, void (*)(void), void (*)(void), void (*)(void), void *);
+    typedef int start_of(main_of *, int, char **, void (*)(void), void (*)(void), void (*)(void),
+                         void *);
     start_of *start = (start_of *)dlsym(RTLD_NEXT, "__libc_start_main");
     const char *word = getenv("EDGES_PLANT");
     if (word && strcmp(word, "words") == 0 && count > MOST_WORDS + 1)

@@ -115,7 +115,7 @@ def writing_cases() -> list[Case]:
             report_text("budget", 5, 1, "64 0", "16 64 100"),
             ("small.elf",),
             (("o", b""),),
-            b"predator: `budget` in the settings allows more steps, up to 68719476736\n",
+            b"predator: the run used its whole budget: set a larger `budget`, at most 68719476736\n",
         ),
         Case(
             ("run", "long.elf", "--trace", "t", "--pcs", "--output", "o"),
@@ -198,7 +198,7 @@ def writing_cases() -> list[Case]:
 
 def unfinished_cases() -> list[Case]:
     before = trace_header() + access_records(move_accesses(generated_accesses(MADE)[:15000]))
-    cut = f"cut: it ends after {CUT_AT} bytes, before the trace does: write or copy it again"
+    cut = f"cut: the trace is cut off after {CUT_AT} bytes: record or copy it again"
     first = trace_header() + access_records(move_accesses(with_late_access(MADE)[:-10]))
     taken = (
         "late: an access at this address isn't moved, and others would be moved to where it is:"
@@ -288,10 +288,10 @@ def refused_cases() -> list[Case]:
     anew; then it is to be so here."""
     outputs = ("--trace", "t", "--output", "o")
     both, state = (("t", b""), ("o", b"")), (("s", b""),)
-    cut = "it ends after 10 bytes, before the trace does: write or copy it again"
+    cut = "the trace is cut off after 10 bytes: record or copy it again"
     none = (
-        "no object symbol of the trace has this name, nor was exactly one block made at that"
-        " address"
+        "no object symbol of the trace has this name, and not exactly one block was allocated at "
+        "that address: name another object"
     )
     rows = [
         (
@@ -308,7 +308,7 @@ def refused_cases() -> list[Case]:
             b"predator: elf TooShort\n",
             ("script",),
             both,
-            "script: a script: guest/build.sh builds for RV32IMA",
+            "script: the file is a script: build it for RV32IMA with guest/build.sh",
         ),
         (
             ("run", "small.elf", "--schedule", "bad", *outputs),
@@ -316,7 +316,7 @@ def refused_cases() -> list[Case]:
             b"predator: schedule BadLine 1\n",
             ("small.elf", "bad"),
             both,
-            "bad: line 1 isn't a hart, one space and a count, as `0 500`",
+            "bad: line 1 is not a hart, one space and a count: write it like `0 500`",
         ),
         (
             ("run", "small.elf", "--settings", "bad", *outputs),
@@ -324,7 +324,7 @@ def refused_cases() -> list[Case]:
             b"predator: settings OutOfRange harts\n",
             ("bad",),
             both,
-            "bad: `harts` is a whole number from 1 to 256",
+            "bad: `harts` must be a whole number from 1 to 256",
         ),
         (
             ("replay", "bad", "--save", "s"),
@@ -357,7 +357,7 @@ def refused_cases() -> list[Case]:
             b"predator: state BadState 0\n",
             ("bad",),
             state,
-            "bad: not a saved state, or only part of one: byte 0 is wrong",
+            "bad: byte 0 is wrong: the file is not a saved state, or it is cut off",
         ),
         (("place", "two", "none"), 13, b"predator: place NoObject\n", ("two",), (), none),
         (

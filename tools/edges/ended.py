@@ -8,7 +8,7 @@ from bench import SECONDS, Bench, Fault, read_content
 from cases import Case
 from judge import find_faults, expected_end
 
-IN_USE = "the same file is in use under another name, and stays as it is"
+IN_USE = "the file is in use under another name and stays unchanged: name another file"
 READ_FAULT, WRITE_FAULT = b"predator: read fault\n", b"predator: write fault\n"
 
 

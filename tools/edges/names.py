@@ -51,7 +51,7 @@ def try_same_names(bench: Bench) -> None:
         (case.renamed(other, name).words, name) for case, name, other in output_input_pairs(bench)
     ]
     for words, name in [*calls, *((tuple(it.split()), "-") for it in WITH_INPUT)]:
-        said = f"predator: '{name}' stands twice; each file that is written wants its own name\n".encode()
+        said = f"predator: '{name}' is named twice: an output file must differ from all other files\n".encode()
         bench.count(
             "names",
             "a name twice",

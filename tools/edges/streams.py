@@ -27,7 +27,7 @@ from ended import (
 from cases import Case
 
 BROKEN, NO_SPACE, NO_STREAM = "Broken pipe", "No space left on device", "Bad file descriptor"
-READ_ONCE = "a pipe or a terminal can be read once; write it to a file first"
+READ_ONCE = "a pipe or a terminal can be read only once: write it to a file first"
 # How many bytes a pipe takes that nobody reads, how many more of them a reader makes room for that takes a
 # few, and those of a disk that is filled.
 PIPE, PAGE, DISK = 65536, 4096, 16384

@@ -194,8 +194,7 @@ def try_dash(bench: Bench) -> None:
     remove_files("-")
     bench.kept = bench.stat_inputs()
     cut = (
-        b"predator: standard input: it ends after 10 bytes, before the trace does: write or copy it"
-        b" again\n"
+        b"predator: standard input: the trace is cut off after 10 bytes: record or copy it again\n"
     )
     for words in (
         "replay -",

@@ -1,4 +1,4 @@
-"""Better or worse than before: compares what two views found, by object, call sites and field, and by no address."""
+"""Comparison of two views, by object, call sites and field, and by no address: `--against`."""
 
 import json
 import os
@@ -13,11 +13,15 @@ from view.faults import Fault, plain
 from view.model.view import View
 from view.names.naming import ALLOCATORS, Naming
 from view.reading.reports import Report
+from view.output.json_versions import FORMER, compared as upgrade, total as upgrade_total
 
 # Two objects that are the same one, either of which may not be there.
 Pair = tuple[Record | None, Record | None]
 # Where an object is declared or made: files and lines.
 Places = tuple[tuple[str, int], ...]
+# The numbers that are compared: the misses, and where these are unknown the invalidations that a report lists.
+MISSES, COUNT = ("false_sharing", "true_sharing"), "reported_invalidations"
+HEADS = {"false_sharing": "false", "true_sharing": "true", COUNT: "inval"}
 
 
 class Before(NamedTuple):
@@ -39,46 +43,50 @@ def loaded(path: str, call: Call) -> Before:
         return of_report(text, path, call)
     try:
         found = json.loads(text)
-        if found["format"] != FORMAT:
-            raise Fault(f"{path}: it is of another version: its format isn't `{FORMAT}`")
-        total = found["total"]
-        is_good = total is None or all(is_number(total[it]) for it in ("useless", "useful"))
+        if found["format"] not in (FORMAT, FORMER):
+            raise Fault(
+                f"{path} has an unknown format: --against reads `{FORMAT}`, `{FORMER}` and reports"
+            )
+        total, objects = found["total"], found["objects"]
+        if found["format"] == FORMER:
+            total, objects = upgrade_total(total), [upgrade(it) for it in objects]
+        is_good = total is None or all(is_number(total[it]) for it in MISSES)
         if (
             not isinstance(found["outcome"], str)
             or not is_good
-            or not all(is_thing(it) for it in found["objects"])
+            or not all(is_thing(it) for it in objects)
         ):
             raise ValueError
-        return Before(found["objects"], found["outcome"], total)
+        return Before(objects, found["outcome"], total)
     except (ValueError, KeyError, TypeError, AttributeError, RecursionError) as error:
-        raise Fault(f"{path}: it isn't what `view --json` writes") from error
+        raise Fault(f"{path} wasn't written by `predator view --json`") from error
 
 
-def is_number(it: object) -> bool:
-    return type(it) is int and it >= 0
+def is_number(value: object) -> bool:
+    return type(value) is int and value >= 0
 
 
-def is_thing(it: Any) -> bool:
+def is_thing(record: Any) -> bool:
     """Whether something has what is compared of an object."""
-    places = [*it["sites"], *([] if it["declared"] is None else [it["declared"]])]
+    places = [*record["sites"], *([] if record["declared"] is None else [record["declared"]])]
     texts = [
-        it["key"],
-        it["name"],
-        *it["beside"],
-        *(word["field"] for word in it["words"]),
+        record["key"],
+        record["name"],
+        *record["neighbours"],
+        *(word["field"] for word in record["words"]),
         *(one["file"] for one in places),
     ]
-    texts += [one["function"] for one in it["sites"]]
+    texts += [one["function"] for one in record["sites"]]
     numbers = [
-        it["count"],
-        *(word["writes"] for word in it["words"]),
+        record[COUNT],
+        *(word["writes"] for word in record["words"]),
         *(one["line"] for one in places),
     ]
-    numbers += [it[name] for name in ("useless", "useful") if it[name] is not None]
+    numbers += [record[name] for name in MISSES if record[name] is not None]
     return (
         all(isinstance(one, str) for one in texts)
         and all(map(is_number, numbers))
-        and all(type(word["own"]) is bool for word in it["words"])
+        and all(type(word["own"]) is bool for word in record["words"])
     )
 
 
@@ -92,9 +100,9 @@ def of_report(text: str, path: str, call: Call) -> Before:
 def fields(thing: Record) -> dict[str, int]:
     """Of each field how often it was written, over all its words."""
     found: dict[str, int] = {}
-    for it in thing["words"]:
-        if it["own"]:
-            found[it["field"]] = found.get(it["field"], 0) + it["writes"]
+    for word in thing["words"]:
+        if word["own"]:
+            found[word["field"]] = found.get(word["field"], 0) + word["writes"]
     return found
 
 
@@ -110,13 +118,15 @@ def shift(old: Sequence[Places], new: Sequence[Places]) -> int:
     """By how many lines most places have moved; of several numbers the least."""
     moves = [b[0][1] - a[0][1] for a in old for b in new if a and b and a[0][0] == b[0][0]]
     much = Counter(moves)
-    return min(much, key=lambda it: (-much[it], abs(it), it), default=0)
+    return min(much, key=lambda offset: (-much[offset], abs(offset), offset), default=0)
 
 
 def matched(old: Sequence[Record], new: Sequence[Record]) -> Iterator[Pair]:
     """Objects of one name or of the same functions, each with at most one: first those whose lines have moved alike, and then, if as many
     are left of both, in the order of their lines."""
-    olds, news = (sorted(own, key=lambda it: (places(it), it["key"])) for own in (old, new))
+    olds, news = (
+        sorted(own, key=lambda record: (places(record), record["key"])) for own in (old, new)
+    )
     by = shift([places(it) for it in olds], [places(it) for it in news])
     # (all callers alike, and then the line alone)
     for most in (None, 1):
@@ -138,86 +148,95 @@ def pairs(old: Sequence[Record], new: Sequence[Record]) -> Iterator[Pair]:
     """Each object of two records, with what it is in the other one."""
     groups: dict[str, tuple[list[Record], list[Record]]] = {}
     for at, own in enumerate((old, new)):
-        for it in own:
-            groups.setdefault(re.sub(r" #\d+$", "", it["key"]), ([], []))[at].append(it)
+        for obj in own:
+            groups.setdefault(re.sub(r" #\d+$", "", obj["key"]), ([], []))[at].append(obj)
     for before, after in groups.values():
         yield from matched(before, after)
 
 
-def change(before: int, after: int, words: tuple[str, str] = ("less", "more")) -> str:
-    if before == after:
-        return "the same"
-    return f"{words[after > before]}: {before} before, {after} now"
+def column(number: int | None) -> str:
+    return "-" if number is None else f"{number:,}"
 
 
-def row(before: Record | None, after: Record | None, by: str) -> str:
+class Row(NamedTuple):
+    """A row of the table: its numbers before and now, in pairs, and its name with what became of it."""
+
+    numbers: list[tuple[int | None, int | None]]
+    text: str
+
+    def weight(self) -> int:
+        """How much more the object has now than before."""
+        return sum((now or 0) - (before or 0) for before, now in self.numbers)
+
+    def is_empty(self) -> bool:
+        return not any(it for own in self.numbers for it in own)
+
+
+def row(before: Record | None, after: Record | None, names: Sequence[str]) -> Row:
     """What became of an object."""
+    numbers = [(before[it] if before else None, after[it] if after else None) for it in names]
+    name = (after or before or {})["name"]
     if before is None or after is None:
-        one = before or after or {}
-        numbers = [f"{one[it]} {it}" for it in ("useless", "useful") if one.get(it)]
-        told = (
-            " and ".join(numbers) if by == "useless" and numbers and one.get("useful") else one[by]
-        )
-        return f"gone: {told} before" if before else f"new: {told}"
-    told = change(before[by], after[by])
-    if by == "useless" and before["useful"] != after["useful"]:
-        told += f"; useful {change(before['useful'], after['useful'])}"
-    return told + moved(before, after)
+        return Row(numbers, f"{name} ({'gone' if before else 'new'})")
+    return Row(numbers, name + moved(before, after))
 
 
-def weight(it: Record | None, by: str) -> int:
-    """What a row stands in order by: all misses of an object, or its count."""
-    return 0 if it is None else it["useless"] + it["useful"] if by == "useless" else it["count"]
-
-
-def sums(view: View, old: Before, new: Record, by: str) -> list[tuple[str, int, int]]:
-    """What is compared of the whole: of one object where the call names it."""
+def sums(view: View, old: Before, new: Record, names: Sequence[str]) -> Row:
+    """The numbers of the whole run, or of one object where the call names it."""
     name = view.call.options.get("object")
-    if by == "count" or name is not None or old.total is None:
-        own = [it for it in old.objects if name is None or name in (it["name"], *it["beside"])]
-        names = ("count",) if by == "count" else ("useless", "useful")
-        return [
-            (it, sum(one[it] for one in own), sum(one[it] for one in new["objects"]))
-            for it in names
+    if names == (COUNT,) or name is not None or old.total is None:
+        own = [it for it in old.objects if is_named(it, name)]
+        numbers = [
+            (sum(one[name] for one in own), sum(one[name] for one in new["objects"]))
+            for name in names
         ]
-    return [(it, old.total[it], new["total"][it]) for it in ("useless", "useful")]
+    else:
+        numbers = [(old.total[it], new["total"][it]) for it in names]
+    before, now = (sum(it[at] or 0 for it in numbers) for at in (0, 1))
+    verdict = "the same" if now == before else "better" if now < before else "worse"
+    return Row([*numbers], f"all: {verdict}")
+
+
+def is_named(found: Record, name: str | None) -> bool:
+    return name is None or name in (found["name"], *found["neighbours"])
+
+
+def table(names: Sequence[str], rows: Sequence[Row]) -> Iterator[str]:
+    """The rows with their heads: of each number how much it was, and is."""
+    cells = [[column(one) for own in it.numbers for one in own] for it in rows]
+    heads = [one for it in names for one in (f"{HEADS[it]} before", "now")]
+    wide = [max(map(len, own)) + 2 for own in zip(heads, *cells)]
+    yield "".join(f"{it:>{width}}" for it, width in zip(heads, wide)) + "  object"
+    for own, row in zip(cells, rows):
+        yield "".join(f"{one:>{width}}" for one, width in zip(own, wide)) + "  " + plain(row.text)
 
 
 def compared(view: View, old: Before, path: str) -> Iterator[str]:
-    """The lines that tell what became of the whole, and of each object; `old` is what was loaded of the path."""
+    """The table of what became of the whole, and of each object; `old` is what was loaded of the path."""
     new, name = record(view), view.call.options.get("object")
-    olds = [it for it in old.objects if name is None or name in (it["name"], *it["beside"])]
+    olds = [it for it in old.objects if is_named(it, name)]
     is_known = new["total"] and all(
-        it[what] is not None for it in (*olds, *new["objects"]) for what in ("useless", "useful")
+        it[what] is not None for it in (*olds, *new["objects"]) for what in MISSES
     )
-    by = "useless" if is_known else "count"
-    yield f"against {plain(path)}, by {'useless misses' if by == 'useless' else 'the count of the report'}:"
+    names = MISSES if is_known else (COUNT,)
+    yield ""
+    yield plain(f"against {path}:")
     if old.outcome != view.report.outcome:
-        yield plain(f"  the outcome was {old.outcome}, and is {view.report.outcome}")
-    parts = sums(view, old, new, by)
-    whole = change(sum(it[1] for it in parts), sum(it[2] for it in parts), ("better", "worse"))
-    yield f"  all misses but cold ones: {whole}" if by == "useless" else f"  all counts: {whole}"
-    if by == "useless":
-        yield from (f"    {what}: {change(before, after)}" for what, before, after in parts)
-    found = [it for it in pairs(olds, new["objects"]) if weight(it[0], by) or weight(it[1], by)]
-    rows = [
-        (
-            weight(after, by) - weight(before, by),
-            (after or before or {})["name"],
-            row(before, after, by),
-        )
-        for before, after in found
-    ]
-    yield from (
-        plain(f"  {name}: {what}") for _, name, what in sorted(rows, key=lambda it: (-it[0], it[1]))
+        yield plain(f"the outcome was {old.outcome} and is {view.report.outcome}")
+    rows = [row(before, after, names) for before, after in pairs(olds, new["objects"])]
+    rows = sorted(
+        (it for it in rows if not it.is_empty()), key=lambda row: (-row.weight(), row.text)
     )
+    yield from table(names, [sums(view, old, new, names), *rows])
 
 
 def moved(before: Record, after: Record) -> str:
-    """Which fields are fought over that weren't before, and which no more."""
+    """Which fields are contended that weren't before, and which no more."""
     old, new = fields(before), fields(after)
     came, went = [it for it in new if it not in old], [it for it in old if it not in new]
-    told = [
-        f"{what} {listing(names)}" for what, names in (("with", came), ("without", went)) if names
+    found = [
+        f"{what} {listing(names)}"
+        for what, names in (("new fields", came), ("gone fields", went))
+        if names
     ]
-    return f" ({'; '.join(told)})" if told else ""
+    return f" ({'; '.join(found)})" if found else ""

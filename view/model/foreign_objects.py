@@ -1,7 +1,7 @@
 """Which objects are the C library's, its loader's or the kernel's, and so not the program's to change."""
 
 import re
-from typing import Iterable
+from typing import Sequence
 
 from view.model.object_keys import OfFile
 from view.names.naming import BEGINNINGS, OWN, Naming
@@ -68,18 +68,8 @@ def is_foreign_site(site: Site, naming: Naming) -> bool:
     return site.name in BEGINNINGS or all(KIT.search(it) for it in files)
 
 
-def row_of(
-    folded: Iterable[Thing], is_counted: bool, has_runtime: bool = False
-) -> tuple[list[int | str], str]:
-    """The numbers of objects that are folded into one line, and what that says; `has_runtime` is whether some are of Go's runtime."""
-    own = list(folded)
-    numbers: list[int | str] = (
-        [sum(it.useless for it in own), sum(it.useful for it in own)] if is_counted else ["-", "-"]
-    )
-    what = "1 object" if len(own) == 1 else f"{len(own)} objects"
-    whose = "the C library or of Go's runtime" if has_runtime else "the C library"
-    return [
-        *numbers,
-        sum(it.count for it in own),
-        sum(len(it.spots) for it in own),
-    ], f"{what} of {whose}: --library shows them"
+def row_of(folded: Sequence[Thing], has_runtime: bool = False) -> str:
+    """The name of the row that some objects share; `has_runtime` is whether some are of Go's runtime."""
+    what = "1 object" if len(folded) == 1 else f"{len(folded):,} objects"
+    whose = "the C library or Go's runtime" if has_runtime else "the C library"
+    return f"{what} of {whose} (--library shows {'it' if len(folded) == 1 else 'them'})"

@@ -1,4 +1,4 @@
-"""What instructions do to memory, by llvm-objdump, and so what kind of taking each pair of them makes."""
+"""What instructions do to memory, by llvm-objdump, and so which kind of invalidation each pair of them makes."""
 
 import bisect
 import json
@@ -15,11 +15,11 @@ if TYPE_CHECKING:
     from view.names.fields import Program
     from view.names.native import NativeProgram
 
-# The kinds of takings: by an atomic instruction, which waits for the line; of a line that the loser reads, or that is read to be written,
-# so that a load waits; by a store over a store, for which a buffer waits; and those whose instructions aren't known.
+# The kinds of invalidations: by an atomic instruction, which waits for the line; of a line that the victim reads, or that is read to be
+# written, so that a load waits; by a write after a write, for which a store buffer waits; and those whose instructions aren't known.
 ATOMIC, LOAD, STORE, UNKNOWN = KINDS = ("atomic", "load", "store", "unknown")
-# A taking for which no instruction waits counts as one part in so many of another; with fewer reads than one for so many writes a line is
-# hardly read.
+# An invalidation for which no instruction waits counts as one part in so many of another; with fewer reads than one for so many writes a
+# line is hardly read.
 CHEAP = 10
 # A function is looked through from its start up to an instruction that lies so far in it; functions so near to each other in one call.
 FAR, NEAR = 1 << 16, 1 << 12
@@ -126,7 +126,9 @@ def of_x86(row: Row) -> Does | None:
 def all_that_do(text: str, addresses: Iterable[int]) -> dict[int, Does]:
     """What the instructions at some addresses do, as far as a text of llvm-objdump tells it. An address may be the last byte of a call."""
     rows, found = [
-        Row(int(it[1], 16), it[2], it[3]) for line in text.split("\n") if (it := ROW.match(line))
+        Row(int(match[1], 16), match[2], match[3])
+        for line in text.split("\n")
+        if (match := ROW.match(line))
     ], FORMAT.search(text)
     begins, made = [it.addr for it in rows], {}
     for addr in addresses if found else ():
@@ -177,7 +179,7 @@ def of_file(file: str, names: str, addresses: Iterable[int]) -> dict[int, Does]:
     if not wanted or not shutil.which("llvm-objdump") or not os.path.isfile(file):
         return {}
     parts: list[tuple[int, int]] = []
-    for addr, start in sorted(starts(names, wanted).items(), key=lambda it: it[1]):
+    for addr, start in sorted(starts(names, wanted).items(), key=lambda item: item[1]):
         if parts and start <= parts[-1][1] + NEAR:
             parts[-1] = parts[-1][0], max(parts[-1][1], addr + 1)
         else:
@@ -217,7 +219,7 @@ def of_program(program: "Program | NativeProgram", addresses: Iterable[int]) -> 
 
 
 def kind_of(pair: Pair, known: Mapping[int, Does]) -> str:
-    """What kind of takings a pair makes."""
+    """Which kind of invalidations a pair makes."""
     victim, taker = known.get(pair.victim), known.get(pair.taker)
     if taker is None:
         return UNKNOWN
@@ -229,33 +231,33 @@ def kind_of(pair: Pair, known: Mapping[int, Does]) -> str:
 
 
 def kinds_of(pairs: Iterable[Pair], known: Mapping[int, Does]) -> dict[str, int]:
-    """How many takings of each kind some pairs make."""
+    """How many invalidations of each kind some pairs make."""
     found = {it: 0 for it in KINDS}
-    for it in pairs:
-        found[kind_of(it, known)] += it.taken
+    for pair in pairs:
+        found[kind_of(pair, known)] += pair.taken
     return found
 
 
 def told(kinds: Mapping[str, int], is_read: bool = True) -> str:
-    """The same in words, or nothing where no instruction is known; `is_read` says whether the line is loaded from."""
+    """The same in words, or nothing where no instruction is known; `is_read` says whether threads read the line."""
     if sum(kinds.values()) == kinds.get(UNKNOWN, 0):
         return ""
     own = (
+        (kinds[LOAD], "read → write"),
+        (kinds[STORE], "write → write"),
         (kinds[ATOMIC], "by atomic instructions"),
-        (kinds[LOAD], "from loads"),
-        (kinds[STORE], "by stores over stores"),
-        (kinds[UNKNOWN], "by what isn't known"),
+        (kinds[UNKNOWN], "by unknown instructions"),
     )
     hidden = (
         ""
         if is_read or kinds[STORE] * 2 < sum(kinds.values())
-        else ": the line is hardly read, and a store buffer hides most of that"
+        else "; the line is hardly read, so store buffers hide most of them"
     )
-    return ", ".join(f"{count} {what}" for count, what in own if count) + hidden
+    return ", ".join(f"{count:,} {what}" for count, what in own if count) + hidden
 
 
 def weight(kinds: Mapping[str, int], is_read: bool) -> float:
-    """How dear takings are as a part of so many for which an instruction waits: of a line that is read a later load does."""
+    """How much invalidations cost, as a part of as many for which an instruction waits: on a line that is read a later load waits."""
     total = sum(kinds.values())
     return (total - kinds[STORE] + kinds[STORE] / CHEAP) / total if total and not is_read else 1.0
 

@@ -1,4 +1,4 @@
-"""Which objects make the totals of a sweep: the lines of some of its shifts, put together by what lies on them."""
+"""The objects behind the totals of a sweep: the lines of some of its shifts, grouped by the objects on them."""
 
 import concurrent.futures
 from collections import Counter
@@ -16,7 +16,7 @@ HELD = 3
 
 
 class Crossed(NamedTuple):
-    """An object whose lines are taken: how often under each of the shifts, and what the worst of them holds under the peak's."""
+    """An object on contended lines: its invalidations under each of the shifts, and what its worst line holds at the peak."""
 
     name: str
     counts: list[int]
@@ -30,19 +30,22 @@ class Crossed(NamedTuple):
 def held(line: Line, naming: Naming) -> str:
     """Which bytes of which objects a line holds."""
     told = []
-    for it in line.objects()[:HELD]:
-        first, last = max(line.base - it.addr, 0), min(line.base + line.size - it.addr, it.size) - 1
-        told.append(f"bytes {first} to {last} of {called(it, naming)}")
+    for obj in line.objects()[:HELD]:
+        first, last = (
+            max(line.base - obj.addr, 0),
+            min(line.base + line.size - obj.addr, obj.size) - 1,
+        )
+        told.append(f"bytes {first} to {last} of {called(obj, naming)}")
     more = len(line.objects()) - len(told)
     told += [f"{more} more"] if more else []
     return f"{shown(line.base)}: {', '.join(told)}" if told else shown(line.base)
 
 
-def called(it: Symbol | Block, naming: Naming) -> str:
+def called(obj: Symbol | Block, naming: Naming) -> str:
     """An object on a line, in few words."""
-    if isinstance(it, Symbol):
-        return naming.names.shortened(naming.readable(it.name))
-    return f"the block of {it.size} at {shown(it.addr)}"
+    if isinstance(obj, Symbol):
+        return naming.names.shortened(naming.readable(obj.name))
+    return f"the block of {obj.size} at {shown(obj.addr)}"
 
 
 class Under(NamedTuple):
@@ -60,7 +63,8 @@ def under(report: Report, naming: Naming) -> Under:
     # (of things that have one name, each with its place)
     twice = Counter(names.values())
     names = {
-        it.key: names[it.key] + (place(it) if twice[names[it.key]] > 1 else "") for it in things
+        obj.key: names[obj.key] + (place(obj) if twice[names[obj.key]] > 1 else "")
+        for obj in things
     }
     borders = {it.key: held(line, naming) for it in things if (line := it.worst().line)}
     return Under({it.key: it.count for it in things}, names, borders)
@@ -84,7 +88,7 @@ def crossed(trace: str, size: int, totals: dict[int, int], peak: int, least: int
     predator = Predator()
     with concurrent.futures.ThreadPoolExecutor(max_workers=2) as pool:
         words = [[*each_line((size, shift)).words, "--", trace] for shift in totals]
-        texts = list(pool.map(lambda it: predator.text(it, REPORTED), words))
+        texts = list(pool.map(lambda call_words: predator.text(call_words, REPORTED), words))
     found: list[Under] = []
     naming = Naming(None)
     for shift, total in totals.items():
@@ -92,7 +96,7 @@ def crossed(trace: str, size: int, totals: dict[int, int], peak: int, least: int
         own = under(Report(texts.pop(0)), naming)
         if sum(own.counts.values()) != total:
             raise Fault(
-                f"`sweep` counts {total} with the shift {shift}, and `replay` doesn't: the trace isn't the same any more"
+                f"`sweep` and `replay` differ at shift {shift}: the trace changed while it was read"
             )
         found.append(own)
     return ordered(found, list(totals).index(peak), list(totals).index(least))
@@ -107,5 +111,10 @@ def ordered(found: Sequence[Under], peak: int, least: int) -> list[Crossed]:
         )
     return sorted(
         objects,
-        key=lambda it: (-it.differs(peak, least), -it.counts[peak], -max(it.counts), it.name),
+        key=lambda crossing: (
+            -crossing.differs(peak, least),
+            -crossing.counts[peak],
+            -max(crossing.counts),
+            crossing.name,
+        ),
     )

@@ -1,14 +1,14 @@
-"""What misses may be worth in time: their rate, what the study says of it, and a bound. All of it is arithmetic on what the program counts.
-docs/VIEW.md says what it holds for."""
+"""How severe the misses of a view are: their rate, its severity, and an upper bound on the time. All of it is arithmetic on what the
+program counts. docs/VIEW.md says when it holds."""
 
 import concurrent.futures
-from typing import TYPE_CHECKING, NamedTuple, Optional, cast
+from typing import TYPE_CHECKING, NamedTuple, Optional, Sequence, cast
 
-from view.model.rate_bands import BANDS, LATENCY, STEP, at_most, band_of
+from view.model.rate_bands import BANDS, LATENCY, STEP, Band, at_most, band_of
 from view.reading.calls import Call, width_of
 from view.model.object_keys import Key
 from view.names.naming import Naming
-from view.model.objects import Thing, key_of
+from view.model.objects import Thing, Told, key_of
 from view.reading.passes import Layout
 from view.reading.engine import Predator, Refused, misses_under, setting
 from view.reading.reports import Misses, Report, objects_of
@@ -16,26 +16,26 @@ from view.reading.reports import Misses, Report, objects_of
 if TYPE_CHECKING:
     from view.model.view import View
 
-# The turns that the study's bands are of.
+# The quantum of the studies' bands.
 USUAL = 100
 
 
 class Alternating(NamedTuple):
-    """A run in turns of one step: how many steps it made, and its misses."""
+    """A run at quantum 1: how many instructions it executed, and its misses."""
 
     steps: int
     misses: Misses
 
     def useless_of(self, naming: Naming) -> dict[Key, int]:
-        """The useless misses of each object: of a line with several, each has all."""
+        """The false-sharing misses of each object: of a line with several, each has all."""
         found: dict[Key, int] = {}
         naming.prepare(self.misses.sites())
-        for it in self.misses.lines.values():
-            things = objects_of(it.stands)
+        for line in self.misses.lines.values():
+            things = objects_of(line.stands)
             for key in {key_of(one, naming, 0) for one in things} or {
-                naming.memory.key(max(it.base, 0))
+                naming.memory.key(max(line.base, 0))
             }:
-                found[key] = found.get(key, 0) + it.useless
+                found[key] = found.get(key, 0) + line.useless
         return found
 
     def rate(self, useless: int) -> float:
@@ -53,12 +53,12 @@ def settings_of(call: Call) -> tuple[str, int, bool]:
 
 
 def in_turns_of_one(call: Call) -> list[str]:
-    """The words of the same run in turns of one step."""
+    """The words of the same run at quantum 1."""
     given, _, _ = settings_of(call)
     kept = [
-        it
-        for it in given.split(",")
-        if it and it.partition("=")[0].strip() not in ("quantum", "seed")
+        assignment
+        for assignment in given.split(",")
+        if assignment and assignment.partition("=")[0].strip() not in ("quantum", "seed")
     ]
     words, at = ["run", "--set", ",".join([*kept, "quantum=1", "seed=0"])], 1
     before = call.words_to_run()
@@ -77,8 +77,10 @@ def latency_of(call: Call) -> int:
 
 
 def begin(call: Call, predator: Predator | None, layout: Layout) -> Counting:
-    """Begins to count a run in turns of one step, beside what else is counted; none where no program is run, or no bound is wanted."""
-    if predator is None or call.how != "run" or not latency_of(call) or not predator.has("misses"):
+    """Begins to count a run at quantum 1, beside what else is counted; none where no program is run, or nothing shows the bound, which
+    `--json` alone does."""
+    is_shown = "json" in call.options and latency_of(call)
+    if predator is None or call.how != "run" or not is_shown or not predator.has("misses"):
         return None
     pool = concurrent.futures.ThreadPoolExecutor(max_workers=1)
     try:
@@ -107,7 +109,7 @@ class Worth:
         self.of: dict[Key, int] = {}
 
     def find(self) -> Alternating | None:
-        """Waits for the run in turns of one step."""
+        """Waits for the run at quantum 1."""
         if not self.known:
             self.known = True
             self.alternating = self.counting.result() if self.counting else None
@@ -115,27 +117,28 @@ class Worth:
         return self.alternating
 
     def unit(self) -> str:
-        """What the rate is by: steps, or where a recording has none accesses."""
-        return "steps" if self.view.report.steps else "accesses"
+        """What the rate is per 1,000 of: instructions, or accesses where a recording has no instructions."""
+        return "instructions" if self.view.report.steps else "accesses"
 
     def rate(self, useless: int) -> float | None:
+        """So many false-sharing misses per 1,000 instructions or accesses, or none where that isn't known."""
         of = self.view.report.steps or self.view.report.accesses
         return 1000 * useless / of if of and self.view.misses else None
 
-    def band(self, useless: int) -> str | None:
-        """What the study says of so many useless misses, or none where these are of no turns that it has."""
+    def band(self, useless: int) -> Band | None:
+        """The band of so many false-sharing misses, or none where the studies have no such interleaving."""
         rate, (_, quantum, is_plain) = self.rate(useless), settings_of(self.view.call)
         if (
             rate is None
-            or self.unit() != "steps"
+            or self.unit() != "instructions"
             or self.view.call.how == "run"
             and not (is_plain and quantum == USUAL)
         ):
             return None
-        return BANDS[band_of(rate)].told
+        return BANDS[band_of(rate)]
 
     def at_most(self, thing: Thing | None = None) -> float | None:
-        """The part of the time that an object takes at most, or all do: by turns of one step, or by those of this run where they have
+        """An upper bound on the part of the time that an object takes, or all do: by the run at quantum 1, or by this run where that has
         more; none where that isn't known."""
         found = self.find()
         if found is None or self.view.misses is None:
@@ -146,45 +149,21 @@ class Worth:
             max(self.rate(seen) or 0.0, found.rate(useless)), latency_of(self.view.call), STEP
         )
 
-    def told_rate(self, useless: int) -> str:
-        """The rate, and what the study says of it."""
-        rate, band = self.rate(useless), self.band(useless)
-        if rate is None:
-            return ""
-        said = f"{rate:.2f} useless misses by 1000 {self.unit()}"
-        # (a trace doesn't say in what turns it was made)
-        return said + (
-            ""
-            if band is None
-            else f": {band}"
-            if self.view.call.how == "run"
-            else f": {band}, if turns had {USUAL} steps"
-        )
-
     def total(self) -> str:
-        """What is said of the whole run, or nothing."""
-        if self.view.misses is None:
+        """The rate of the whole run and its severity, or nothing."""
+        useless = self.view.misses.total["useless"] if self.view.misses else 0
+        rate, band = self.rate(useless), self.band(useless)
+        if rate is None or not useless:
             return ""
-        said, most = self.told_rate(self.view.misses.total["useless"]), self.at_most()
-        if said and most is not None:
-            how = f"{latency_of(self.view.call)} ns for each in turns of one step, {STEP} ns for a step"
-            said += f"; at most {percent(most)} of the time, by {how}: a bound and no estimate"
-        return said
+        text = f"{rate:.2f} false per 1,000 {self.unit()}"
+        if band is None:
+            return text
+        # (a trace doesn't say at what quantum it was recorded)
+        when = "" if self.view.call.how == "run" else f" if recorded at quantum {USUAL}"
+        return f"{text} ({band.severity}{when}: {band.told})"
 
-    def told(self, thing: Thing) -> str:
-        """What is said of an object, or nothing."""
-        said, most = self.told_rate(thing.useless), self.at_most(thing)
-        if not said or not thing.useless + thing.useful:
-            return ""
-        return (
-            said
-            + ("" if most is None else f"; at most {percent(most)} of the time")
-            + self.warning(thing)
-        )
-
-    def warning(self, thing: Thing) -> str:
-        """That a pad may cost time, where one is to do and the worst line is mostly missed for what is needed; and what useful misses there
-        are after it."""
+    def warning(self, thing: Thing, words: Sequence[Told]) -> str:
+        """That padding may not pay, where a fix is named and most misses of the object's worst line are true sharing; or nothing."""
         missed, tried = thing.worst().missed, self.view.known(thing)
         if (
             missed is None
@@ -194,27 +173,17 @@ class Worth:
             and not tried.is_saving()
         ):
             return ""
-        return (
-            f"; most misses of its worst line are useful, so a pad may cost time{self.after(thing)}"
-        )
+        return f"; may not pay: most misses on its worst line are true sharing{self.after(thing, words)}"
 
-    def after(self, thing: Thing) -> str:
-        """The useful misses after the repair that was counted, or with each word on a line of its own."""
+    def after(self, thing: Thing, words: Sequence[Told]) -> str:
+        """The true-sharing misses with each word on a line of its own, where no repair was counted that says more; or nothing."""
         tried = self.view.known(thing)
-        if tried and tried.after:
-            return f": useful misses {tried.before.total['useful']} before, {tried.after.total['useful']} after the repair{tried.there()}"
-        if self.view.by_word is None:
+        if tried and tried.after or self.view.by_word is None:
             return ""
         fields: dict[tuple[int, str], int] = {}
-        for it in self.view.seen(thing).words:
-            if it.key == thing.key:
-                fields[it.base, it.whole()] = max(
-                    fields.get((it.base, it.whole()), 0), it.useful or 0
+        for word in words:
+            if word.key == thing.key:
+                fields[word.base, word.whole()] = max(
+                    fields.get((word.base, word.whole()), 0), word.useful or 0
                 )
-        return (
-            f": useful misses {thing.useful} now, {sum(fields.values())} with a line for each word"
-        )
-
-
-def percent(part: float) -> str:
-    return "less than 1%" if 0 < part < 0.01 else f"{100 * part:.0f}%"
+        return f" ({thing.useful:,} now, {sum(fields.values()):,} with each word on its own line)"

@@ -121,7 +121,7 @@ def holders(things: Sequence[Symbol | Block], addr: int) -> list[tuple[Symbol | 
 def holder(things: Sequence[Symbol | Block], addr: int) -> Found:
     """The object that a word is told under, or none."""
     found = holders(things, addr) if things else []
-    return max(found, key=lambda it: it[1])[0] if found else None
+    return max(found, key=lambda share: share[1])[0] if found else None
 
 
 def shares_of(
@@ -179,8 +179,8 @@ def parties(
 def is_touched(line: Line, things: Sequence[Symbol | Block]) -> bool:
     """Whether an access of a line was of one of some objects on it, as far as its words are told."""
     base, end = line.base, line.base + line.size
-    for it in things:
-        if it.addr <= base and end <= it.addr + it.size:
+    for obj in things:
+        if obj.addr <= base and end <= obj.addr + obj.size:
             return True
     words = line.accesses()
     return not words or any(
@@ -197,9 +197,9 @@ def spots(report: Report, misses: Misses | None, each: Report | None = None) -> 
             yield Spot(base, line, missed.get(base))
     if missed:
         seen, words = {it.base for it in report.observed()}, each.at() if each else {}
-        for base, it in missed.items():
+        for base, missed_line in missed.items():
             if base not in seen:
-                yield Spot(base, None, it, words.get(base))
+                yield Spot(base, None, missed_line, words.get(base))
 
 
 # No object.
@@ -229,7 +229,11 @@ class Folding:
         for key, (example, _) in shares.items():
             if key not in self.found:
                 self.found[key] = Thing(key, example)
-        key = max(shares, key=lambda it: shares[it][1]) if len(shares) > 1 else next(iter(shares))
+        key = (
+            max(shares, key=lambda candidate: shares[candidate][1])
+            if len(shares) > 1
+            else next(iter(shares))
+        )
         own = self.found[key]
         own.add(spot)
         if len(shares) > 1:
@@ -238,9 +242,9 @@ class Folding:
                     own.beside[other] += 1
         elif len(things) == 1 and isinstance(key, OfSymbol) and isinstance(things[0], Symbol):
             self.known[rows] = own, things[0]
-        for it, its in zip(things, keys):
-            if isinstance(it, Block) and its in self.found:
-                self.found[its].lives.add(it.addr << 44 | it.born)
+        for obj, its in zip(things, keys):
+            if isinstance(obj, Block) and its in self.found:
+                self.found[its].lives.add(obj.addr << 44 | obj.born)
 
 
 def things_of(
@@ -255,8 +259,9 @@ def things_of(
 
 
 class Told(NamedTuple):
-    """A word on an object's lines: its line, its names, the object and where that begins, and how it was accessed; `useful` is what is
-    missed of it on a line of its own, and `kind` what is known of its type."""
+    """A word on an object's lines: its line, its names, the object and where that begins, and how it was accessed; `useful` are its misses
+    on a line of its own, `kind` is what is known of its type, and `owner` the thread that alone accesses it, by its name.
+    """
 
     addr: int
     base: int
@@ -270,6 +275,7 @@ class Told(NamedTuple):
     hart: str
     useful: int | None
     kind: WordKind = WordKind(False, False)
+    owner: str = "several threads"
 
     def whole(self) -> str:
         """The name of the field that the word is of."""
@@ -293,17 +299,26 @@ def words_of(spot: Spot, naming: Naming, by_word: Misses | None = None) -> list[
         return []
     things = spot.rows()
     found: list[Told] = []
-    for it in told.words():
-        thing = holder(things, it.addr)
-        name, element, field = naming.word(it.addr, thing)
+    for word in told.words():
+        thing = holder(things, word.addr)
+        name, element, field = naming.word(word.addr, thing)
         useful = None
         if by_word is not None:
-            useful = by_word.lines[it.addr].useful if it.addr in by_word.lines else 0
+            useful = by_word.lines[word.addr].useful if word.addr in by_word.lines else 0
         begin = thing.addr if thing else 0
         found.append(
             Told(
-                *(it.addr, spot.base, name, element, field, key_of(thing, naming, it.addr), begin),
-                *(it.reads, it.writes, it.hart, useful, naming.kind(it.addr, thing)),
+                *(
+                    word.addr,
+                    spot.base,
+                    name,
+                    element,
+                    field,
+                    key_of(thing, naming, word.addr),
+                    begin,
+                ),
+                *(word.reads, word.writes, word.hart, useful, naming.kind(word.addr, thing)),
+                *(() if word.hart == "many" else (naming.memory.owner(int(word.hart)),)),
             )
         )
     return found
@@ -311,4 +326,4 @@ def words_of(spot: Spot, naming: Naming, by_word: Misses | None = None) -> list[
 
 def worst_word(words: list[Told]) -> Told | None:
     """The word that is written most, or else read most."""
-    return max(words, key=lambda it: (it.writes, it.reads, -it.addr)) if words else None
+    return max(words, key=lambda word: (word.writes, word.reads, -word.addr)) if words else None

@@ -10,7 +10,7 @@ from view.reading.reports import Block, Line, Misses, Report, Symbol
 
 # Of so many layouts the misses are counted for a first screen; each takes a pass over the trace.
 LAYOUTS = 4
-UNCOUNTED, UNALIGNED = "its misses weren't counted", "data aligned as it is can't come to lie so"
+UNCOUNTED, UNALIGNED = "its misses weren't counted", "the data's alignment rules it out"
 
 # How the kit's allocator aligns blocks.
 OF_BLOCKS = 16
@@ -53,7 +53,9 @@ def worth_counting(report: Report, naming: Naming, is_all: bool) -> list[Layout]
     if is_all:
         return layouts(report)
     found: list[Layout] = []
-    for line in sorted(report.predicted(), key=lambda it: (-it.count, it.base)):
+    for line in sorted(
+        report.predicted(), key=lambda candidate: (-candidate.count, candidate.base)
+    ):
         if len(found) == LAYOUTS:
             break
         if layout_of(line) not in found and can_lie(line, naming):
@@ -75,18 +77,18 @@ def can_lie(line: Line, naming: Naming) -> bool:
     if line.kind == "doubled":
         return True
     return all(
-        (it.addr - line.base) % min(alignment(it, naming), line.size) == 0
-        for it in line.objects()
-        if isinstance(it, (Symbol, Block))
+        (obj.addr - line.base) % min(alignment(obj, naming), line.size) == 0
+        for obj in line.objects()
+        if isinstance(obj, (Symbol, Block))
     )
 
 
 def inside(lines: Iterable[Range], misses: Misses) -> int:
     """The useless misses of the observed lines that some predicted ones meet, each once."""
     met: set[int] = set()
-    for it in lines:
-        first = (it.base - misses.offset) // misses.size * misses.size + misses.offset
-        met.update(range(first, it.base + it.size, misses.size))
+    for line in lines:
+        first = (line.base - misses.offset) // misses.size * misses.size + misses.offset
+        met.update(range(first, line.base + line.size, misses.size))
     return sum(misses.lines[it].useless for it in met if it in misses.lines)
 
 
@@ -113,17 +115,17 @@ def judged(
         own = counted.lines[line.base].useless if line.base in counted.lines else 0
         seen = inside([line], misses)
         if own <= seen:
-            why = "it has no more useless misses than the observed lines there"
+            why = "it adds no false sharing to that of the observed lines"
         else:
             why = "" if can_lie(line, naming) else UNALIGNED
         found.append(Foretold(line, keys, own, seen, not why, why))
     return sorted(
         found,
-        key=lambda it: (
-            not it.is_shown,
-            (it.inside or 0) - (it.useless or 0),
-            -it.line.count,
-            it.line.base,
+        key=lambda predicted: (
+            not predicted.is_shown,
+            (predicted.inside or 0) - (predicted.useless or 0),
+            -predicted.line.count,
+            predicted.line.base,
         ),
     )
 
@@ -131,6 +133,9 @@ def judged(
 def together(found: Iterable[Foretold]) -> list[list[Foretold]]:
     """The predicted lines of one kind, layout and reason that have the same objects, in the order of their firsts."""
     groups: dict[tuple[object, ...], list[Foretold]] = {}
-    for it in found:
-        groups.setdefault((tuple(it.keys), it.line.kind, layout_of(it.line), it.why), []).append(it)
+    for predicted in found:
+        groups.setdefault(
+            (tuple(predicted.keys), predicted.line.kind, layout_of(predicted.line), predicted.why),
+            [],
+        ).append(predicted)
     return list(groups.values())

@@ -1,31 +1,33 @@
-"""What useless misses were worth in time, by the studies in bench/clock/results: the one table of it, for view and for bench/clock/."""
+"""How severe false-sharing misses are, by the studies in bench/clock/results: the one table of it, for view and for bench/clock/."""
 
 from typing import NamedTuple
 
 
 class Band(NamedTuple):
-    """From so many useless misses by 1000 steps on, under the usual quantum, this is said of padding."""
+    """The severity of a rate: from so many false-sharing misses per 1,000 instructions on, at quantum 100."""
 
     least: float
+    severity: str
     told: str
 
 
+# The numbers are the least and the greatest of the medians of the three studies: how many times faster padding made the programs of a band.
 BANDS = (
-    Band(0.0, "padding usually gains nothing"),
-    Band(0.05, "padding may pay: measure"),
-    Band(3.0, "padding often pays: measure"),
-    Band(8.0, "fought over in every turn"),
+    Band(0.0, "low", "padding usually gains nothing"),
+    Band(0.05, "moderate", "padding typically makes such programs 1.1 to 1.2 times faster"),
+    Band(3.0, "high", "padding typically makes such programs 1.2 to 1.5 times faster"),
+    Band(8.0, "severe", "padding typically makes such programs 1.8 to 2.6 times faster"),
 )
-# The nanoseconds of a line's way from one core to another, and those of a step, where nothing else is said.
+# The nanoseconds of a line's way from one core to another, and those of an instruction, where nothing else is said.
 LATENCY, STEP = 140, 0.4
 
 
 def band_of(rate: float) -> int:
-    """Which of the bands: the last one that begins at or below the rate."""
+    """The number of a rate's band: the last one that begins at or below the rate."""
     return max(at for at, it in enumerate(BANDS) if rate >= it.least)
 
 
 def at_most(rate: float, latency: float, step: float) -> float:
-    """The part of the time that so many useless misses by 1000 steps take, if each waits for its line alone."""
+    """An upper bound on the part of the time that so many false-sharing misses per 1,000 instructions take, if each waits alone."""
     waits = rate * latency
     return waits / (waits + 1000 * step) if waits else 0.0

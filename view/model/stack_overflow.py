@@ -27,11 +27,11 @@ class Overflow(NamedTuple):
     depth: int
 
     def told(self) -> str:
-        told = f"hart {self.hart} ran out of its stack of {self.size} bytes, and wrote {self.depth} bytes below its top"
+        told = f"hart {self.hart} overflowed its stack of {self.size:,} bytes: it wrote {self.depth:,} bytes below the top"
         enough = 1 << (self.depth - 1).bit_length()
         if enough > GREATEST:
-            return f"{told}: it calls itself without end, or has more in local variables than a stack may have, {GREATEST} bytes"
-        return f"{told}: `--set stack={enough}` gives it more, unless it calls itself without end"
+            return f"{told}; it recurses without end, or its local variables exceed the largest stack, {GREATEST:,} bytes"
+        return f"{told}; use `--set stack={enough}`, unless it recurses without end"
 
 
 def last_of_run(predator: Predator, words: list[str]) -> bytes:
@@ -95,15 +95,15 @@ def overflow(trace: bytes, memory: Memory) -> Overflow | None:
         for hart, own in below.items()
     ]
     deep = [it for it in found if it.depth >= it.size + LEAST]
-    return max(deep, key=lambda it: it.depth) if deep else None
+    return max(deep, key=lambda candidate: candidate.depth) if deep else None
 
 
 def edge(addresses: set[int], low: int) -> int:
     """How far down addresses go from a stack's lower end, without a gap."""
-    for it in sorted(addresses, reverse=True):
-        if low - it > FRAME:
+    for addr in sorted(addresses, reverse=True):
+        if low - addr > FRAME:
             break
-        low = it
+        low = addr
     return low
 
 

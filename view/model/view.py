@@ -1,4 +1,4 @@
-"""All that a call of view has found: what the outputs are written from."""
+"""All that a call of view has found: the data of its outputs."""
 
 import concurrent.futures
 import contextlib
@@ -25,6 +25,7 @@ from view.reading.reports import (
     Blame,
     Block,
     Explained,
+    Line,
     Misses,
     Pair,
     Placed,
@@ -46,21 +47,23 @@ Declared = tuple[str, int]
 
 
 class Seen:
-    """One object as it is shown: its words, the explained lines, and what to do about it."""
+    """One object as it is shown: its words, its explained line, the fix, and what trying that came to."""
 
     def __init__(
         self,
         thing: Thing,
         words: list[Told],
         explained: Takings | None,
-        todo: str,
+        fix: str,
+        tried: str,
         declared: Declared | None,
     ) -> None:
-        self.thing, self.words, self.explained, self.todo, self.declared = (
+        self.thing, self.words, self.explained, self.fix, self.tried, self.declared = (
             thing,
             words,
             explained,
-            todo,
+            fix,
+            tried,
             declared,
         )
 
@@ -68,12 +71,12 @@ class Seen:
         return worst_word([it for it in self.words if it.key == self.thing.key])
 
     def fights(self) -> list[Pair]:
-        """The pairs of instructions that take the object's worst line, those first that take it most often for nothing."""
+        """The pairs of instructions that conflict on the object's worst line, the most frequent false sharing first."""
         pairs = self.explained.pairs if self.explained else []
-        return sorted(pairs, key=lambda it: (it.same - it.taken, -it.taken))
+        return sorted(pairs, key=lambda pair: (pair.same - pair.taken, -pair.taken))
 
     def fight(self) -> Pair | None:
-        """The pair that takes the object's worst line most often for nothing, or none."""
+        """The pair whose false sharing of the object's worst line is most frequent, or none."""
         return next(iter(self.fights()), None)
 
 
@@ -107,20 +110,18 @@ class View:
         self.does: dict[int, Does] = {}
 
     def count(self, predator: Predator | None, passes: Passes | None) -> None:
-        """Has the misses counted, under the report's layout, for each word, and under the layouts of predicted lines."""
+        """Counts the misses, under the report's layout, for each word, and under the layouts of predicted lines."""
         if predator is None:
             self.notes.append(
-                "a report alone doesn't tell misses: `view run` or `view replay` does; objects stand by the report's count"
+                "a report has no misses: use `predator view run` or `predator view replay` to count them"
             )
             return
         if not predator.has("misses"):
-            self.notes.append(
-                "this program has no command `misses`, so misses are unknown; objects stand by the report's count"
-            )
+            self.notes.append("this predator has no command `misses`, so misses are unknown")
             return
         if self.call.reads_once():
             self.notes.append(
-                "a trace from a pipe can be read once, so its misses, and places for its objects, are unknown: write it to a file for these"
+                "a pipe can be read only once, so misses and fixes are unknown: write the trace to a file"
             )
             return
         brief, foreseen = is_brief(self.call), self.foreseen_layouts()
@@ -140,7 +141,7 @@ class View:
             return
         if any(it.accesses != self.report.accesses for it in counted):
             self.notes.append(
-                "the trace is a part of what the report counts, so its misses are unknown"
+                "the trace is only a part of what the report counts, so misses are unknown"
             )
             return
         self.note_lacked(predator)
@@ -153,9 +154,8 @@ class View:
         )
         self.by_layout = dict(zip(foreseen, cast(list[Misses], counted[len(asked) :])))
         if brief:
-            all_of_it = "unless `--words` asks for all"
             self.notes.append(
-                f"of a long trace repairs are counted in its first part, and predicted lines left out, {all_of_it}"
+                "the trace is long: fixes were tried on its first part, predicted lines weren't counted; --words does both in full"
             )
 
     def foreseen_layouts(self) -> list[Layout]:
@@ -168,11 +168,15 @@ class View:
         )
 
     def note_lacked(self, predator: Predator) -> None:
-        """Notes that a thread never ran since no hart was free."""
-        found = re.findall("^predator: (no hart was free for [^:\n]*)", predator.said, re.MULTILINE)
+        """Notes that a thread never ran since all harts were in use."""
+        found = re.search(
+            "^predator: (?:no hart was free for |the last .*could not start)",
+            predator.said,
+            re.MULTILINE,
+        )
         if found and self.call.how == "run":
             harts = setting(self.call.settings_words(), "harts")
-            self.lacked = f"{found[-1]}, and what that shares isn't seen: `--set harts={min(2 * harts, 256)}` gives more"
+            self.lacked = f"the last thread never ran, because all {harts} harts were in use: use `--set harts={min(2 * harts, 256)}`"
             self.notes.append(self.lacked)
 
     def look_for_overflow(self, predator: Predator | None) -> None:
@@ -203,10 +207,10 @@ class View:
         named = [(it, name) for it in worth if (name := it.name_to_place()) is not None]
         placed_at = functools.partial(predator.placed, trace, size=self.report.size)
         with concurrent.futures.ThreadPoolExecutor(max_workers=min(4, os.cpu_count() or 1)) as pool:
-            for (it, _), placed in zip(named, pool.map(placed_at, [name for _, name in named])):
+            for (obj, _), placed in zip(named, pool.map(placed_at, [name for _, name in named])):
                 # (of several variables of one name it takes the first)
-                if placed and it.example and placed.addr == it.example.addr:
-                    self.placed[it.key] = placed
+                if placed and obj.example and placed.addr == obj.example.addr:
+                    self.placed[obj.key] = placed
 
     def arrange(self) -> None:
         """Puts the lines together by objects."""
@@ -214,8 +218,8 @@ class View:
         self.naming.learn("\n".join(one.text for one in told))
         self.naming.prepare({it for one in told for it in one.sites()})
         self.things, self.all = things_of(self.report, self.misses, self.naming, self.each)
-        for it in self.all.values():
-            it.name = self.naming.key_name(it.key, it.example)
+        for obj in self.all.values():
+            obj.name = self.naming.key_name(obj.key, obj.example)
         self.rank()
         if self.blame:
             name_by_instructions(self.things, self.blame, self.naming)
@@ -245,19 +249,19 @@ class View:
             # (two words that are missed as often are of one field, or brought by one load)
             if addr % 8 != 4 or addr - 4 not in words or words[addr - 4].useful != word.useful:
                 needed[(addr - offset) // size * size + offset] += word.useful
-        for it in self.things if self.by_word or self.blame else ():
+        for obj in self.things if self.by_word or self.blame else ():
             missed = [
                 (spot.missed.useless, spot.missed.useful, spot.base)
-                for spot in it.spots
+                for spot in obj.spots
                 if spot.missed
             ]
             if self.by_word:
-                it.saves = sum(
+                obj.saves = sum(
                     max(0, min(useless, useless + useful - needed[base]))
                     for useless, useful, base in missed
                 )
             else:
-                it.saves = sum(
+                obj.saves = sum(
                     min(useless, self.taken_for_nothing(base))
                     for useless, _, base in missed
                     if useless
@@ -271,14 +275,16 @@ class View:
         return sum(it.taken - it.same for it in found.pairs) if found else 0
 
     def rank_tried(self, first: Sequence[Thing]) -> None:
-        """Puts the first objects in order by what their repairs were counted to save."""
+        """Puts the first objects in order by the misses that their fixes saved on the trace."""
         if self.tried is None:
             return
-        places = {it.key: at for at, it in enumerate(sorted(first, key=lambda it: -self.saved(it)))}
-        self.things.sort(key=lambda it: places.get(it.key, len(places)))
+        places = {
+            it.key: at for at, it in enumerate(sorted(first, key=lambda obj: -self.saved(obj)))
+        }
+        self.things.sort(key=lambda obj: places.get(obj.key, len(places)))
 
     def saved(self, thing: Thing) -> int:
-        """How many misses the best repair of an object saves, as far as that was counted; what words can't tell isn't."""
+        """How many misses the best repair of an object saves, as far as that was counted and whole words decide it."""
         found = (self.tried or {}).get(thing.key)
         return (
             found.saved()
@@ -305,9 +311,9 @@ class View:
         """The predicted lines of the objects that the call wants to see."""
         name = self.call.options.get("object")
         return [
-            it
-            for it in self.predicted
-            if name is None or name in {self.all[key].name for key in it.keys if key in self.all}
+            line
+            for line in self.predicted
+            if name is None or name in {self.all[key].name for key in line.keys if key in self.all}
         ]
 
     def label(self, thing: Thing) -> str:
@@ -316,8 +322,8 @@ class View:
         if self.label_counts is None:
             self.label_counts = Counter(
                 name
-                for it in dict.fromkeys(self.all.values())
-                for name in {it.name, it.name + self.caller(it)}
+                for obj in dict.fromkeys(self.all.values())
+                for name in {obj.name, obj.name + self.caller(obj)}
             )
         if self.label_counts[thing.name] < 2:
             return thing.name
@@ -336,9 +342,9 @@ class View:
         """The first line among a block's callers that no other object of its name has there, or else an address."""
         chain = self.naming.chain(block.sites)
         same = [
-            it.example
-            for it in dict.fromkeys(self.all.values())
-            if it.name == thing.name and it is not thing
+            other.example
+            for other in dict.fromkeys(self.all.values())
+            if other.name == thing.name and other is not thing
         ]
         others = [self.naming.chain(it.sites) for it in same if isinstance(it, Block) and it.sites]
         for at, site in enumerate(chain):
@@ -356,9 +362,9 @@ class View:
         ):
             return ""
         lines = [
-            it.short()
-            for it in self.naming.sources.frames(self.naming.chain(thing.example.sites)[0].addr)
-            if it.short()
+            frame.short()
+            for frame in self.naming.sources.frames(self.naming.chain(thing.example.sites)[0].addr)
+            if frame.short()
         ]
         return f", from {lines[-1]}" if len(lines) > 1 else ""
 
@@ -380,7 +386,7 @@ class View:
         )
 
     def explain(self, predator: Predator | None, things: Sequence[Thing]) -> None:
-        """Tells what takes the worst lines of the first objects: by the trace, or by as many runs side by side."""
+        """Explains the invalidations of the first objects' worst lines: by the trace, or by as many runs side by side."""
         most = self.call.number("explain", EXPLAIN)
         program, trace = self.call.program, self.call.trace()
         if self.blame is not None:
@@ -395,12 +401,11 @@ class View:
             and not predator.has("blame")
         ):
             self.notes.append(
-                "this program has no command `blame`, so the instructions that fight are unknown"
+                "this predator has no command `blame`, so the conflicting instructions are unknown"
             )
         elif is_brief(self.call) and "explain" not in self.call.options:
-            runs = "unless `--explain N` asks: each takes a run"
             self.notes.append(
-                f"of a long trace without pcs the instructions that fight are unknown, {runs}"
+                "the trace is long and has no program counters: --explain N finds the instructions of N objects, with a run each"
             )
         elif program is not None and predator is not None and most:
             self.explain_by_runs(predator, program, things[:most])
@@ -416,25 +421,26 @@ class View:
             self.put_dear_first()
 
     def put_dear_first(self) -> None:
-        """Puts those objects whose worst lines are explained in the order of what they save, where a taking for which no instruction waits
-        counts less."""
+        """Puts the objects whose worst lines are explained in the order of what they save, where an invalidation for which no instruction
+        waits counts less."""
         own = [at for at, it in enumerate(self.things) if it.worst().base in self.explained]
         ranked = sorted(
-            (self.things[at] for at in own), key=lambda it: (-it.saves * self.weight(it), it.rank())
+            (self.things[at] for at in own),
+            key=lambda obj: (-obj.saves * self.weight(obj), obj.rank()),
         )
-        for at, it in zip(own, ranked):
-            self.things[at] = it
+        for at, obj in zip(own, ranked):
+            self.things[at] = obj
 
     def weight(self, thing: Thing) -> float:
         return weight(self.takings(thing) or {}, self.is_read(thing))
 
     def is_read(self, thing: Thing) -> bool:
-        """Whether an object's worst line is loaded from, as far as its words are told."""
+        """Whether threads read an object's worst line, as far as its words are known."""
         line = thing.worst().told()
         return line is None or is_read(line.words())
 
     def takings(self, thing: Thing) -> dict[str, int] | None:
-        """How many takings of each kind an object's worst line has, or none where it isn't explained."""
+        """How many invalidations of each kind an object's worst line has, or none where it isn't explained."""
         found = self.explained.get(thing.worst().base)
         return kinds_of(found.pairs, self.does) if found else None
 
@@ -442,40 +448,42 @@ class View:
         spots = [spot for spot in (it.worst() for it in things) if spot.base >= 0]
         if spots and not predator.has("explain"):
             self.notes.append(
-                "this program has no command `explain`, so the instructions that fight are unknown"
+                "this predator has no command `explain`, so the conflicting instructions are unknown"
             )
             return
         asked = functools.partial(self.asked, predator, program)
         with concurrent.futures.ThreadPoolExecutor(max_workers=min(4, os.cpu_count() or 1)) as pool:
-            for spot, it in zip(spots, pool.map(asked, spots)):
-                if isinstance(it, Refused):
-                    self.notes.append(f"what fights over {spot.base:#010x} is unknown: {it}")
-                elif it.accesses == self.report.accesses and (
-                    spot.line is None or it.count == spot.line.count
+            for spot, explained in zip(spots, pool.map(asked, spots)):
+                if isinstance(explained, Refused):
+                    self.notes.append(
+                        f"the conflicting instructions on line {spot.base:#010x} are unknown: {explained}"
+                    )
+                elif explained.accesses == self.report.accesses and (
+                    spot.line is None or explained.count == spot.line.count
                 ):
-                    self.explained[spot.base] = it.takings
+                    self.explained[spot.base] = explained.takings
                 else:
                     self.notes.append(
-                        f"the program under these settings doesn't make this trace, so `explain` says nothing of {spot.base:#010x}"
+                        f"the program with these settings makes another trace, so line {spot.base:#010x} isn't explained"
                     )
 
     def note_idle(self) -> None:
-        """Notes options that matched nothing: a type for blocks that aren't fought over, and a folder without a source of the program."""
+        """Notes options that matched nothing: a type for blocks that aren't contended, and a folder without a source of the program."""
         blocks = [
-            it.example
-            for it in self.all.values()
-            if isinstance(it.example, Block) and it.example.sites
+            obj.example
+            for obj in self.all.values()
+            if isinstance(obj.example, Block) and obj.example.sites
         ]
         sites = [self.naming.names_of_site(it) for it in blocks]
         for site in (site for site, _ in self.naming.types if not any(site in it for it in sites)):
             first = [self.naming.chain(it.sites)[0] for it in blocks]
             made = sorted({self.naming.site(it) or short(self.naming.called(it)) for it in first})
             there = (
-                f"blocks that are fought over are made at {advice.listing(made)}"
+                f"contended blocks are made at {advice.listing(made)}"
                 if made
-                else "no block is fought over"
+                else "no block is contended"
             )
-            self.notes.append(f"`--type {site}=..` matches nothing: {there}")
+            self.notes.append(f"`--type {site}=..` matches no contended block: {there}")
         folder, sources = self.call.options.get("sources", ""), self.naming.sources
         files = (
             sorted({it.file for frames in sources.places.values() for it in frames if it.file})
@@ -483,16 +491,16 @@ class View:
             else []
         )
         if files and not any(
-            os.path.isfile(os.path.join(folder, it))
+            os.path.isfile(os.path.join(folder, name))
             for file in files
-            for it in (file, os.path.basename(file))
+            for name in (file, os.path.basename(file))
         ):
             self.notes.append(
-                f"`--sources {folder}` has none of the program's sources: {advice.listing(map(os.path.basename, files))}"
+                f"`--sources {folder}` has none of the program's sources ({advice.listing(map(os.path.basename, files))})"
             )
 
     def asked(self, predator: Predator, program: str, spot: Spot) -> Explained | Refused:
-        """What `explain` says of a line, or how it refuses to."""
+        """The text of `explain` for a line, or its refusal."""
         start, words = spot.line.start if spot.line else 0, self.call.settings_words()
         try:
             return predator.explained(
@@ -512,41 +520,78 @@ class View:
         """What is shown of an object."""
         if thing.key not in self.cached:
             words = [
-                it
+                word
                 for spot in thing.worst_first()
-                for it in words_of(spot, self.naming, self.by_word)
+                for word in words_of(spot, self.naming, self.by_word)
             ]
-            todo = self.advised(thing, words)
+            fix, tried = self.advised(thing, words), self.trial(thing)
             explained = self.explained.get(thing.worst().base)
-            self.cached[thing.key] = Seen(thing, words, explained, todo, self.declared(thing))
+            self.cached[thing.key] = Seen(thing, words, explained, fix, tried, self.declared(thing))
         return self.cached[thing.key]
+
+    def type_of(self, thing: Thing) -> str:
+        """The name of an object's type, or nothing where that isn't known."""
+        program, example = self.naming.program, thing.example
+        if program is None or example is None:
+            return ""
+        from view.names.fields import sound, type_name
+
+        if isinstance(example, Symbol):
+            variable = program.variable(example.addr)
+            of = variable.type if variable else None
+        else:
+            of = sound(lambda: self.naming.type_of_block(example), None)
+        return sound(lambda: type_name(of), "").replace(" (unnamed)", "") if of is not None else ""
+
+    def invalidations_of(self, spot: Spot) -> int | None:
+        """The invalidations of a line: since its first write where that was counted, and else as the report lists it."""
+        if self.each is None:
+            return spot.line.count if spot.line else None
+        line = self.each_lines.get(spot.base)
+        return line.count if line else 0
+
+    @functools.cached_property
+    def each_lines(self) -> dict[int, Line]:
+        """Each line that was ever invalidated, by its base."""
+        return self.each.at() if self.each else {}
+
+    def invalidations(self, thing: Thing) -> int:
+        """The invalidations of all of an object's lines."""
+        return sum(self.invalidations_of(it) or 0 for it in thing.spots)
+
+    def is_minor(self, thing: Thing) -> bool:
+        """Whether an object behind the first one has hardly any misses, so that it has no row."""
+        if "object" in self.call.options or self.is_clean() or self.things[0] is thing:
+            return False
+        return (thing.useless + thing.useful) * advice.LITTLE < self.total()
 
     def total(self) -> int:
         """The misses that aren't cold."""
         return self.misses.total["useless"] + self.misses.total["useful"] if self.misses else 0
 
     def is_clean(self) -> bool:
-        """Whether so few accesses of a trace miss that nothing is worth doing. (Of a run its time says that.)"""
+        """Whether so few accesses of a trace miss that no change is worth it. (Of a run the severity says that.)"""
         return not self.report.steps and 0 < self.total() * RARE < self.report.accesses
 
     def is_little(self, thing: Thing) -> bool:
-        """Whether an object has so few of the misses that it is to be left as it is."""
+        """Whether an object has so few of the misses that it isn't worth a change."""
         if self.is_clean() and "object" not in self.call.options:
             return True
         is_first = self.things[0] is thing or "object" in self.call.options
         return not is_first and 0 < (thing.useless + thing.useful) * advice.LITTLE < self.total()
 
     def known(self, thing: Thing) -> "Tried | None":
-        """What came of the repairs of an object, where that says what to do."""
+        """The trial of an object's repairs, where that decides the fix."""
         found = (self.tried or {}).get(thing.key)
         return found if found is not None and found.knows() else None
 
     def advised(self, thing: Thing, words: list[Told]) -> str:
-        """What to do about an object."""
+        """The fix for an object."""
         tried = self.known(thing)
         if tried:
             mixed = [field_at(it, thing.example, self.naming) for it in tried.mixed()]
-            return tried.sentence(self.label(thing), list(dict.fromkeys(mixed)))
+            fix = tried.fix(list(dict.fromkeys(mixed)), self.turns())
+            return fix + self.worth.warning(thing, words)
         if self.is_little(thing):
             return advice.little(thing, self.total())
         if thing.name == HEAP:
@@ -561,12 +606,20 @@ class View:
             self.element(thing),
             self.turns(),
         )
-        return todo + advice.placing(
-            self.placed.get(thing.key), lambda addr: field_at(addr, thing.example, self.naming)
+        placed = advice.placing(
+            self.placed.get(thing.key),
+            lambda addr: field_at(addr, thing.example, self.naming),
+            self.naming.memory.owner,
         )
+        return todo + placed + self.worth.warning(thing, words)
+
+    def trial(self, thing: Thing) -> str:
+        """The numbers of the trial of an object's repairs, or nothing."""
+        tried = self.known(thing)
+        return tried.outcome(bool(tried.mixed())) if tried else ""
 
     def turns(self) -> int:
-        """How many steps a hart's turn has, or 0 where that isn't known."""
+        """The quantum of the run, or 0 where that isn't known."""
         words = self.call.settings_words()
         if self.call.how != "run" or any(it.startswith("--schedule") for it in words):
             return 0
@@ -578,7 +631,7 @@ class View:
         return max([self.report.size, *sizes])
 
     def element(self, thing: Thing) -> advice.Element:
-        """A function that tells how each element of an array in an object gets lines of its own, as code, or nothing."""
+        """A function that gives the code by which each element of an array in an object gets its own line, or nothing."""
 
         def told(array: str) -> str:
             if self.naming.program is None:
@@ -629,21 +682,21 @@ def keys_over_builds(things: Iterable[Thing], naming: Naming) -> dict[Key, str]:
     """For each object a text that another build of the program has too: no address, and no line of a source."""
     found: dict[Key, str] = {}
     groups: dict[str, list[Thing]] = {}
-    for it in sorted(things, key=lambda it: order_of(it.key)):
-        if isinstance(it.key, OfSymbol):
-            text = f"symbol {naming.names.lasting(it.key.name)}"
-        elif isinstance(it.key, OfBlocks):
+    for obj in sorted(things, key=lambda obj: order_of(obj.key)):
+        if isinstance(obj.key, OfSymbol):
+            text = f"symbol {naming.names.lasting(obj.key.name)}"
+        elif isinstance(obj.key, OfBlocks):
             text = "block " + (
-                " < ".join(naming.functions(it.example.sites))
-                if isinstance(it.example, Block) and it.example.sites
+                " < ".join(naming.functions(obj.example.sites))
+                if isinstance(obj.example, Block) and obj.example.sites
                 else "-"
             )
         else:
-            text = "memory" if isinstance(it.key, OfMemory) else f"{it.key.kind} {it.key[1]}"
-        groups.setdefault(text, []).append(it)
+            text = "memory" if isinstance(obj.key, OfMemory) else f"{obj.key.kind} {obj.key[1]}"
+        groups.setdefault(text, []).append(obj)
     for text, own in groups.items():
-        for at, it in enumerate(own):
-            found[it.key] = text if at == 0 else f"{text} #{at + 1}"
+        for at, obj in enumerate(own):
+            found[obj.key] = text if at == 0 else f"{text} #{at + 1}"
     return found
 
 
@@ -659,8 +712,8 @@ def memory_of(
         return Memory()
     words = call.settings_words()
     own = [
-        it
-        for at, it in enumerate(words)
-        if not (it.startswith("--schedule") or at and words[at - 1] == "--schedule")
+        word
+        for at, word in enumerate(words)
+        if not (word.startswith("--schedule") or at and words[at - 1] == "--schedule")
     ]
     return Memory(stacks(predator, call.program, own), setting(own, "harts"))

@@ -1,4 +1,4 @@
-"""Where each hart was when a run ended by a deadlock or by its budget: by the last accesses of a trace that has their instructions."""
+"""The place of each hart when a run ended by a deadlock or by its budget, from the last accesses of a trace with program counters."""
 
 import mmap
 import os
@@ -88,7 +88,9 @@ class Ends:
 
     def look_for(self, places: dict[int, int]) -> None:
         """Looks for harts whose last accesses are farther back, at their places."""
-        missing = sorted((it for it in places if it not in self.found), key=lambda it: -places[it])
+        missing = sorted(
+            (it for it in places if it not in self.found), key=lambda place: -places[place]
+        )
         for hart in missing[:ASIDE]:
             first = max(places[hart] - BEFORE, 0)
             self.found[hart] = self.behind(first, places[hart] - first + 1)[hart]
@@ -109,7 +111,7 @@ def traced(view: View, predator: Predator, folder: str) -> str | None:
 
 
 def note_waiting(view: View, predator: Predator | None) -> None:
-    """Notes where each hart was when the run ended by a deadlock or by its budget, where the lines of the program are known."""
+    """Notes the place of each hart when the run ended by a deadlock or by its budget, where the lines of the program are known."""
     naming = view.naming
     if (
         predator is None
@@ -133,7 +135,7 @@ def note_waiting(view: View, predator: Predator | None) -> None:
     rows = list(told(ends.found, naming))
     if rows:
         view.notes.append(
-            f"where each hart {'waits' if view.report.outcome == 'deadlock' else 'was'}: {'; '.join(rows)}"
+            f"{'waiting' if view.report.outcome == 'deadlock' else 'running'} at the end: {'; '.join(rows)}"
         )
 
 

@@ -102,17 +102,22 @@ class Landmarks:
         )
         # (what an assertion's call takes is loaded without a jump)
         loaded = {at for it in found for at in range(it.begin, it.at + CALL_SIZE)}
-        for it in found:
+        for assertion in found:
             checks = [
                 at
                 for to in jumps
-                if it.begin <= to <= it.at
+                if assertion.begin <= to <= assertion.at
                 for at in jumps[to]
                 if at not in loaded
             ]
-            distance = min(abs(at - addr) for at in (checks or [it.at]))
+            distance = min(abs(at - addr) for at in (checks or [assertion.at]))
             made.append(
-                (it.is_library(), self.users_of(it) > (1 if it.is_header() else MANY), distance, it)
+                (
+                    assertion.is_library(),
+                    self.users_of(assertion) > (1 if assertion.is_header() else MANY),
+                    distance,
+                    assertion,
+                )
             )
         if not made:
             return None
@@ -157,11 +162,15 @@ class Landmarks:
         if assertion and assertion.strength == ASSERTION and not assertion.is_library:
             return assertion
         found = [
-            it
-            for it in (assertion, self.class_of(function[0]), self.text_in(tuple(parts)))
-            if it is not None
+            landmark
+            for landmark in (assertion, self.class_of(function[0]), self.text_in(tuple(parts)))
+            if landmark is not None
         ]
-        return min(found, key=lambda it: (it.is_library, it.strength)) if found else None
+        return (
+            min(found, key=lambda landmark: (landmark.is_library, landmark.strength))
+            if found
+            else None
+        )
 
     def runs(self, low: int, high: int) -> bool:
         """Whether an instruction from an address up to another one ran."""
@@ -184,11 +193,11 @@ class Landmarks:
         found: dict[str, tuple[int, Landmark]] = {}
         for number in range(LEVELS):
             above: list[int] = []
-            for it in level if len(seen) <= PASSED else ():
+            for callee in level if len(seen) <= PASSED else ():
                 # (what so many call is told by none of them)
                 if len(found) + lost > MOST:
                     return None
-                calls = list(self.callers(it))
+                calls = list(self.callers(callee))
                 lost += not calls or any(function is None for _, function in calls)
                 for at, function in calls:
                     if function and function[0] not in seen:
@@ -200,7 +209,8 @@ class Landmarks:
                             above.append(function[0])
             level = above
         best = sorted(
-            found.values(), key=lambda it: (it[0], it[1].strength, it[1].functions, it[1].text)
+            found.values(),
+            key=lambda rank: (rank[0], rank[1].strength, rank[1].functions, rank[1].text),
         )
         told, count = tuple(it for _, it in best[:NAMED]), len(best) + lost + len(level)
         return Marks(told, True, count - len(told)) if told and count <= MOST else None

@@ -60,8 +60,8 @@ def function_named(whole: str) -> str:
     """A function as `__PRETTY_FUNCTION__` has it, short, with what its templates stand for."""
     given = WITH.search(whole)
     name = whole[: given.start()] if given else whole
-    for it in given[1].split("; ") if given else ():
-        what, _, value = it.partition(" = ")
+    for argument in given[1].split("; ") if given else ():
+        what, _, value = argument.partition(" = ")
         if what.isidentifier():
             name = re.sub(rf"\b{what}\b", value.replace("\\", ""), name)
     return short(name.replace(", ", ","))
@@ -103,9 +103,9 @@ class Assertions:
             if to in self.failing
         ]
         return [
-            it
+            assertion
             for at in sorted(calls)
-            if (it := self.assertion(at, code[max(at - start - LOADED, 0) : at - start]))
+            if (assertion := self.assertion(at, code[max(at - start - LOADED, 0) : at - start]))
         ]
 
     def assertion(self, at: int, loads: bytes) -> Assertion | None:

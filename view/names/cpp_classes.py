@@ -33,8 +33,8 @@ class Classes:
         self.owners: dict[int, dict[int, None]] = {}
         for addr, to in self.words.items():
             if to and self.mangled(to):
-                for it in self.functions(addr + 8):
-                    self.owners.setdefault(it, {})[to] = None
+                for function in self.functions(addr + 8):
+                    self.owners.setdefault(function, {})[to] = None
 
     @functools.cache
     def mangled(self, info: int) -> str:
@@ -67,8 +67,8 @@ class Classes:
             return [single] if self.mangled(single) else []
         count = int.from_bytes(self.image.bytes(info + 20, 4), "little")
         several = [
-            self.words.get(info + 24 + 16 * it, 0)
-            for it in range(count if count <= MOST_BASES else 0)
+            self.words.get(info + 24 + 16 * number, 0)
+            for number in range(count if count <= MOST_BASES else 0)
         ]
         return [it for it in several if it and self.mangled(it)]
 
@@ -88,7 +88,9 @@ class Classes:
         infos = list(self.owners.get(start, ()))
         common = set(infos).intersection(*map(self.with_bases, infos))
         # (of a base and what it's derived from the latter has the function first)
-        chosen = [min(common, key=lambda it: (len(self.with_bases(it)), it))] if common else infos
+        chosen = (
+            [min(common, key=lambda info: (len(self.with_bases(info)), info))] if common else infos
+        )
         return (
             min(filter(None, map(self.names.get, chosen)), default="") if len(chosen) <= FEW else ""
         )
@@ -99,7 +101,9 @@ class Classes:
         infos = list({it: None for own in self.owners.values() for it in own})
         told = demangled(["_ZTS" + self.mangled(it) for it in infos])
         return {
-            it: name.removeprefix(SHOWN) for it, name in zip(infos, told) if name.startswith(SHOWN)
+            info: name.removeprefix(SHOWN)
+            for info, name in zip(infos, told)
+            if name.startswith(SHOWN)
         }
 
 

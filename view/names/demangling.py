@@ -40,10 +40,10 @@ def depths(name: str) -> list[int]:
     """How deep in brackets each letter of a name is; a bracket is as deep as what is around it. Those of `operator<` and `->` are none."""
     found: list[int] = []
     depth = 0
-    for it in OPERATOR.sub(lambda it: "o" * len(it[0]), name.replace("->", "oo")):
-        depth -= it in CLOSES
+    for letter in OPERATOR.sub(lambda operator: "o" * len(operator[0]), name.replace("->", "oo")):
+        depth -= letter in CLOSES
         found.append(depth)
-        depth += it in OPENS
+        depth += letter in OPENS
     return found
 
 
@@ -64,9 +64,9 @@ def without(name: str, opening: str, kept: str, least: int = 0) -> str:
         end = (
             next(
                 (
-                    it
-                    for it in range(at + 1, len(name))
-                    if name[it] == closing and deep[it] == deep[at]
+                    place
+                    for place in range(at + 1, len(name))
+                    if name[place] == closing and deep[place] == deep[at]
                 ),
                 None,
             )
@@ -136,18 +136,18 @@ class Names:
             self.learn(name)
             name = self.whole.get(name, name)
         elif "/" in name:
-            name = re.sub("%([0-9a-f]{2})", lambda it: chr(int(it[1], 16)), name)
+            name = re.sub("%([0-9a-f]{2})", lambda escape: chr(int(escape[1], 16)), name)
         # (a library's function may have the version of its interface)
         return self.note(re.sub(r"(?<=\w)@.*", "", name))
 
     def shortened(self, text: str) -> str:
         """A text with each name in it short."""
-        for it in sorted(
+        for long_name in sorted(
             (it for it, other in self.shorts.items() if it != other and it in text),
             key=len,
             reverse=True,
         ):
-            text = text.replace(it, self.shorts[it])
+            text = text.replace(long_name, self.shorts[long_name])
         return text
 
     def lasting(self, name: str) -> str:

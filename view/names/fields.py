@@ -116,10 +116,12 @@ def defined(die: Die) -> Die:
 
 def counts(die: Die) -> Iterator[Any]:
     """How many elements each dimension of an array has; 0 where it isn't told."""
-    for it in die.iter_children():
-        if it.tag == "DW_TAG_subrange_type":
-            top = value(it, "upper_bound")
-            yield value(it, "count", top + 1 if isinstance(top, int) and top < 2**32 - 1 else 0)
+    for child in die.iter_children():
+        if child.tag == "DW_TAG_subrange_type":
+            top = value(child, "upper_bound")
+            yield value(
+                child, "count", top + 1 if isinstance(top, int) and top < 2**32 - 1 else 0
+            )
 
 
 def size_of(die: Die) -> int:
@@ -128,8 +130,8 @@ def size_of(die: Die) -> int:
         return 0
     if die.tag == "DW_TAG_array_type":
         size = size_of(type_of(die))
-        for it in counts(die):
-            size *= it if isinstance(it, int) else 0
+        for count in counts(die):
+            size *= count if isinstance(count, int) else 0
         return size
     if die.tag in POINTERS and "DW_AT_byte_size" not in die.attributes:
         return die.cu["address_size"]
@@ -152,15 +154,17 @@ def alignment_of(die: Die) -> int:
         return max(found, alignment_of(type_of(die)))
     if die.tag in RECORDS:
         fields = [
-            it for it in die.iter_children() if it.tag in ("DW_TAG_member", "DW_TAG_inheritance")
+            child
+            for child in die.iter_children()
+            if child.tag in ("DW_TAG_member", "DW_TAG_inheritance")
         ]
         return max(
             [
                 found,
                 *(
-                    max(value(it, "alignment", 1), alignment_of(type_of(it)))
-                    for it in fields
-                    if "DW_AT_external" not in it.attributes
+                    max(value(field, "alignment", 1), alignment_of(type_of(field)))
+                    for field in fields
+                    if "DW_AT_external" not in field.attributes
                 ),
             ]
         )
@@ -203,15 +207,15 @@ def place_in(die: Die) -> tuple[int, int | None]:
 
 def parts_of(die: Die) -> Iterator[tuple[str, int, int, Die]]:
     """What a record or an array is made of, as (name, place in bits, size in bits, type); of an array a function of the range."""
-    for it in die.iter_children():
+    for child in die.iter_children():
         if (
-            it.tag in ("DW_TAG_member", "DW_TAG_inheritance")
-            and "DW_AT_external" not in it.attributes
+            child.tag in ("DW_TAG_member", "DW_TAG_inheritance")
+            and "DW_AT_external" not in child.attributes
         ):
-            start, bits = place_in(it)
-            own = name_of(it)
-            name = f".{own}" if own and it.tag == "DW_TAG_member" else ""
-            yield name, start, 8 * size_of(type_of(it)) if bits is None else bits, type_of(it)
+            start, bits = place_in(child)
+            own = name_of(child)
+            name = f".{own}" if own and child.tag == "DW_TAG_member" else ""
+            yield name, start, 8 * size_of(type_of(child)) if bits is None else bits, type_of(child)
 
 
 def elements(die: Die, low: int, high: int) -> Iterator[tuple[str, int, int, Die]]:
@@ -221,13 +225,13 @@ def elements(die: Die, low: int, high: int) -> Iterator[tuple[str, int, int, Die
     if not wide:
         return
     total = 1
-    for it in dims:
-        total *= it or 2**32
+    for count in dims:
+        total *= count or 2**32
     for at in range(max(low // wide, 0), min((high + wide - 1) // wide, total, low // wide + MOST)):
         indices: list[int] = []
         left = at
-        for it in reversed(dims[1:]):
-            left, index = divmod(left, it or 1)
+        for count in reversed(dims[1:]):
+            left, index = divmod(left, count or 1)
             indices.insert(0, index)
         yield "".join(f"[{it}]" for it in [left, *indices]), at * wide, wide, element
 
@@ -322,7 +326,7 @@ class Program:
         except OSError as error:
             raise Fault(f"{path}: {error.strerror}") from error
         except ELFError as error:
-            raise Fault(f"{path}: it is no program file ({error})") from error
+            raise Fault(f"{path} isn't an ELF file ({error})") from error
         # (by pyelftools; none without debug information)
         self.dwarf: Any = None
         with contextlib.suppress(Exception):
@@ -343,9 +347,9 @@ class Program:
 
         def found() -> list[tuple[int, int]]:
             parts = [
-                it
-                for it in self.elf.iter_segments()
-                if it["p_type"] == "PT_LOAD" and it["p_flags"] & 1
+                segment
+                for segment in self.elf.iter_segments()
+                if segment["p_type"] == "PT_LOAD" and segment["p_flags"] & 1
             ]
             return [(it["p_vaddr"], it["p_vaddr"] + it["p_memsz"]) for it in parts]
 
@@ -361,10 +365,10 @@ class Program:
         def found() -> list[tuple[int, int, str]]:
             tables = [it for it in self.elf.iter_sections() if isinstance(it, SymbolTableSection)]
             symbols = [
-                it
+                symbol
                 for table in tables
-                for it in table.iter_symbols()
-                if it["st_info"]["type"] == kind
+                for symbol in table.iter_symbols()
+                if symbol["st_info"]["type"] == kind
             ]
             return [(it["st_value"], it["st_size"], it.name) for it in symbols]
 
@@ -407,11 +411,11 @@ class Program:
         where = die.attributes.get("DW_AT_location")
         if where is None or where.form not in ("DW_FORM_exprloc", "DW_FORM_block1"):
             return None
-        for it in DWARFExprParser(die.cu.structs).parse_expr(where.value)[:1]:
-            if it.op_name == "DW_OP_addr":
-                return it.args[0]
-            if it.op_name in ("DW_OP_addrx", "DW_OP_GNU_addr_index"):
-                return self.dwarf.get_addr(die.cu, it.args[0])
+        for operation in DWARFExprParser(die.cu.structs).parse_expr(where.value)[:1]:
+            if operation.op_name == "DW_OP_addr":
+                return operation.args[0]
+            if operation.op_name in ("DW_OP_addrx", "DW_OP_GNU_addr_index"):
+                return self.dwarf.get_addr(die.cu, operation.args[0])
         return None
 
     def variable(self, addr: int) -> Variable | None:
@@ -425,7 +429,7 @@ class Program:
         several = self.types.get(last_name(name), [])
         found = chosen(several, name) or self.pointers.get(name)
         if found is None:
-            raise Fault(f"'{text}' is no type of {self.path}, and no variable that points to one")
+            raise Fault(f"{self.path} has no type '{text}', and no pointer variable of that name")
         return found
 
     def named(self, *names: str) -> list[tuple[int, str]]:
@@ -439,8 +443,8 @@ class Program:
             "utf-8", "replace"
         )
         return [
-            (int(it[1], 16), it[0])
-            for it in re.finditer(r"^(0x[0-9a-f]+): +DW_TAG_.*\n(?:.+\n)*", told, re.MULTILINE)
+            (int(entry[1], 16), entry[0])
+            for entry in re.finditer(r"^(0x[0-9a-f]+): +DW_TAG_.*\n(?:.+\n)*", told, re.MULTILINE)
         ]
 
     def definition(self, die: Die) -> Die:
@@ -460,7 +464,7 @@ class Program:
         """The file and line of a variable's definition, or else of its declaration, or none. (llvm-dwarfdump reads the tables of files that
         pyelftools 0.29 doesn't.)"""
         tool, line = shutil.which("llvm-dwarfdump"), next(
-            (it for die in variable.dies if (it := value(die, "decl_line"))), None
+            (number for die in variable.dies if (number := value(die, "decl_line"))), None
         )
         if tool is None or not line:
             return None
@@ -480,7 +484,7 @@ def chosen(several: list[Die], name: str) -> Die:
         return next(iter(several), None)
     whole = [(it, qualified(it)) for it in several]
     exact = [it for it, own in whole if own == name] + [
-        it for it, own in whole if own.endswith("::" + name)
+        die for die, own in whole if own.endswith("::" + name)
     ]
     return next(iter(exact), None)
 

@@ -71,7 +71,7 @@ class Functions:
         maybe.update(
             to for to in (() if image.is_fixed else image.words.values()) if to % ALIGNED == 0
         )
-        ends = {it[1] for start in image.unwound[0] if (it := image.function(start))}
+        ends = {function[1] for start in image.unwound[0] if (function := image.function(start))}
         ends.update(start + size for start, size in image.exported.items() if size)
         maybe.update(-it // ALIGNED * -ALIGNED for it in ends)
         found = sure | self.bare(maybe)
@@ -117,9 +117,9 @@ class Functions:
         code = self.image.bytes(start, end - start)
         places = range((start // ALIGNED + 1) * ALIGNED, end, ALIGNED)
         found = [
-            it
-            for it in places
-            if FILLED.search(code[max(it - start - FILLED_SIZE, 0) : it - start])
+            place
+            for place in places
+            if FILLED.search(code[max(place - start - FILLED_SIZE, 0) : place - start])
         ]
         reached = (
             {to for form in (FAR, SHORT, JUMP, NEAR) for _, to in jumped(code, start, form)}
@@ -127,9 +127,9 @@ class Functions:
             else set[int]()
         )
         reached.update(
-            it
+            target
             for _, table in (jumped(code, start, LEA) if found else ())
-            for it in self.branches(table, start, end)
+            for target in self.branches(table, start, end)
         )
         return [it for it in found if it not in reached]
 

@@ -92,10 +92,10 @@ class Function(NamedTuple):
 def numbers(data: bytes, at: int) -> Iterator[int]:
     """Numbers of seven bits a byte, the lowest first; the last byte of each is below 128."""
     value = shift = 0
-    for it in memoryview(data)[at:]:
-        value |= (it & 0x7F) << shift
+    for byte in memoryview(data)[at:]:
+        value |= (byte & 0x7F) << shift
         shift += 7
-        if it < 0x80:
+        if byte < 0x80:
             yield value
             value = shift = 0
         elif shift > 28:
@@ -137,7 +137,8 @@ class Table:
         ]
         for place in itertools.islice(self.image.pointing(at), POINTERS):
             words = [
-                self.image.word(place + 8 * it) for it in range((self.version.data or TEXT) + 1)
+                self.image.word(place + 8 * number)
+                for number in range((self.version.data or TEXT) + 1)
             ]
             if [words[it] for it in (*SLICES, COUNT)] == wanted:
                 return words
@@ -151,7 +152,7 @@ class Table:
         )
         if size == 8 and not self.image.is_fixed:
             return [
-                self.image.word(self.functions + 16 * it) for it in range(self.count + 1)
+                self.image.word(self.functions + 16 * number) for number in range(self.count + 1)
             ], found[1::2]
         return [text + it for it in found[::2]], found[1::2]
 

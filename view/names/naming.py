@@ -269,7 +269,7 @@ class Naming:
         if not is_native:
             return list(sites)
         return list(
-            itertools.takewhile(lambda it: it.name != "-" or self.library(it.addr), sites)
+            itertools.takewhile(lambda site: site.name != "-" or self.library(site.addr), sites)
         ) or list(sites[:1])
 
     def chain(self, sites: Sequence[Site]) -> list[Site]:
@@ -283,15 +283,15 @@ class Naming:
         sites = self.in_code(sites)
         own = [it for it in sites if it.name not in ALLOCATORS] or list(sites)
         return [
-            self.names.lasting(it.name)
-            for it in [it for it in own if it.name not in BEGINNINGS] or own[:1]
+            self.names.lasting(site.name)
+            for site in [it for it in own if it.name not in BEGINNINGS] or own[:1]
         ]
 
     def near_sites(self, chain: Sequence[Site]) -> tuple[int, str]:
         """Of a block's call sites the first whose function refers to something, if need be by what calls the last one; and what that is."""
         last = len(chain) - 1
-        for at, it in enumerate(chain):
-            near = None if self.site(it) or it.name != "-" else self.near(it.addr)
+        for at, site in enumerate(chain):
+            near = None if self.site(site) or site.name != "-" else self.near(site.addr)
             if near and near.names_source() and (at == last or not near.is_called):
                 return at, f" ({near.told()})"
         return 0, ""
@@ -312,7 +312,9 @@ class Naming:
         at = self.site(chain[0])
         near, told = self.near_sites(chain)
         rest = [
-            self.called(it) + (told if at == near else "") for at, it in enumerate(chain) if at > 0
+            self.called(site) + (told if at == near else "")
+            for at, site in enumerate(chain)
+            if at > 0
         ]
         name = self.called(chain[0])
         first = at or ("an unknown function" if name == "-" else name)
@@ -368,7 +370,9 @@ class Naming:
             offset = addr - thing.addr
             return self.typed(thing, name, offset) or self.parts(None, name, offset)
         key = self.memory.key(addr)
-        below = f", {self.memory.below(addr)} below its top" if isinstance(key, OfStack) else ""
+        below = (
+            f", {self.memory.below(addr):,} bytes below its top" if isinstance(key, OfStack) else ""
+        )
         return shown(addr) + below, "", shown(addr)
 
     def typed(self, thing: Symbol | Block, name: str, offset: int) -> tuple[str, str, str] | None:

@@ -68,10 +68,10 @@ class Back:
             raise Fault(f"{path}: {error.strerror}") from error
         except (ValueError, IndexError, AttributeError) as error:
             raise Fault(
-                f"{path}: it is no table back, which native/ writes with a trace"
+                f"{path} isn't an address map, which `predator native` writes beside its trace"
             ) from error
         if not self.program:
-            raise Fault(f"{path}: it is no table back: its first line doesn't name a program")
+            raise Fault(f"{path} isn't an address map: its first line names no program")
 
     def put(self, row: str) -> None:
         kind, _, rest = row.partition(" ")
@@ -115,23 +115,25 @@ class File:
         with contextlib.suppress(Exception), open(path, "rb") as file:
             elf = ELFFile(file)
             self.ranges = [
-                (it["p_vaddr"], it["p_memsz"])
-                for it in elf.iter_segments()
-                if it["p_type"] == "PT_LOAD"
+                (segment["p_vaddr"], segment["p_memsz"])
+                for segment in elf.iter_segments()
+                if segment["p_type"] == "PT_LOAD"
             ]
             self.debug = self.debug_of(elf)
         with contextlib.suppress(Exception), open(self.debug, "rb") as file:
             tables = [
-                it for it in ELFFile(file).iter_sections() if isinstance(it, SymbolTableSection)
+                section
+                for section in ELFFile(file).iter_sections()
+                if isinstance(section, SymbolTableSection)
             ]
             self.is_stripped = all(it.name != ".symtab" for it in tables)
-            for it in (
+            for symbol in (
                 symbol
                 for table in tables
                 for symbol in table.iter_symbols()
                 if symbol["st_info"]["type"] == "STT_OBJECT"
             ):
-                self.names.setdefault(it["st_value"], it.name.partition("@")[0])
+                self.names.setdefault(symbol["st_value"], symbol.name.partition("@")[0])
 
     def debug_of(self, elf: ELFFile) -> str:
         note = elf.get_section_by_name(".note.gnu.build-id")
@@ -157,9 +159,9 @@ class File:
             with contextlib.suppress(Exception):
                 self.found[addr] = next(
                     (
-                        it
-                        for it in self.defined(name, plain)
-                        if self.program().address(it.dies[0]) == addr
+                        variable
+                        for variable in self.defined(name, plain)
+                        if self.program().address(variable.dies[0]) == addr
                     ),
                     None,
                 )
@@ -303,8 +305,8 @@ class NativeProgram:
         try:
             return self.main.type_named(text)
         except Fault:
-            for it in self.files:
-                found = sound(functools.partial(it.type_named, text), None)
+            for file in self.files:
+                found = sound(functools.partial(file.type_named, text), None)
                 if found is not None:
                     return found
             raise
@@ -320,8 +322,8 @@ class NativeProgram:
         """What of a report isn't in the table, or none."""
         for line in report.lines[:1000]:
             if line.kind == "observed" and all(
-                self.back.was(it) is None
-                for it in range(max(line.base, 0), line.base + line.size, 4)
+                self.back.was(addr) is None
+                for addr in range(max(line.base, 0), line.base + line.size, 4)
             ):
                 return f"it has no page of {line.base:#010x}"
         return None
@@ -398,20 +400,24 @@ class NativeSources(Sources):
         wanted = sorted({it for it in addresses if it not in self.places})
         self.places.update({it: [] for it in wanted})
         asked = [(it, *where) for it in wanted if (where := self.native.file(it))]
-        for (it, _, _), found in zip(asked, self.symbolized((own, addr) for _, own, addr in asked)):
-            self.places[it] = found
-        for it, own, addr in asked:
-            if not has_line(self.places[it]):
+        for (address, _, _), found in zip(
+            asked, self.symbolized((own, addr) for _, own, addr in asked)
+        ):
+            self.places[address] = found
+        for address, own, addr in asked:
+            if not has_line(self.places[address]):
                 found = self.native.go_frames(own, addr)
-                self.places[it] = found if has_line(found) else self.places[it] or found
-        for it in wanted:
-            if not has_line(self.places[it]):
+                self.places[address] = found if has_line(found) else self.places[address] or found
+        for address in wanted:
+            if not has_line(self.places[address]):
                 told: list[Site] = (
-                    self.native.back.frames.get(it) or self.native.back.sites.get(it) or []
+                    self.native.back.frames.get(address)
+                    or self.native.back.sites.get(address)
+                    or []
                 )
-                self.places[it] = [place for own in told for place in told_by(own)] or self.places[
-                    it
-                ]
+                self.places[address] = [
+                    place for own in told for place in told_by(own)
+                ] or self.places[address]
 
     def symbolized(self, addresses: Iterable[tuple[File, int]]) -> list[list[Place]]:
         """What debug information tells of addresses of files."""

@@ -117,11 +117,11 @@ class Panics:
     def nearest(self, addr: int, handed: Sequence[Handed], most: int) -> tuple[Panic, ...]:
         """Of the files that have most of some places the one of each whose check is nearest to an instruction."""
         counts = Counter(file for file, _ in {it.place for it in handed})
-        files = sorted(counts, key=lambda it: (-counts[it], it))[:most]
+        files = sorted(counts, key=lambda file: (-counts[file], file))[:most]
         return tuple(
             min(
                 (it for it in handed if it.place.file == file),
-                key=lambda it: (it.distance(addr), it.at),
+                key=lambda check: (check.distance(addr), check.at),
             ).place
             for file in files
         )

@@ -27,8 +27,8 @@ class Place(NamedTuple):
 def places(told: dict[str, Any]) -> list[Place]:
     """The frames of an address as llvm-symbolizer tells them, the innermost first."""
     frames = [
-        (it.get("FunctionName", ""), it.get("FileName", ""), it.get("Line", 0))
-        for it in told.get("Symbol", [])
+        (frame.get("FunctionName", ""), frame.get("FileName", ""), frame.get("Line", 0))
+        for frame in told.get("Symbol", [])
     ]
     return [
         Place(function, file and os.path.normpath(file), line)
@@ -58,9 +58,9 @@ class Sources:
         # (debug information has functions that were discarded, at address 0)
         self.places.update({it: [] for it in unknown})
         wanted = sorted(
-            it
-            for it in unknown
-            if not self.code or any(low <= it < high for low, high in self.code)
+            addr
+            for addr in unknown
+            if not self.code or any(low <= addr < high for low, high in self.code)
         )
         if not wanted:
             return
@@ -89,22 +89,24 @@ class Sources:
         function = next((it.function for it in reversed(self.frames(address))), "")
         before = range(address - 4, max(address - 4 * NEAR, 0) - 1, -4) if function else range(0)
         self.find(before)
-        for it in before:
-            frames = self.frames(it)
+        for addr in before:
+            frames = self.frames(addr)
             if not frames or frames[-1].function != function:
                 return None
-            if self.place(it):
-                return self.place(it)
+            if self.place(addr):
+                return self.place(addr)
         return None
 
     def path(self, file: str) -> str | None:
         """Where a source is on this machine, or none."""
         for folder in self.folders:
-            for it in (file, os.path.basename(file)):
+            for name in (file, os.path.basename(file)):
                 path = (
-                    os.path.normpath(os.path.join(folder, it)) if folder else os.path.normpath(it)
+                    os.path.normpath(os.path.join(folder, name))
+                    if folder
+                    else os.path.normpath(name)
                 )
-                if os.path.isfile(path) and (folder or it == file):
+                if os.path.isfile(path) and (folder or name == file):
                     return path
         return None
 

@@ -1,4 +1,4 @@
-"""Names what has no name of its own by the instructions that fight over it, where the trace tells these."""
+"""Names for memory without one, by the conflicting instructions that use it, where the trace has these."""
 
 from typing import Iterable, Sequence
 
@@ -18,7 +18,7 @@ ARENA = 1024
 
 def users(taken: Takings, most: int) -> list[int]:
     """The instructions of so many pairs that take a line most often for nothing, the worst first."""
-    pairs = sorted(taken.pairs, key=lambda it: (it.same - it.taken, -it.taken))[:most]
+    pairs = sorted(taken.pairs, key=lambda pair: (pair.same - pair.taken, -pair.taken))[:most]
     return list(dict.fromkeys(at for it in pairs for at in (it.taker, it.victim)))
 
 
@@ -32,15 +32,15 @@ def worst_users(taken: Takings, naming: Naming) -> list[int]:
 
 def is_unnamed(thing: Thing, naming: Naming) -> bool:
     """Whether instructions may say more of an object than its name does."""
-    it = thing.example
-    if isinstance(it, Block):
+    example = thing.example
+    if isinstance(example, Block):
         is_large = (
-            it.size >= ARENA
-            and bool(it.sites)
-            and it.sites[0].name != OWN
-            and naming.type_of_block(it) is None
+            example.size >= ARENA
+            and bool(example.sites)
+            and example.sites[0].name != OWN
+            and naming.type_of_block(example) is None
         )
-        return is_large or not naming.is_told(it.sites)
+        return is_large or not naming.is_told(example.sites)
     return isinstance(thing.key, (OfFile, OfMemory, OfStack))
 
 
@@ -52,41 +52,41 @@ def name(thing: Thing, pcs: Sequence[int], naming: Naming) -> None:
     """Names an object that instructions use."""
     users = listing(map(naming.instruction, pcs))
     functions = list(dict.fromkeys(it for it in map(naming.frame, pcs) if it))
-    it = thing.example
+    example = thing.example
     if isinstance(thing.key, OfStack):
         used = f", used at {users}" if any(map(naming.near, pcs)) else ""
         thing.name += f", used in {listing(functions)}" if functions else used
     elif isinstance(thing.key, OfFile):
         thing.name += f", used at {users}"
-    elif not isinstance(it, Block):
+    elif not isinstance(example, Block):
         thing.name = HEAP if pcs and all(map(naming.is_allocator, pcs)) else f"{USED} {users}"
-    elif not it.sites:
+    elif not example.sites:
         thing.name = f"block used at {users}"
-    elif not naming.is_told(it.sites):
+    elif not naming.is_told(example.sites):
         thing.name += f", used at {users}"
     elif len(functions) > 1:
         # (the elements of an array are mostly used by one function, and what an arena hands out by several)
-        thing.name = thing.name.replace("block made", f"block of {it.size:,} made", 1)
-        thing.note = f" (an arena: the instructions that use it are {users})"
+        thing.name = thing.name.replace("block made", f"block of {example.size:,} made", 1)
+        thing.note = f" (an arena, used at {users})"
 
 
 def together(things: Sequence[Thing]) -> dict[Key, Thing]:
     """The objects by their keys: pages that the same instructions use are one, which has the lines of all."""
     first: dict[str, Thing] = {}
     found: dict[Key, Thing] = {}
-    for it in things:
+    for obj in things:
         own = (
-            first.setdefault(it.name, it)
-            if isinstance(it.key, OfMemory) and it.name.startswith((USED, HEAP))
-            else it
+            first.setdefault(obj.name, obj)
+            if isinstance(obj.key, OfMemory) and obj.name.startswith((USED, HEAP))
+            else obj
         )
-        found[it.key] = own
-        if own is it:
+        found[obj.key] = own
+        if own is obj:
             continue
-        for spot in it.spots:
+        for spot in obj.spots:
             own.add(spot)
-        own.saves += it.saves
-        own.beside += it.beside
+        own.saves += obj.saves
+        own.beside += obj.beside
         own.first = []
     return found
 
@@ -97,9 +97,9 @@ def of_runtime(things: Iterable[Thing], blame: Blame, naming: Naming) -> set[Key
     if from_file is None or not from_file():
         return set()
     lines = {
-        it.key: [blame.takings(spot.base) for spot in it.spots]
-        for it in things
-        if isinstance(it.key, (OfMemory, OfStack))
+        obj.key: [blame.takings(spot.base) for spot in obj.spots]
+        for obj in things
+        if isinstance(obj.key, (OfMemory, OfStack))
     }
     found = {
         key: [at for taken in own if taken for at in users(taken, NAMED)]
@@ -112,14 +112,16 @@ def of_runtime(things: Iterable[Thing], blame: Blame, naming: Naming) -> set[Key
 def name_by_instructions(things: Iterable[Thing], blame: Blame, naming: Naming) -> None:
     """Gives names to those of some objects that have none. What takes their worst lines is looked up in one call."""
     found: list[tuple[Thing, Takings]] = []
-    for it in things:
+    for obj in things:
         taken = (
-            blame.takings(it.worst().base) if len(found) < MOST and is_unnamed(it, naming) else None
+            blame.takings(obj.worst().base)
+            if len(found) < MOST and is_unnamed(obj, naming)
+            else None
         )
         if taken:
-            found.append((it, taken))
+            found.append((obj, taken))
     naming.prepare({at for _, taken in found for at in users(taken, NAMED)})
     others = [taken for _, taken in found if all(map(naming.is_of_language, users(taken, NAMED)))]
     naming.prepare({at for taken in others for at in users(taken, SOUGHT)})
-    for it, taken in found:
-        name(it, worst_users(taken, naming), naming)
+    for obj, taken in found:
+        name(obj, worst_users(taken, naming), naming)

@@ -84,21 +84,23 @@ class Image:
                 return
             self.is_fixed = elf["e_type"] == FIXED
             left = 2 * os.fstat(file.fileno()).st_size
-            for it in elf.iter_segments():
+            for segment in elf.iter_segments():
                 # (what is loaded lies in the file side by side, and has what tells of relocations)
-                left -= it["p_filesz"] if it["p_type"] in LOADED else 0
+                left -= segment["p_filesz"] if segment["p_type"] in LOADED else 0
                 if left < 0:
                     return
-                if it["p_type"] == "PT_LOAD":
-                    self.parts.append((it["p_vaddr"], it.data()))
-                    if it["p_flags"] & EXECUTABLE:
+                if segment["p_type"] == "PT_LOAD":
+                    self.parts.append((segment["p_vaddr"], segment.data()))
+                    if segment["p_flags"] & EXECUTABLE:
                         self.code.append(self.parts[-1])
-                    elif not it["p_flags"] & WRITABLE:
-                        self.constant.append((it["p_vaddr"], it["p_vaddr"] + it["p_filesz"]))
-                elif it["p_type"] == "PT_DYNAMIC":
-                    self.dynamic = it.data()
-                elif it["p_type"] == "PT_GNU_EH_FRAME":
-                    self.table = it["p_vaddr"]
+                    elif not segment["p_flags"] & WRITABLE:
+                        self.constant.append(
+                            (segment["p_vaddr"], segment["p_vaddr"] + segment["p_filesz"])
+                        )
+                elif segment["p_type"] == "PT_DYNAMIC":
+                    self.dynamic = segment.data()
+                elif segment["p_type"] == "PT_GNU_EH_FRAME":
+                    self.table = segment["p_vaddr"]
             # (what is constant may lie in one part with the code)
             with contextlib.suppress(Exception):
                 self.read_sections(elf)
@@ -106,8 +108,8 @@ class Image:
     def read_sections(self, elf: ELFFile) -> None:
         """Takes what is constant, and the exported symbols, from the sections, where these are still there."""
         found = [
-            (it["sh_type"], it["sh_flags"], it["sh_addr"], it["sh_size"])
-            for it in elf.iter_sections()
+            (section["sh_type"], section["sh_flags"], section["sh_addr"], section["sh_size"])
+            for section in elf.iter_sections()
         ]
         constant = [
             (addr, addr + size)
@@ -119,8 +121,8 @@ class Image:
             ((addr, size) for kind, _, addr, size in found if kind == "SHT_DYNSYM"), (0, 0)
         )
         self.is_go = any(
-            it.name in (".gopclntab", ".data.rel.ro.gopclntab", ".go.buildinfo")
-            for it in elf.iter_sections()
+            section.name in (".gopclntab", ".data.rel.ro.gopclntab", ".go.buildinfo")
+            for section in elf.iter_sections()
         )
 
     def text(self, addr: int) -> bytes:
@@ -190,9 +192,9 @@ class Image:
             first = -begin % 8
             words = memoryview(data)[first : first + (len(data) - first) // 8 * 8].cast("Q")
             yield from (
-                (begin + first + 8 * at, it)
-                for at, it in enumerate(words)
-                if low <= it < high and it
+                (begin + first + 8 * at, word)
+                for at, word in enumerate(words)
+                if low <= word < high and word
             )
 
     def has_words(self, part: Part) -> bool:
@@ -295,11 +297,11 @@ class Image:
         """Where such numbers are loaded in all code, with these."""
         is_small = sum(len(code) for _, code in self.code) <= MOST
         return [
-            it
+            pair
             for begin, code in self.code
             if is_small
             for pattern in self.moves
-            for it in numbers(code, begin, pattern)
+            for pair in numbers(code, begin, pattern)
         ]
 
     def called(self, starts: Iterable[int]) -> dict[int, list[int]]:
@@ -330,21 +332,21 @@ class Image:
 def packed(words: Iterable[int]) -> Iterator[int]:
     """The addresses of relocations that are packed: an even word is one, and an odd one has a bit for each of the 63 words that follow."""
     base = 0
-    for it in words:
-        if it % 2 == 0:
-            yield it
-            base = it + 8
+    for word in words:
+        if word % 2 == 0:
+            yield word
+            base = word + 8
         else:
-            yield from (base + 8 * bit for bit in range(63) if it >> (bit + 1) & 1)
+            yield from (base + 8 * bit for bit in range(63) if word >> (bit + 1) & 1)
             base += 8 * 63
 
 
 def jumped(code: bytes, begin: int, form: Form) -> Iterator[tuple[int, int]]:
     """Where what looks like an instruction of a form stands, and the address that its last bytes name from its end on."""
     start = begin - form.first
-    for it in form.pattern.finditer(code):
-        at = start + it.start()
-        yield at, at + form.size + int.from_bytes(it[1], "little", signed=True)
+    for match in form.pattern.finditer(code):
+        at = start + match.start()
+        yield at, at + form.size + int.from_bytes(match[1], "little", signed=True)
 
 
 def numbers(code: bytes, begin: int, pattern: Pattern) -> Iterator[tuple[int, int]]:

@@ -1,4 +1,4 @@
-"""How much of each line's takings is left in caches of some shapes: `predator view caches TRACE`. The program counts; this draws."""
+"""The invalidations of each line in finite caches of some shapes: `predator view caches TRACE`. The program counts; this draws."""
 
 import concurrent.futures
 import os
@@ -53,7 +53,7 @@ class Shape(NamedTuple):
 
 
 class Counts(NamedTuple):
-    """How often a line, or all lines, are taken in caches of a shape and in those that lose no line, and how often they were evicted."""
+    """The invalidations of a line, or of all lines, in caches of a shape and in infinite ones, and the evictions."""
 
     bounded: int
     unbounded: int
@@ -73,21 +73,21 @@ def shape_of(text: str) -> Shape:
         or ways > 64
         or sets * ways > 4096
     ):
-        told = "bytes of a line, a power of two from 4 to 1024; sets, a power of two up to 1024; ways, up to 64; at most 4096 lines in all"
-        raise Fault(f"'--shape' is as 64x64x8, and not '{text}': {told}")
+        told = "a line size of 4 to 1024 and up to 1024 sets, both powers of two; up to 64 ways; up to 4096 lines in all"
+        raise Fault(f"'--shape' takes SIZExSETSxWAYS, such as 64x64x8, not '{text}': {told}")
     return Shape(size, sets, ways)
 
 
 def shapes_of(call: Call) -> list[Shape]:
     names = call.options["shape"] or USUAL
-    for it in names:
-        if names.count(it) > 1:
-            raise Fault(f"the shape {it} stands twice")
+    for name in names:
+        if names.count(name) > 1:
+            raise Fault(f"'--shape {name}' is given twice")
     return [shape_of(it) for it in names]
 
 
 class Caches:
-    """What `caches` prints of a shape; of its lines, which come in the order of what is taken most, the first ones."""
+    """The output of `caches` for a shape, with the first of its lines, which come in the order of their invalidations."""
 
     def __init__(self, text: str, shape: Shape, most: int) -> None:
         head = re.match(
@@ -95,18 +95,18 @@ class Caches:
         )
         total = TOTAL.search(text, max(0, len(text) - 200))
         if not head or not total or text.count("\nline ") != int(head[2]):
-            raise Fault(f"it isn't what `caches` prints of the shape {shape}")
+            raise Fault(f"unexpected output of `predator caches` for the shape {shape}")
         self.shape, self.accesses, self.count = shape, int(head[1]), int(head[2])
         self.total = Counts(*map(int, total.groups()))
         self.lines: dict[int, Counts] = {}
-        for it in LINE.finditer(text):
+        for match in LINE.finditer(text):
             if len(self.lines) == most:
                 break
-            self.lines[int(it[1], 16)] = Counts(int(it[2]), int(it[3]), int(it[4]))
+            self.lines[int(match[1], 16)] = Counts(int(match[2]), int(match[3]), int(match[4]))
 
 
 class Sized:
-    """The shapes of one size of lines: what is taken in caches that lose no line is the same for all of them."""
+    """The shapes of one line size: the invalidations in infinite caches are the same for all of them."""
 
     def __init__(self, shapes: list[Caches], names: dict[int, str]) -> None:
         self.shapes, self.names = shapes, names
@@ -118,39 +118,40 @@ class Sized:
             first.total.unbounded,
         )
         self.bases = list(first.lines)
-        for it in shapes:
-            whole = {base: own.unbounded for base, own in it.lines.items()}
+        for shape in shapes:
+            whole = {base: own.unbounded for base, own in shape.lines.items()}
             if (
                 whole != {base: own.unbounded for base, own in first.lines.items()}
-                or it.total.unbounded != self.unbounded
+                or shape.total.unbounded != self.unbounded
             ):
                 raise Fault(
-                    f"`caches` counts otherwise for the shape {it.shape} than for {first.shape}: the trace isn't the same any more"
+                    f"`caches` differs for the shapes {shape.shape} and {first.shape}: the trace changed while it was read"
                 )
 
     def told(self) -> str:
-        """What is seen, in a sentence."""
+        """The result in a sentence."""
         if not self.count:
-            return f"no line of {self.size} bytes is taken, even in caches that lose none"
-        what = f"{counted(self.count, 'line')} of {self.size} bytes {'is' if self.count == 1 else 'are'}"
-        told = f"{what} taken {counted(self.unbounded, 'time')} in caches that lose no line"
-        few, many = (of(self.shapes, key=lambda it: it.total.bounded) for of in (min, max))
+            return f"{self.size}-byte lines: no invalidation, even in infinite caches"
+        told = f"{self.size}-byte lines: {counted(self.unbounded, 'invalidation')} on {counted(self.count, 'line')} in infinite caches"
+        few, many = (of(self.shapes, key=lambda shape: shape.total.bounded) for of in (min, max))
         least, most = few.total.bounded, many.total.bounded
         if least < most:
-            return f"{told}, {counted(least, 'time')} in those of {few.shape.told()} and {most} in those of {many.shape.told()}"
+            return f"{told}, {least:,} in caches of {few.shape.told()}, {most:,} in caches of {many.shape.told()}"
         where = f"all {len(self.shapes)} shapes" if len(self.shapes) > 1 else few.shape.told()
-        return f"{told}, and {'as often' if least == self.unbounded else counted(least, 'time')} in those of {where}"
+        return (
+            f"{told}, {'as many' if least == self.unbounded else f'{least:,}'} in caches of {where}"
+        )
 
     def is_nowhere(self, base: int) -> bool:
-        """Whether nothing of a line's takings is left in caches of any of the shapes."""
+        """Whether no invalidation of a line is left in caches of any of the shapes."""
         return not any(it.lines[base].bounded for it in self.shapes)
 
     def note(self, base: int) -> str:
-        return "in none of these caches" if self.is_nowhere(base) else ""
+        return "none in these caches" if self.is_nowhere(base) else ""
 
 
 def texts(call: Call, calls: Sequence[list[str]]) -> list[str]:
-    """What the program says of the trace for each list of words, some of them side by side."""
+    """The program's output for the trace and each list of words, some of them side by side."""
     predator = Predator()
     if call.reads_once():
         return texts_of_pipe(predator, call.subject, calls)
@@ -183,26 +184,26 @@ def texts_of_pipe(predator: Predator, path: str, calls: Sequence[list[str]]) -> 
 
 
 def names_of(report: Report, bases: Sequence[int]) -> dict[int, str]:
-    """What each of some lines is called: by the object that most of its accesses went to, and how many others are beside that."""
+    """The name of each of some lines: the object with most of its accesses, and how many others it holds."""
     naming, lines = Naming(report), report.at()
     names: dict[int, str] = {}
     for base in bases:
         line = lines.get(base)
         if line:
             shares = parties(Spot(base, line, None), line.objects(), naming)
-            key = max(shares, key=lambda it: shares[it][1])
-            beside = f", beside {len(shares) - 1} more" if len(shares) > 1 else ""
+            key = max(shares, key=lambda candidate: shares[candidate][1])
+            beside = f" and {len(shares) - 1} more" if len(shares) > 1 else ""
             names[base] = naming.names.shortened(naming.key_name(key, shares[key][0])) + beside
     return names
 
 
 def found(call: Call) -> list[Sized]:
-    """What is counted for all shapes, by their size of lines."""
+    """The counts of all shapes, by their line sizes."""
     shapes, most = shapes_of(call), call.number("top", LINES)
     sizes = list(dict.fromkeys(it.size for it in shapes))
     each = [
-        ["replay", "--set", "tracking=1,report=1", "--size", str(it), "--shift", "0"]
-        for it in sizes
+        ["replay", "--set", "tracking=1,report=1", "--size", str(size), "--shift", "0"]
+        for size in sizes
     ]
     told = texts(call, [*(it.words() for it in shapes), *each])
     own = [Caches(text, shape, most) for text, shape in zip(told, shapes)]
@@ -215,22 +216,21 @@ def found(call: Call) -> list[Sized]:
 
 def rows(sized: Sized) -> Iterator[str]:
     """The screen, for one size of lines."""
-    yield f"{sized.told()} ({sized.accesses} accesses)"
+    yield f"{sized.told()} ({counted(sized.accesses, 'access')})"
     if not sized.count:
         return
+    yield ""
     wide = [
-        max(9, *(len(str(cell)) + 1 for cell in (it.shape, it.total.bounded, it.total.evicted)))
-        for it in sized.shapes
+        max(9, len(str(shape.shape)) + 1, *(len(f"{own:,}") + 1 for own in shape.total))
+        for shape in sized.shapes
     ]
 
     def row(first: object, cells: Sequence[object], rest: str) -> str:
-        return (
-            f"{first:>11}"
-            + "".join(f"{cell:>{width}}" for cell, width in zip(cells, wide))
-            + f"  {rest}".rstrip()
-        )
+        texts = [f"{it:,}" if isinstance(it, int) else str(it) for it in (first, *cells)]
+        columns = "".join(f"{it:>{width}}" for it, width in zip(texts, (11, *wide)))
+        return f"{columns}  {rest}".rstrip()
 
-    yield row("unbounded", [str(it.shape) for it in sized.shapes], "line        object")
+    yield row("infinite", [str(it.shape) for it in sized.shapes], "line        object")
     for base in sized.bases:
         cells = [it.lines[base] for it in sized.shapes]
         note = f"  ({sized.note(base)})" if sized.note(base) else ""
@@ -242,10 +242,10 @@ def rows(sized: Sized) -> Iterator[str]:
     yield row(
         sized.unbounded, [it.total.bounded for it in sized.shapes], f"all lines ({sized.count})"
     )
-    yield row("-", [it.total.evicted for it in sized.shapes], "evicted")
+    yield row("-", [it.total.evicted for it in sized.shapes], "evictions")
     more = sized.count - len(sized.bases)
     if more:
-        yield f"{counted(more, 'more line')}: --top {sized.count} shows all"
+        yield f"{counted(more, 'more line')} (--top {sized.count} shows all)"
 
 
 def drawn(sized: Sized) -> Given:
@@ -253,7 +253,9 @@ def drawn(sized: Sized) -> Given:
     most = max((own.unbounded for own in sized.shapes[0].lines.values()), default=0)
 
     def cell(own: Counts, greatest: int, of: str, shape: Shape) -> Given:
-        told = f"{of}: {own.bounded} of {own.unbounded} are left in caches of {shape.told()}"
+        told = (
+            f"{of}: {own.bounded:,} of {own.unbounded:,} invalidations in caches of {shape.told()}"
+        )
         return {
             "left": own.bounded,
             "evicted": own.evicted,

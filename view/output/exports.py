@@ -1,40 +1,49 @@
-"""What machines read: JSON, by view/output/schema.json, and SARIF 2.1.0, which editors and code hosts show at the source's line."""
+"""Outputs for machines: JSON by view/output/schema.json, and SARIF 2.1.0, which editors and code hosts show at the source's line."""
 
 import json
 import os
 import urllib.parse
-from typing import Any
+from typing import TYPE_CHECKING, Any
 
 from view.model.rate_bands import STEP
 from view.reading.calls import TOP
-from view.model.instruction_pairs import kind_of
+from view.model.instruction_pairs import ATOMIC, LOAD, STORE, UNKNOWN, kind_of
 from view.model.object_keys import Key
 from view.model.view import View
 from view.names.naming import shown
 from view.model.objects import Spot, Thing, Told
+from view.model.word_owners import who
 from view.model.predicted_lines import Foretold
 from view.reading.reports import Block, Site
+from view.output.screen import counted
+from view.output.json_versions import downgrade
 from view.model.miss_rates import latency_of
+
+if TYPE_CHECKING:
+    # (which needs pyelftools)
+    from view.repairs.trial_results import Counted
 
 # What is written, as `json` has it.
 Record = dict[str, Any]
 
-FORMAT = "predator view 1"
+FORMAT = "predator view 2"
+# The kinds of invalidations, by what the two instructions of a pair do.
+KINDS = {ATOMIC: "atomic", LOAD: "read_write", STORE: "write_write", UNKNOWN: "unknown"}
 SARIF = (
     "https://raw.githubusercontent.com/oasis-tcs/sarif-spec/master/Schemata/sarif-schema-2.1.0.json"
 )
 RULES = {
     "false-sharing": (
-        "Useless misses",
-        "Harts take a line from each other although they use different words of it.",
+        "False sharing",
+        "Threads invalidate each other's cache line although they use different words of it.",
     ),
     "true-sharing": (
-        "Useful misses",
-        "Harts hand words to each other: padding doesn't help, writing less often does.",
+        "True sharing",
+        "Threads pass words to each other: padding doesn't help, writing less often does.",
     ),
     "predicted-sharing": (
-        "Predicted useless misses",
-        "Lines would be taken falsely if data lay otherwise, or lines were longer.",
+        "Predicted false sharing",
+        "The line would be falsely shared if data were placed otherwise, or lines were longer.",
     ),
 }
 
@@ -73,35 +82,36 @@ def landmarks(view: View, addr: int) -> Record | None:
     )
 
 
-def site(view: View, it: Site) -> Record:
-    found = instruction(view, it.addr)
-    return {**found, "function": found["function"] or view.naming.called(it)}
+def site(view: View, called: Site) -> Record:
+    found = instruction(view, called.addr)
+    return {**found, "function": found["function"] or view.naming.called(called)}
 
 
-def line(spot: Spot, size: int) -> Record:
+def line(view: View, spot: Spot) -> Record:
     listed, missed = spot.line, spot.missed
     return {
         "base": shown(spot.base),
-        "size": size,
+        "size": view.report.size,
         "start": listed.start if listed else None,
-        "count": listed.count if listed else None,
+        "invalidations": view.invalidations_of(spot),
+        "reported_invalidations": listed.count if listed else None,
         "verdict": listed.verdict if listed else None,
         "cold": missed.cold if missed else None,
-        "useful": missed.useful if missed else None,
-        "useless": missed.useless if missed else None,
+        "true_sharing": missed.useful if missed else None,
+        "false_sharing": missed.useless if missed else None,
     }
 
 
-def word(it: Told, own: Key) -> Record:
-    hart = None if it.hart == "many" else int(it.hart)
+def word(use: Told, own: Key) -> Record:
+    hart = None if use.hart == "many" else int(use.hart)
     return {
-        "address": shown(it.addr),
-        "field": it.name,
-        "own": it.key == own,
-        "reads": it.reads,
-        "writes": it.writes,
+        "address": shown(use.addr),
+        "field": use.name,
+        "own": use.key == own,
+        "reads": use.reads,
+        "writes": use.writes,
         "hart": hart,
-        "needed": it.useful,
+        "misses_alone": use.useful,
     }
 
 
@@ -109,91 +119,118 @@ def rounded(value: float | None) -> float | None:
     return None if value is None else round(value, 4)
 
 
+def severity(view: View, useless: int) -> str | None:
+    band = view.worth.band(useless)
+    return band.severity if band else None
+
+
 def time_of(view: View) -> Record:
-    """What the misses may be worth in time."""
+    """The rate of the whole run, its severity, and an upper bound on the time."""
     worth, total = view.worth, view.misses.total["useless"] if view.misses else 0
     found = worth.find()
     return {
-        "by": worth.unit(),
+        "per": worth.unit(),
         "rate": rounded(worth.rate(total)),
-        "band": worth.band(total),
-        "latency": latency_of(view.call),
-        "step": STEP,
-        "alternating": {"steps": found.steps, "useless": found.misses.total["useless"]}
+        "severity": severity(view, total),
+        "latency_ns": latency_of(view.call),
+        "instruction_ns": STEP,
+        "quantum_1": {"instructions": found.steps, "false_sharing": found.misses.total["useless"]}
         if found
         else None,
-        "most": rounded(worth.at_most()),
+        "upper_bound": rounded(worth.at_most()),
     }
 
 
-def repaired(view: View, it: Thing) -> Record | None:
-    """What was counted of the whole run with the repair that is named, or none where none is."""
-    tried = view.known(it)
+def numbers_of(counted: "Counted") -> Record:
+    return {
+        "false_sharing": counted.total["useless"],
+        "true_sharing": counted.total["useful"],
+        "invalidations": counted.rule,
+    }
+
+
+def trial(view: View, obj: Thing) -> Record | None:
+    """The whole run's numbers before and after the fix, or none where none was tried."""
+    tried = view.known(obj)
     if tried is None or tried.after is None or not tried.is_saving():
         return None
     return {
-        "useless": tried.after.total["useless"],
-        "useful": tried.after.total["useful"],
-        "count": tried.after.rule,
+        "before": numbers_of(tried.before),
+        "after": numbers_of(tried.after),
+        "accesses": tried.accesses,
     }
 
 
-def thing(view: View, it: Thing) -> Record:
-    seen = view.seen(it)
-    explained, worst = seen.explained, seen.worst()
+def thing(view: View, obj: Thing) -> Record:
+    seen = view.seen(obj)
+    explained, worst, kinds = seen.explained, seen.worst(), view.takings(obj)
     known = view.misses is not None
     return {
-        "name": it.name,
-        "kind": it.key.kind,
-        "key": view.keys[it.key],
-        "useless": it.useless if known else None,
-        "useful": it.useful if known else None,
-        "count": it.count,
-        "lives": len(it.lives),
-        "beside": [view.all[key].name for key in it.beside],
-        "rate": rounded(view.worth.rate(it.useless)),
-        "band": view.worth.band(it.useless),
-        "most": rounded(view.worth.at_most(it)),
-        "takings": view.takings(it),
+        "name": obj.name,
+        "kind": obj.key.kind,
+        "key": view.keys[obj.key],
+        "type": view.type_of(obj) or None,
+        "false_sharing": obj.useless if known else None,
+        "true_sharing": obj.useful if known else None,
+        "invalidations": view.invalidations(obj),
+        "reported_invalidations": obj.count,
+        "blocks": len(obj.lives),
+        "neighbours": [view.all[key].name for key in obj.beside],
+        "rate": rounded(view.worth.rate(obj.useless)),
+        "severity": severity(view, obj.useless),
+        "upper_bound": rounded(view.worth.at_most(obj)),
+        "invalidation_kinds": {KINDS[one]: much for one, much in kinds.items()} if kinds else None,
         "declared": {"file": seen.declared[0], "line": seen.declared[1]} if seen.declared else None,
-        "sites": [site(view, one) for one in it.example.sites]
-        if isinstance(it.example, Block)
+        "sites": [site(view, one) for one in obj.example.sites]
+        if isinstance(obj.example, Block)
         else [],
-        "todo": seen.todo,
-        "repaired": repaired(view, it),
-        "worst": worst.name if worst else None,
-        "lines": [line(spot, view.report.size) for spot in it.spots],
-        "words": [word(one, it.key) for one in seen.words],
-        "fights": [
+        "who": who(view, obj) or None,
+        "fix": seen.fix,
+        "tried": trial(view, obj),
+        "most_written": worst.name if worst else None,
+        "lines": [line(view, spot) for spot in obj.spots],
+        "words": [word(one, obj.key) for one in seen.words],
+        "conflicts": [
             {
-                "taker": instruction(view, one.taker),
+                "invalidator": instruction(view, one.taker),
                 "victim": instruction(view, one.victim),
-                "taken": one.taken,
-                "same": one.same,
-                "kind": kind_of(one, view.does),
+                "invalidations": one.taken,
+                "same_word": one.same,
+                "kind": KINDS[kind_of(one, view.does)],
             }
             for one in seen.fights()[:8]
         ],
         "harts": [
-            {"from": a, "to": b, "taken": taken}
-            for (a, b), taken in (sorted(explained.harts.items()) if explained else [])
+            {"victim": victim, "invalidator": invalidator, "invalidations": much}
+            for (victim, invalidator), much in (
+                sorted(explained.harts.items()) if explained else []
+            )
         ],
     }
 
 
-def foretold(view: View, it: Foretold) -> Record:
+def foretold(view: View, predicted: Foretold) -> Record:
     return {
-        "kind": it.line.kind,
-        "base": shown(it.line.base),
-        "size": it.line.size,
-        "start": it.line.start,
-        "count": it.line.count,
-        "verdict": it.line.verdict,
-        "objects": [view.name_of(key) for key in it.keys],
-        "useless": it.useless,
-        "inside": it.inside,
-        "shown": it.is_shown,
-        "why": it.why,
+        "kind": predicted.line.kind,
+        "base": shown(predicted.line.base),
+        "size": predicted.line.size,
+        "start": predicted.line.start,
+        "invalidations": predicted.line.count,
+        "verdict": predicted.line.verdict,
+        "objects": [view.name_of(key) for key in predicted.keys],
+        "false_sharing": predicted.useless,
+        "observed_false_sharing": predicted.inside,
+        "shown": predicted.is_shown,
+        "reason": predicted.why,
+    }
+
+
+def totals(view: View) -> Record | None:
+    total = view.misses.total if view.misses else None
+    return total and {
+        "cold": total["cold"],
+        "true_sharing": total["useful"],
+        "false_sharing": total["useless"],
     }
 
 
@@ -205,7 +242,7 @@ def record(view: View) -> Record:
         "subject": view.call.named,
         "program": {"file": program.path, "sha256": program.sha256} if program else None,
         "outcome": report.outcome,
-        "steps": report.steps,
+        "instructions": report.steps,
         "accesses": report.accesses,
         "layout": {"size": report.size, "offset": report.offset},
         "thresholds": dict(
@@ -214,7 +251,7 @@ def record(view: View) -> Record:
                 (None if it == "none" else int(it) for it in report.thresholds),
             )
         ),
-        "total": view.misses.total if view.misses else None,
+        "total": totals(view),
         "time": time_of(view),
         "objects": [thing(view, it) for it in view.chosen()],
         "predicted": [foretold(view, it) for it in view.foretold()],
@@ -223,7 +260,11 @@ def record(view: View) -> Record:
 
 
 def json_text(view: View) -> str:
-    return json.dumps(record(view), indent=1, ensure_ascii=True) + "\n"
+    """The record in the version that the call asks for."""
+    found = record(view)
+    if view.call.options.get("json-version") == "1":
+        found = downgrade(found)
+    return json.dumps(found, indent=1, ensure_ascii=True) + "\n"
 
 
 def location(view: View, file: str, number: int) -> Record:
@@ -238,61 +279,66 @@ def location(view: View, file: str, number: int) -> Record:
     return {"physicalLocation": {"artifactLocation": {"uri": uri}, "region": {"startLine": number}}}
 
 
-def told(text: str) -> str:
-    """A sentence."""
-    return text[:1].upper() + text[1:] + "."
+def sentences(view: View, obj: Thing) -> str:
+    """The fix of an object, and what trying it came to, as sentences."""
+    seen = view.seen(obj)
+    tried = f" Tried on this trace: {seen.tried}." if seen.tried else ""
+    return f"Fix: {seen.fix}.{tried}"
 
 
-def locations(view: View, it: Thing) -> list[Record]:
-    """Where an object's sharing happens in the sources: the lines that fight, and else where it is declared or made."""
-    fight = view.seen(it).fight()
+def locations(view: View, obj: Thing) -> list[Record]:
+    """Where an object's sharing happens in the sources: the conflicting instructions, and else where it is declared or made."""
+    fight = view.seen(obj).fight()
     places = (
         [view.naming.sources.place(at) for at in (fight.taker, fight.victim)]
         if fight and view.naming.sources
         else []
     )
     found = [location(view, place.file, place.line) for place in dict.fromkeys(places) if place]
-    declared = view.seen(it).declared
+    declared = view.seen(obj).declared
     return found or ([location(view, *declared)] if declared else [])
 
 
-def result(view: View, it: Thing) -> Record:
+def result(view: View, obj: Thing) -> Record:
     known = view.misses is not None
     is_false = (
-        it.useless >= it.useful
+        obj.useless >= obj.useful
         if known
-        else any(spot.line and spot.line.verdict != "true" for spot in it.spots)
+        else any(spot.line and spot.line.verdict != "true" for spot in obj.spots)
     )
-    much = (
-        f"{it.useless} useless and {it.useful} useful misses, count {it.count}"
-        if known
-        else f"count {it.count}"
-    )
-    declared = view.seen(it).declared
+    much = counted(view.invalidations(obj), "invalidation")
+    if known:
+        much = f"{counted(obj.useless, 'false-sharing miss')}, {obj.useful:,} true-sharing, {much}"
+    declared = view.seen(obj).declared
     return {
         "ruleId": "false-sharing" if is_false else "true-sharing",
         "level": "warning" if is_false else "note",
         "message": {
-            "text": f"{it.name}: {much}, lines: {len(it.spots)}. {told(view.seen(it).todo)}"
+            "text": f"{obj.name}: {much} on {counted(len(obj.spots), 'line')}. {sentences(view, obj)}"
         },
-        "locations": locations(view, it)[:1],
+        "locations": locations(view, obj)[:1],
         "relatedLocations": [
-            {**one, "message": {"text": "declared or made here"}}
+            {
+                **one,
+                "message": {
+                    "text": f"{'allocated' if isinstance(obj.example, Block) else 'declared'} here"
+                },
+            }
             for one in ([location(view, *declared)] if declared else [])
         ],
-        "partialFingerprints": {"object/v1": view.keys[it.key]},
+        "partialFingerprints": {"object/v1": view.keys[obj.key]},
     }
 
 
-def foreseen(view: View, it: Foretold) -> Record:
-    names = ", ".join(view.name_of(key) for key in it.keys) or "memory"
-    much = f"{it.useless} useless misses, {it.inside} as data lies"
-    declared = next((view.declared(view.all[key]) for key in it.keys), None)
+def foreseen(view: View, predicted: Foretold) -> Record:
+    names = ", ".join(view.name_of(key) for key in predicted.keys) or "memory"
+    much = f"{counted(predicted.useless or 0, 'false-sharing miss')} instead of {predicted.inside or 0:,}"
+    declared = next((view.declared(view.all[key]) for key in predicted.keys), None)
     return {
         "ruleId": "predicted-sharing",
         "level": "note",
         "message": {
-            "text": f"{names}: a {it.line.kind} line of {it.line.size} bytes would have {much}."
+            "text": f"{names}: a {predicted.line.kind} {predicted.line.size}-byte line would have {much}."
         },
         "locations": [location(view, *declared)] if declared else [],
     }
@@ -302,7 +348,7 @@ def sarif_text(view: View) -> str:
     """The objects, and the predicted lines that are shown, as results."""
     top = view.call.number("top", TOP)
     results = [result(view, it) for it in view.listed()[:top]] + [
-        foreseen(view, it) for it in view.foretold() if it.is_shown
+        foreseen(view, predicted) for predicted in view.foretold() if predicted.is_shown
     ]
     rules = [
         {

@@ -1,26 +1,39 @@
-"""The page: one file of HTML that needs no network and no script. Its template, page.html, escapes every name."""
+"""The HTML page: one file that needs no network and no script. Its template, page.html, escapes every name."""
 
 import os
 import re
-from typing import Iterator, Sequence
+from typing import Iterator, NamedTuple, Sequence
 
 from view.reading.calls import TOP
 from view.output.drawings import Given, templates
-from view.model.instruction_pairs import told
-from view.model.object_keys import Key, OfBlocks
-from view.model.view import Seen, View
 from view.model.foreign_objects import row_of
+from view.model.view import Seen, View
 from view.names.naming import shown
 from view.model.objects import Spot, Thing, Told, words_of
+from view.model.word_owners import joined
 from view.model.predicted_lines import Foretold
 from view.reading.reports import Takings
-from view.output.screen import counted, next_step
+from view.output.screen import (
+    counted,
+    details,
+    minors,
+    next_step,
+    numbers_of,
+    numbers_together,
+    order,
+    outcome_of,
+    same_words,
+    summary,
+    totals,
+    type_and_place,
+)
 
 # Colours that the colour blind tell apart (Okabe and Ito); each hart has a letter too.
 COLOURS = ("#e69f00", "#56b4e9", "#009e73", "#f0e442", "#8fb8ff", "#ff9f6b", "#e6a9c9", "#bdbdbd")
 MANY = "background:repeating-linear-gradient(45deg,#fff 0 6px,#c9c9c9 6px 9px)"
-# So many lines of an object, pairs of instructions, words in a row and lines of a source are drawn.
-LINES, PAIRS, ROW, AROUND, STRIPS = 24, 3, 16, 2, 24
+# So many lines of an object, pairs of instructions, words in a row, lines of a source, predicted lines and readers of a word are drawn.
+LINES, PAIRS, ROW, AROUND, STRIPS, READERS = 24, 3, 16, 2, 24, 6
+HEADS = ("false", "true", "inval", "lines")
 PLACE = re.compile(r"^0x[0-9a-f]+, (?=.)")
 # A line that has less than one part in so many of the object's worst line isn't drawn; nor, behind the first ones of an object, is one with
 # less than one part in so many of all.
@@ -35,63 +48,109 @@ def colour(hart: int) -> str:
     return COLOURS[hart % len(COLOURS)]
 
 
-def cell(word: Told, most: int, own: bool, strip: str = "", is_alone: bool = False) -> Given:
-    """A word's cell; `own` says whether the word is the object's, and `is_alone` whether it is the only one."""
-    hart = None if word.hart == "many" else int(word.hart)
-    # (a place on a stack without its address, which the title has)
-    field = PLACE.sub("", word.name.removeprefix(strip)) or (word.name if is_alone else "+0")
-    return {
-        "title": f"{shown(word.addr)} {word.name}: {word.reads} reads, {word.writes} writes, "
-        + ("many harts" if hart is None else f"hart {hart}"),
-        "letter": "✱" if hart is None else letter(hart),
-        "style": MANY if hart is None else f"background:{colour(hart)}",
-        "read_height": round(100 * word.reads / most),
-        "write_height": round(100 * word.writes / most),
-        "reads": word.reads,
-        "writes": word.writes,
-        "field": field if own else PLACE.sub("", word.name),
-    }
+class Users(NamedTuple):
+    """The thread that alone writes or uses a word, or none where several do; and the other threads that use it."""
+
+    owner: int | None
+    others: tuple[int, ...]
+
+
+def users_of(view: View, thing: Thing, word: Told) -> Users:
+    """The threads of a word: while threads run where the trace was read, and else in the whole run."""
+    tried = (view.tried or {}).get(thing.key)
+    found = tried.uses.of(word.addr) if tried and tried.uses and word.key == thing.key else {}
+    if not found:
+        return Users(None if word.hart == "many" else int(word.hart), ())
+    writers = sorted(hart for hart, use in found.items() if use.writes)
+    if len(writers) == 1 or not writers and len(found) == 1:
+        owner = writers[0] if writers else next(iter(found))
+        return Users(owner, tuple(it for it in sorted(found) if it != owner))
+    return Users(None, tuple(sorted(found)))
+
+
+def title_of(view: View, word: Told, users: Users) -> str:
+    """What a cell says of its word where a pointer rests on it."""
+    owner = view.naming.memory.owner
+    who = "several threads" if users.owner is None else owner(users.owner)
+    if users.others:
+        names = joined([owner(it) for it in users.others])
+        who = f"{who}: {names}" if users.owner is None else f"written by {who}, read by {names}"
+    numbers = f"{counted(word.reads, 'read')}, {counted(word.writes, 'write')}"
+    return f"{shown(word.addr)} {word.name}: {numbers}, {who}"
+
+
+class Cells(NamedTuple):
+    """What the cells of an object's words have in common: the object, its name, which its cells leave out, and the greatest number."""
+
+    view: View
+    thing: Thing | None
+    name: str
+    most: int
+    is_alone: bool
+
+    def cell(self, word: Told) -> Given:
+        """A word's cell, in the colour of the thread that writes it, with the letters of those that read it."""
+        own = self.thing is not None and word.key == self.thing.key
+        users = (
+            users_of(self.view, self.thing, word)
+            if self.thing is not None
+            else Users(None if word.hart == "many" else int(word.hart), ())
+        )
+        # (a place on a stack without its address, which the title has)
+        field = PLACE.sub("", word.name.removeprefix(self.name)) or (
+            word.name if self.is_alone else "+0"
+        )
+        return {
+            "title": title_of(self.view, word, users),
+            "letter": "✱" if users.owner is None else letter(users.owner),
+            "others": "".join(letter(it) for it in users.others[:READERS])
+            + ("…" if len(users.others) > READERS else ""),
+            "style": MANY if users.owner is None else f"background:{colour(users.owner)}",
+            "read_height": round(100 * word.reads / self.most),
+            "write_height": round(100 * word.writes / self.most),
+            "reads": word.reads,
+            "writes": word.writes,
+            "field": field if own else PLACE.sub("", word.name),
+        }
 
 
 def cells(
-    base: int, size: int, words: Sequence[Told], thing: Key | None, name: str
+    view: View, base: int, size: int, words: Sequence[Told], thing: Thing | None, name: str
 ) -> list[Given | None]:
     """The cells of a range, in order; none where a word wasn't accessed."""
     most = max([it.reads for it in words] + [it.writes for it in words] + [1])
-    at, is_alone = {it.addr: it for it in words}, sum(it.key == thing for it in words) < 2
-    return [
-        cell(at[it], most, at[it].key == thing, name, is_alone) if it in at else None
-        for it in range(base, base + size, 4)
-    ]
+    own = sum(thing is not None and it.key == thing.key for it in words)
+    made, at = Cells(view, thing, name, most, own < 2), {it.addr: it for it in words}
+    return [made.cell(at[it]) if it in at else None for it in range(base, base + size, 4)]
 
 
-def row(spot: Spot, seen: Seen, size: int) -> Given:
+def row(view: View, spot: Spot, seen: Seen, size: int) -> Given:
     """A line, in rows of words."""
     words = [it for it in seen.words if spot.base <= it.addr < spot.base + size]
-    own = cells(spot.base, size, words, seen.thing.key, seen.thing.name) if spot.told() else []
-    missed = (
-        f"{spot.missed.useless} useless and {spot.missed.useful} useful misses"
-        if spot.missed
-        else ""
-    )
+    own = cells(view, spot.base, size, words, seen.thing, seen.thing.name) if spot.told() else []
+    numbers = []
+    if spot.missed:
+        numbers.append(counted(spot.missed.useless, "false-sharing miss"))
+        numbers.append(f"{spot.missed.useful:,} true-sharing")
+    invalidations = view.invalidations_of(spot)
+    if invalidations is not None:
+        numbers.append(counted(invalidations, "invalidation"))
     return {
         "base": shown(spot.base),
-        "misses": missed,
-        "count": spot.line.count if spot.line else None,
-        "verdict": spot.line.verdict if spot.line else "",
+        "numbers": ", ".join(numbers),
         "parts": [own[it : it + ROW] for it in range(0, len(own), ROW)],
     }
 
 
 def matrix(explained: Takings) -> Given:
-    """How often each hart takes the line from each."""
+    """How often each thread invalidates the line in each other thread's cache."""
     harts = sorted({it for pair in explained.harts for it in pair})
     most = max(explained.harts.values(), default=1)
 
     def one(victim: int, taker: int) -> Given:
         taken = explained.harts.get((victim, taker), 0)
         return {
-            "text": taken or "",
+            "text": f"{taken:,}" if taken else "",
             "style": f"background:rgba(213,94,0,{0.75 * taken / most:.2f})" if taken else "",
         }
 
@@ -111,9 +170,9 @@ def side(view: View, addr: int, role: str) -> Given:
         for number in range(max(1, place.line - AROUND), min(len(text), place.line + AROUND) + 1):
             lines.append({"number": number, "text": text[number - 1], "hit": number == place.line})
     lacks = (
-        f"{place.file} isn't here: --sources tells where it is"
+        f"{place.file} isn't here: name its folder with --sources"
         if place
-        else "it has no line of a source"
+        else "no source line is known"
     )
     at = f", {shown(addr)}" if place else ""
     return {
@@ -125,13 +184,19 @@ def side(view: View, addr: int, role: str) -> Given:
 
 
 def pairs(view: View, seen: Seen) -> Iterator[Given]:
-    for it in seen.fights()[:PAIRS]:
-        sides = [side(view, it.taker, "takes the line"), side(view, it.victim, "loses it")]
-        yield {"taken": counted(it.taken, "time"), "same": it.same, "sides": sides}
+    for conflicting in seen.fights()[:PAIRS]:
+        sides = [
+            side(view, conflicting.taker, "invalidates"),
+            side(view, conflicting.victim, "loses the line"),
+        ]
+        yield {
+            "text": f"{counted(conflicting.taken, 'invalidation')}, {same_words(conflicting)}",
+            "sides": sides,
+        }
 
 
-def worth_drawing(view: View, it: Thing) -> list[Spot]:
-    """The first lines of an object, those left out that have few of the misses and counts of its worst one, or of all."""
+def worth_drawing(view: View, obj: Thing) -> list[Spot]:
+    """The first lines of an object, without those that have few of the misses and invalidations of its worst one, or of all."""
 
     def much(spot: Spot) -> int:
         return (spot.missed.useless + spot.missed.useful if spot.missed else 0) + (
@@ -139,9 +204,9 @@ def worth_drawing(view: View, it: Thing) -> list[Spot]:
         )
 
     total, worst = sum(one.useless + one.useful + one.count for one in view.things), much(
-        it.worst()
+        obj.worst()
     )
-    first = [one for one in it.worst_first()[:LINES] if one.told() and much(one) * FEW >= worst]
+    first = [one for one in obj.worst_first()[:LINES] if one.told() and much(one) * FEW >= worst]
     return [one for at, one in enumerate(first) if at < FIRST or much(one) * LITTLE >= total]
 
 
@@ -150,30 +215,22 @@ def in_code(text: str) -> list[str]:
     return text.split("`")
 
 
-def thing(view: View, it: Thing) -> Given:
+def thing(view: View, obj: Thing) -> Given:
     """One object as the template has it."""
-    seen = view.seen(it)
+    seen, drawn = view.seen(obj), sorted(worth_drawing(view, obj), key=lambda one: one.base)
     worst, fight = seen.worst(), seen.fight()
-    drawn = sorted(worth_drawing(view, it), key=lambda one: one.base)
     return {
-        "name": view.label(it) + it.note,
-        "useless": it.useless if view.misses else "-",
-        "useful": it.useful if view.misses else "-",
-        "count": it.count,
-        "lines": len(it.spots),
-        "lives": len(it.lives),
-        "is_block": isinstance(it.key, OfBlocks),
-        "beside": [view.label(view.all[key]) for key in it.beside],
+        "name": view.label(obj) + obj.note,
+        "type": type_and_place(view, obj, seen),
+        "numbers": [f"{one:,}" for one in numbers_of(view, obj)],
+        "beside": [view.label(view.all[key]) for key in obj.beside],
         "worst": worst.whole() if worst else "",
         "fight": [view.naming.instruction(at) for at in (fight.taker, fight.victim)]
         if fight
         else [],
-        "takings": told(view.takings(it) or {}, view.is_read(it)),
-        "worth": view.worth.told(it),
-        "declared": "{}:{}".format(*seen.declared) if seen.declared else "",
-        "todo": in_code(seen.todo),
-        "rows": [row(one, seen, view.report.size) for one in drawn],
-        "more": len(it.spots) - len(drawn),
+        "details": [(label, in_code(text)) for label, text in details(view, obj)],
+        "rows": [row(view, one, seen, view.report.size) for one in drawn],
+        "more": len(obj.spots) - len(drawn),
         "explained": shown(seen.explained.base) if seen.explained else "",
         "matrix": matrix(seen.explained) if seen.explained and seen.explained.harts else None,
         "pairs": list(pairs(view, seen)),
@@ -188,90 +245,112 @@ def strip(view: View, foretold: Foretold, observed: dict[int, Spot]) -> Given:
     own = words_of(Spot(line.base, line, None), view.naming, view.by_word)
     beside = [
         word
-        for it in bases
-        if it in observed
-        for word in words_of(observed[it], view.naming, view.by_word)
+        for base in bases
+        if base in observed
+        for word in words_of(observed[base], view.naming, view.by_word)
     ]
     words = own + [it for it in beside if not line.base <= it.addr < line.base + line.size]
     name = view.name_of(next(iter(foretold.keys))) if len(foretold.keys) == 1 else ""
-    told = f"count {line.count}"
+    told = counted(line.count, "invalidation")
     if foretold.useless is not None:
-        told = f"{foretold.useless} useless misses if it were one, {foretold.inside} in the lines as they lie"
+        told = (
+            f"{counted(foretold.useless, 'false-sharing miss')} instead of {foretold.inside or 0:,}"
+        )
+    key = next(iter(foretold.keys), None)
     return {
         "name": ", ".join(view.name_of(key) for key in foretold.keys) or "memory",
         "kind": line.kind,
         "base": shown(line.base),
         "told": told,
-        "words": cells(first, len(bases) * size, words, next(iter(foretold.keys), None), name),
+        "words": cells(
+            view, first, len(bases) * size, words, view.all[key] if key in view.all else None, name
+        ),
         "first": (line.base - first) // 4 + 1,
         "last": (line.base + line.size - first) // 4 + 1,
     }
 
 
 def library(view: View) -> str:
-    """What is said of the objects of the C library, which aren't drawn, or nothing."""
-    numbers, text = row_of(view.folded(), view.misses is not None, bool(view.runtime))
-    return (
-        "{} useless, {} useful, count {}, lines {}: {}".format(*numbers, text)
-        if view.folded()
-        else ""
-    )
+    """The row that the objects of the C library share, which aren't drawn, or nothing."""
+    if not view.folded():
+        return ""
+    *misses, invalidations, lines = numbers_together(view, view.folded())
+    names = ("false-sharing miss", "true-sharing miss")
+    parts = [counted(many, name) for many, name in zip(misses, names)]
+    parts += [counted(invalidations, "invalidation"), counted(lines, "line")]
+    return f"{row_of(view.folded(), bool(view.runtime))}: {', '.join(parts)}"
 
 
 def title(view: View, chosen: Sequence[Thing]) -> str:
-    """What is seen, in a sentence: `chosen` are the objects that have a row."""
+    """The worst object in a sentence: `chosen` are the objects that have a row."""
     name = os.path.basename(view.call.named)
     if not chosen:
-        return f"{name}: {'objects of libraries alone are' if view.folded() else 'no line is'} fought over"
-    useless = view.misses.total["useless"] if view.misses else 0
-    how = (
-        f"{chosen[0].useless} of {useless} useless misses"
-        if useless
-        else f"a count of {chosen[0].count}"
-    )
-    return f"{name}: the worst object is {view.label(chosen[0])}, with {how}"
+        return f"{name}: {'only library objects are' if view.folded() else 'no line is'} contended"
+    first, useless = chosen[0], view.misses.total["useless"] if view.misses else 0
+    if useless:
+        how = f"{first.useless:,} of {counted(useless, 'false-sharing miss')}"
+    else:
+        how = counted(view.invalidations(first), "invalidation")
+    return f"{name}: {view.label(first)} has {how}"
 
 
 def page(view: View) -> str:
     """The whole page."""
-    chosen, top = view.listed(), view.call.number("top", TOP)
-    objects = [thing(view, it) for it in chosen[:top]]
+    top = view.call.number("top", TOP)
+    chosen = [it for it in view.listed() if not view.is_minor(it)]
+    first = chosen[:top]
     is_all = "predicted" in view.call.options
     observed, foretold = {
-        spot.base: spot for it in view.things for spot in it.spots if spot.line
+        spot.base: spot for obj in view.things for spot in obj.spots if spot.line
     }, view.foretold()
     strips = [
-        strip(view, it, observed)
-        for it in [one for one in foretold if one.is_shown or is_all][:STRIPS]
+        strip(view, predicted, observed)
+        for predicted in [one for one in foretold if one.is_shown or is_all][:STRIPS]
     ]
-    drawn = [word for it in chosen[:top] for word in view.seen(it).words] + [
-        word for it in foretold[: len(strips)] for word in it.line.words()
-    ]
-    taking = {
-        hart
-        for it in chosen[:top]
-        if (explained := view.seen(it).explained)
-        for pair in explained.harts
-        for hart in pair
-    }
-    harts = sorted({int(it.hart) for it in drawn if it.hart != "many"} | taking)
+    harts, has_many = threads_of(view, first, foretold[: len(strips)])
     return (
         templates()
         .get_template("page.html")
         .render(
             title=title(view, chosen),
-            report=view.report,
+            ended_well=view.report.ended_well(),
+            outcome=outcome_of(view),
+            summary=summary(view),
             next_step=next_step(view),
-            total=view.misses.total if view.misses else None,
-            worth=view.worth.total(),
+            totals=totals(view) if view.misses else "",
+            heads=HEADS[0 if view.misses else 2 :],
+            order=order(view, first),
             notes=view.notes,
-            objects=objects,
+            objects=[thing(view, it) for it in first],
             more=max(0, len(chosen) - top),
+            minors=minors(view, [it for it in view.listed() if view.is_minor(it)]),
             library=library(view),
-            harts=[{"hart": it, "letter": letter(it), "colour": colour(it)} for it in harts],
-            has_many=any(it.hart == "many" for it in drawn),
+            harts=harts,
+            has_many=has_many,
             many=MANY,
             predicted=strips,
             folded=len(foretold) - len(strips),
         )
     )
+
+
+def threads_of(
+    view: View, things: Sequence[Thing], foretold: Sequence[Foretold]
+) -> tuple[list[Given], bool]:
+    """The threads that are drawn, each with its letter and colour, and whether a word of several threads is."""
+    used = [users_of(view, it, word) for it in things for word in view.seen(it).words]
+    harts = [word.hart for it in foretold for word in it.line.words()]
+    found = {it.owner for it in used} | {hart for it in used for hart in it.others}
+    found |= {None if it == "many" else int(it) for it in harts}
+    found |= {
+        hart
+        for obj in things
+        if (explained := view.seen(obj).explained)
+        for pair in explained.harts
+        for hart in pair
+    }
+    owner = view.naming.memory.owner
+    return [
+        {"name": owner(hart), "letter": letter(hart), "colour": colour(hart)}
+        for hart in sorted(it for it in found if it is not None)
+    ], None in found

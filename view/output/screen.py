@@ -1,9 +1,10 @@
-"""The first screen. Its text says all; colours on a terminal only help the eye."""
+"""The first screen as text. Colours on a terminal only help the eye."""
 
 import os
+import shutil
 import sys
 import textwrap
-from typing import Iterator, Sequence, TextIO
+from typing import Iterator, NamedTuple, Sequence, TextIO
 
 from view.repairs.advice import attribute, listing
 from view.reading.calls import TOP
@@ -11,19 +12,27 @@ from view.faults import plain
 from view.model.instruction_pairs import ATOMIC, LOAD, STORE, UNKNOWN, kind_of, told
 from view.model.object_keys import OfBlocks
 from view.model.foreign_objects import row_of
-from view.model.view import RARE, View
+from view.model.view import RARE, Seen, View
 from view.model.objects import Thing, Told
 from view.model.stack_overflow import is_strange
+from view.model.word_owners import who
 from view.model.predicted_lines import UNCOUNTED, Foretold, inside, together
+from view.reading.engine import setting
+from view.reading.reports import Pair
+from view.model.miss_rates import settings_of
 
 BOLD, RED, DIM, END = "1", "1;31", "2", "0"
-# So many rows are looked at first; so many of an object's neighbours are named, and of the objects that a predicted line would have.
+# So many rows are looked at first, and so many objects of a predicted line or of those without a row are named.
 MOST = 3
-# How a pair takes a line.
+# The width where no terminal says one, and the least and greatest of a terminal that is used.
+WIDTH, LEAST_WIDTH, GREATEST_WIDTH = 100, 60, 120
+# The column of numbers is so wide at least, and a label below a row, from the edge of the first column on.
+NUMBER, LABEL = 8, 8
+# How a pair of instructions invalidates a line.
 BY = {
-    ATOMIC: "; by an atomic instruction",
-    LOAD: "; from a load",
-    STORE: "; a store over a store",
+    ATOMIC: " (atomic instruction)",
+    LOAD: " (write after read)",
+    STORE: " (write after write)",
     UNKNOWN: "",
 }
 
@@ -40,63 +49,16 @@ class Paint:
         return f"\033[{code}m{text}\033[{END}m" if self.is_on else text
 
 
-def outcome(view: View, paint: Paint, width: int) -> Iterator[str]:
-    """How the run ended: loudly where that isn't exit 0."""
-    report, naming = view.report, view.naming
-    told = report.outcome
-    if told.startswith("trap") and naming.sources:
-        told += f", at {naming.instruction(int(told.split(' ')[4], 16))}"
-    if not report.ended_well():
-        yield paint(RED, plain(f"!! THE RUN DIDN'T END BY EXIT 0: {told}"))
-        yield paint(RED, f"!! {next_step(view)}")
-    layout = f"lines of {report.size} bytes" + (
-        f" at offset {report.offset}" if report.offset else ""
-    )
-    yield plain(f"outcome {told}, {report.steps} steps, {report.accesses} accesses, {layout}")
-    if view.misses:
-        total = view.misses.total
-        yield f"misses: {total['useless']} useless, {total['useful']} useful, {total['cold']} cold"
-        yield from fold(f"time: {view.worth.total()}", "", "      ", width)
-        if view.is_clean():
-            yield f"nothing here is worth doing: fewer than one access in {RARE:,} misses what another hart has taken"
-
-
-def shared(view: View, rows: Sequence[Thing]) -> str:
-    """That most misses are what threads really share of one object, where that doesn't stand among the first; or nothing."""
-    most = max(rows, key=lambda it: it.useful, default=None)
-    if most is None or most in rows[:MOST] or 2 * most.useful <= view.total():
-        return ""
-    name = view.naming.names.shortened(view.label(most))
-    where = f"in row {rows.index(most) + 1}"
-    return f"{most.useful} of the {view.total()} misses that aren't cold are true sharing of one object, {where}: {name}"
-
-
-def next_step(view: View) -> str:
-    """What to do about a run that didn't end by exit 0."""
-    outcome, sources = view.report.outcome, view.naming.sources
-    if view.overflow:
-        return view.overflow.told()
-    if outcome.endswith(("load-misaligned", "store-misaligned")):
-        return "its address is no multiple of its size: use `memcpy`, or a type with `__attribute__((packed))`, which goes by bytes"
-    if sources and is_strange(outcome, sources.code):
-        return (
-            "it jumped to where no code is: by a pointer to no function, or by a return address that was overwritten, as by a stack that "
-            "is too small (`--set stack=1048576`)"
-        )
-    advice = {
-        "budget": "it took all steps of its `budget`; the setting may be larger",
-        "deadlock": "no hart could run any more",
-        "part": "a signal ended the program, or its trace was cut",
-    }
-    return advice.get(outcome, "what follows is what it did until then")
-
-
-def owner(word: Told) -> str:
-    return "many harts" if word.hart == "many" else f"hart {word.hart}"
+def width_of_screen(out: TextIO = sys.stdout) -> int:
+    """The columns of a terminal, as far as lines of that length read well, and else the usual number."""
+    if not out.isatty():
+        return WIDTH
+    return max(LEAST_WIDTH, min(shutil.get_terminal_size().columns, GREATEST_WIDTH))
 
 
 def counted(number: int, what: str) -> str:
-    return f"{number} {what}" + ("" if number == 1 else "s")
+    """A number of things, as `1 line` or `1,024 lines`."""
+    return f"{number:,} {what}" + ("" if number == 1 else "es" if what.endswith("s") else "s")
 
 
 def fold(text: str, first: str, rest: str, width: int) -> list[str]:
@@ -110,53 +72,198 @@ def fold(text: str, first: str, rest: str, width: int) -> list[str]:
     )
 
 
-def row(view: View, place: int, thing: Thing, paint: Paint, width: int) -> Iterator[str]:
-    """One object: its numbers and name, and below it the worst field, the fighting lines and what to do."""
+def outcome_of(view: View) -> str:
+    """How the run ended, with the source line of a trap."""
+    outcome, naming = view.report.outcome, view.naming
+    if outcome.startswith("trap") and naming.sources:
+        return f"{outcome}, at {naming.instruction(int(outcome.split(' ')[4], 16))}"
+    return outcome
+
+
+def interleaving(view: View) -> str:
+    """The quantum, seed or schedule of a run, or nothing where that isn't known."""
+    if view.call.how != "run":
+        return ""
+    schedule = view.call.value_of("--schedule")
+    if schedule:
+        return f", schedule {os.path.basename(schedule)}"
+    seed = setting(view.call.settings_words(), "seed")
+    return f", quantum {settings_of(view.call)[1]:,}" + (f", seed {seed}" if seed else "")
+
+
+def summary(view: View) -> str:
+    """What was run, how it ended, how much it did, and under which layout and interleaving it was counted."""
+    report = view.report
+    name = "standard input" if view.call.named == "-" else os.path.basename(view.call.named)
+    did = [counted(report.accesses, "access")]
+    if report.steps:
+        did.insert(0, counted(report.steps, "instruction"))
+    offset = f" at offset {report.offset}" if report.offset else ""
+    layout = f"{report.size}-byte lines{offset}{interleaving(view)}"
+    return f"{name}: {outcome_of(view)}, {', '.join(did)}; {layout}"
+
+
+def totals(view: View) -> str:
+    """The misses of the whole trace, with the rate of false sharing and its severity."""
+    total = view.misses.total if view.misses else {}
+    rate = view.worth.total()
+    numbers = (
+        f"{counted(total['useless'], 'false-sharing miss')}, "
+        f"{total['useful']:,} true-sharing, {total['cold']:,} cold"
+    )
+    return numbers + (f": {rate}" if rate else "")
+
+
+def outcome(view: View, paint: Paint, width: int) -> Iterator[str]:
+    """The first lines: how the run ended, loudly where that isn't exit 0, and all its misses."""
+    if not view.report.ended_well():
+        yield from (
+            paint(RED, row)
+            for text in (f"THE RUN DID NOT END WITH EXIT 0: {outcome_of(view)}", next_step(view))
+            for row in fold(f"!! {text}", "", "   ", width)
+        )
+    yield from fold(summary(view), "", "  ", width)
+    if view.misses:
+        yield from fold(totals(view), "", "  ", width)
+        if view.is_clean():
+            yield from fold(
+                f"no change is worth it: fewer than one in {RARE:,} accesses is a sharing miss",
+                "",
+                "  ",
+                width,
+            )
+
+
+def shared(view: View, rows: Sequence[Thing]) -> str:
+    """That most misses are true sharing of one object, where that doesn't stand among the first; or nothing."""
+    most = max(rows, key=lambda obj: obj.useful, default=None)
+    if most is None or most in rows[:MOST] or 2 * most.useful <= view.total():
+        return ""
+    name = view.naming.names.shortened(view.label(most))
+    row = rows.index(most) + 1
+    return f"{most.useful:,} of all {view.total():,} sharing misses are true sharing of one object, in row {row}: {name}"
+
+
+def next_step(view: View) -> str:
+    """What to do about a run that didn't end with exit 0."""
+    outcome, sources = view.report.outcome, view.naming.sources
+    if view.overflow:
+        return view.overflow.told()
+    if outcome.endswith(("load-misaligned", "store-misaligned")):
+        return "the address isn't a multiple of the access size: use `memcpy`, or a type with `__attribute__((packed))`"
+    if sources and is_strange(outcome, sources.code):
+        return (
+            "the program jumped to an address without code, through a bad function pointer or an overwritten return address; "
+            "a stack that is too small does this too (`--set stack=1048576`)"
+        )
+    advice = {
+        "budget": "the run used up its budget of instructions: raise the setting `budget`",
+        "deadlock": "no thread could run any more",
+        "part": "a signal ended the program, or the trace was cut",
+    }
+    return advice.get(outcome, "the report covers the run up to that point")
+
+
+def type_and_place(view: View, thing: Thing, seen: Seen) -> str:
+    """The type of an object and where it is declared, or how many blocks a call site has; or nothing."""
+    parts = [view.type_of(thing)]
+    if isinstance(thing.key, OfBlocks):
+        many = f" ({len(thing.lives):,} blocks)" if len(thing.lives) > 1 else ""
+        return (f": {parts[0]}" if parts[0] else "") + many
+    if seen.declared:
+        parts.append(f"{os.path.basename(seen.declared[0])}:{seen.declared[1]}")
+    found = ", ".join(filter(None, parts))
+    return f": {found}" if found else ""
+
+
+def same_words(pair: Pair) -> str:
+    """How often the two instructions of a pair used the same word."""
+    if not pair.same:
+        return "always different words"
+    if pair.same == pair.taken:
+        return "always the same word"
+    return f"{pair.same:,} of them on the same word"
+
+
+def conflict(view: View, pair: Pair) -> str:
+    """A pair of instructions that conflict on a line."""
+    victim, invalidator = (view.naming.instruction(it) for it in pair[:2])
+    times = counted(pair.taken, "time")
+    return f"{invalidator} invalidates {victim}: {times}, {same_words(pair)}{BY[kind_of(pair, view.does)]}"
+
+
+def where(view: View, thing: Thing) -> list[str]:
+    """The instructions that conflict most on an object's worst line, with `--words` all, and the invalidations of the line by kind."""
+    pairs = view.seen(thing).fights()[: None if "words" in view.call.options else 1]
+    rows = [conflict(view, it) for it in pairs]
+    kinds = told(view.takings(thing) or {}, view.is_read(thing))
+    if rows and kinds:
+        rows[0] += f"; in all {kinds}"
+    return rows
+
+
+def details(view: View, thing: Thing) -> Iterator[tuple[str, str]]:
+    """The rows below an object's, each with its label."""
+    seen = view.seen(thing)
+    for text in where(view, thing):
+        yield "where", text
+    for label, text in (("who", who(view, thing)), ("fix", seen.fix), ("tried", seen.tried)):
+        if text:
+            yield label, text
+
+
+class Table(NamedTuple):
+    """The columns of the table: the widths of a row's rank and of each number, and whether misses are known."""
+
+    rank: int
+    widths: tuple[int, ...]
+    has_misses: bool
+
+    def head(self) -> str:
+        names = ("false", "true", "inval", "lines") if self.has_misses else ("inval", "lines")
+        cells = "".join(f"{it:>{width}}" for it, width in zip(names, self.widths))
+        return f"{'':{self.rank}}{cells}  object"
+
+    def cells(self, rank: object, numbers: Sequence[int]) -> str:
+        cells = "".join(f"{it:>{width},}" for it, width in zip(numbers, self.widths))
+        return f"{rank!s:>{self.rank}}{cells}  "
+
+
+def numbers_of(view: View, thing: Thing) -> list[int]:
+    """The numbers of an object's row."""
+    misses = [thing.useless, thing.useful] if view.misses else []
+    return [*misses, view.invalidations(thing), len(thing.spots)]
+
+
+def numbers_together(view: View, things: Sequence[Thing]) -> list[int]:
+    """The numbers of a row that objects share."""
+    return [sum(own) for own in zip(*(numbers_of(view, it) for it in things))]
+
+
+def table_of(view: View, rows: Sequence[Thing]) -> Table:
+    """The columns that have room for the numbers of some rows and of the library's."""
+    found = [numbers_of(view, it) for it in rows]
+    if view.folded():
+        found.append(numbers_together(view, view.folded()))
+    wide = [max(NUMBER, *(len(f"{it:,}") + 2 for it in own)) for own in zip(*found)]
+    rank = len(str(len(rows)))
+    # (the rank and the first number share eight columns, as long as these do)
+    wide[0] = max(wide[0] - rank, *(len(f"{own[0]:,}") + 1 for own in found))
+    return Table(rank, tuple(wide), view.misses is not None)
+
+
+def row(view: View, place: int, thing: Thing, paint: Paint, width: int, table: Table) -> list[str]:
+    """One object: its numbers and name, and below it where it is contended, who uses it, the fix, and what that was counted to save."""
     seen, short = view.seen(thing), view.naming.names.shortened
-    numbers: list[int | str] = [thing.useless, thing.useful] if view.misses else ["-", "-"]
-    lives = (
-        f" ({len(thing.lives)} lives)"
-        if isinstance(thing.key, OfBlocks) and len(thing.lives) > 1
-        else ""
-    )
-    beside = [view.label(view.all[it]) for it in thing.beside]
-    near = (
-        f", beside {', '.join(beside[:MOST])}"
-        + (f" and {len(beside) - MOST} more" if len(beside) > MOST else "")
-        if beside
-        else ""
-    )
-    cells = "".join(f" {it:>8}" for it in (*numbers, thing.count))
-    name = paint(BOLD, plain(short(view.label(thing))))
-    yield f"{place:>3} {cells} {len(thing.spots):>6}  {name}" + plain(
-        lives + short(near + thing.note)
-    )
-    worst = seen.worst()
-    if worst:
-        much = (
-            f"{counted(worst.writes, 'write')} and {counted(worst.reads, 'read')} by {owner(worst)}"
-        )
-        yield from fold(f"worst field  {short(worst.whole())}: {much}", " " * 8, " " * 21, width)
-    for fight in seen.fights()[: None if "words" in view.call.options else 1]:
-        one, other = (view.naming.instruction(it) for it in fight[:2])
-        took = counted(fight.taken, "time") + (
-            f", {fight.same} of them for the same word"
-            if fight.same
-            else ", never for the same word"
-        )
-        kind = BY[kind_of(fight, view.does)]
-        yield from fold(
-            short(f"fighting     {other} takes the line from {one}, {took}{kind}"),
-            " " * 8,
-            " " * 21,
-            width,
-        )
-    taken, worth = told(view.takings(thing) or {}, view.is_read(thing)), view.worth.told(thing)
-    if taken:
-        yield from fold(f"takings      {taken}", " " * 8, " " * 21, width)
-    if worth:
-        yield from fold(f"in time      {worth}", " " * 8, " " * 21, width)
-    yield from fold(short(f"to do        {seen.todo}"), " " * 8, " " * 21, width)
+    cells = table.cells(place, numbers_of(view, thing))
+    name = short(view.label(thing) + type_and_place(view, thing, seen) + thing.note)
+    first, *rest = fold(name, cells, " " * len(cells), max(width, len(cells) + MOST * LABEL))
+    rows = [cells + paint(BOLD, first[len(cells) :]), *(paint(BOLD, it) for it in rest)]
+    indent = table.rank + 2
+    for label, text in details(view, thing):
+        head = f"{'':{indent}}{label:<{LABEL}}"
+        rows += fold(short(text.replace("`", "")), head, " " * len(head), width)
+    return rows
 
 
 def is_one(word: Told, other: Told) -> bool:
@@ -189,17 +296,23 @@ def wholes(words: Sequence[Told]) -> Iterator[Told]:
         at += 2 if both else 1
 
 
-def words_table(view: View, thing: Thing) -> Iterator[str]:
+def words_table(view: View, thing: Thing, paint: Paint, indent: str) -> Iterator[str]:
     """The words of an object's lines."""
-    short = view.naming.names.shortened
-    for it in wholes(view.seen(thing).words):
-        needed = "" if it.useful is None else f"{it.useful:>9}"
+    short, words = view.naming.names.shortened, [*wholes(view.seen(thing).words)]
+    if not words:
+        return
+    owners = {it: it.owner.removeprefix("several ") for it in words}
+    wide = max(len("thread"), *map(len, owners.values()))
+    alone = "" if view.by_word is None else "    alone"
+    yield paint(DIM, f"{indent}{'address':<10}    reads   writes{alone}  {'thread':<{wide}}  field")
+    for word in words:
+        needed = "" if word.useful is None else f"{word.useful:>9,}"
         other = (
             ""
-            if it.key == thing.key
-            else f"  ({plain(short(view.all[it.key].name)) if it.key in view.all else 'another object'})"
+            if word.key == thing.key
+            else f"  ({plain(short(view.all[word.key].name)) if word.key in view.all else 'another object'})"
         )
-        yield f"        0x{it.addr:08x}{it.reads:>9}{it.writes:>9}{needed}  {it.hart:<5} {plain(short(it.name))}{other}"
+        yield f"{indent}0x{word.addr:08x}{word.reads:>9,}{word.writes:>9,}{needed}  {owners[word]:<{wide}}  {plain(short(word.name))}{other}"
 
 
 def prediction(view: View, group: Sequence[Foretold]) -> str:
@@ -209,63 +322,96 @@ def prediction(view: View, group: Sequence[Foretold]) -> str:
     what = (
         ", ".join(names[:MOST]) + (f" and {len(names) - MOST} more" if len(names) > MOST else "")
     ) or "memory"
-    size, where = first.line.size, listing(bases)
+    size, at = first.line.size, listing(bases)
     how = (
-        f"lines of {size} bytes (at {where})"
-        if first.line.kind == "doubled"
-        else f"lines that begin at {where}"
+        f"{size}-byte lines at {at}" if first.line.kind == "doubled" else f"lines starting at {at}"
     )
     if first.useless is None or view.misses is None:
-        much = f"count {sum(it.line.count for it in group)}"
+        much = counted(sum(it.line.count for it in group), "invalidation")
     else:
         seen = inside([it.line for it in group], view.misses)
-        much = f"{sum(it.useless or 0 for it in group)} useless misses, {seen} as it lies"
-    apart = f"; `{attribute(size)}` keeps apart what meets there"
-    return f"{what}: with {how}, {much}" + (f" (folded: {first.why})" if first.why else apart)
+        much = f"{sum(it.useless or 0 for it in group):,} false-sharing misses instead of {seen:,}"
+    apart = f"; {attribute(size)} separates the threads' words"
+    return f"{what}: with {how}, {much}" + (f" (not expected: {first.why})" if first.why else apart)
 
 
 def predictions(view: View, paint: Paint, width: int) -> Iterator[str]:
+    """The predicted lines that are shown, and how many aren't."""
     found, is_all = view.foretold(), "predicted" in view.call.options
-    shown = [it for it in found if it.is_shown or is_all]
-    folded = len(found) - len(shown)
-    if shown:
-        yield paint(BOLD, "Predicted: what would be so if data lay otherwise, or lines were longer")
-    for it in together(shown):
-        yield from fold(view.naming.names.shortened(prediction(view, it)), "    ", "      ", width)
-    if folded:
-        more = (
-            "can't come to be, or weren't counted"
-            if any(it.why == UNCOUNTED for it in found) and view.misses
-            else "or can't come to be"
+    chosen = [it for it in found if it.is_shown or is_all]
+    folded = len(found) - len(chosen)
+    if chosen:
+        yield ""
+        yield paint(BOLD, "predicted, if data were placed otherwise or lines were longer:")
+    for group in together(chosen):
+        yield from fold(
+            view.naming.names.shortened(prediction(view, group)), "   ", "      ", width
         )
-        why = f"since {'it says' if folded == 1 else 'they say'} no more, {more}: --predicted shows all"
-        yield paint(DIM, f"{counted(folded, 'predicted line')} folded away, {why}")
+    if folded:
+        reasons = "add no false sharing or can't occur with the data's alignment"
+        if view.misses and any(it.why == UNCOUNTED for it in found):
+            reasons = f"weren't counted, {reasons}"
+        text = f"{counted(folded, 'predicted line')} not shown, as they {reasons} (--predicted shows all)"
+        yield from (paint(DIM, it) for it in fold(text, "", "  ", width))
 
 
-def screen(view: View, paint: Paint, width: int = 110) -> Iterator[str]:
+def order(view: View, rows: Sequence[Thing]) -> str:
+    """By what rows are sorted, where that isn't their first column; or nothing."""
+    leading = [numbers_of(view, it)[0] for it in rows]
+    if leading == sorted(leading, reverse=True):
+        return ""
+    return "sorted by the misses that a fix would save, less where store buffers hide them"
+
+
+def minors(view: View, rows: Sequence[Thing]) -> str:
+    """The objects that aren't worth a change, and their misses, or nothing."""
+    if not rows:
+        return ""
+    names = [view.naming.names.shortened(view.label(it)) for it in rows]
+    more = len(names) - MOST
+    listed = ", ".join(names[:MOST]) + f" and {more} more" if more > 0 else ", ".join(names)
+    much = sum(it.useless + it.useful for it in rows)
+    together = " together" if len(rows) > 1 else ""
+    return f"not worth a change: {listed} ({counted(much, 'miss')}{together})"
+
+
+def screen(view: View, paint: Paint, width: int = WIDTH) -> Iterator[str]:
     """The whole screen, as lines."""
     yield from outcome(view, paint, width)
-    chosen, top = view.listed(), view.call.number("top", TOP)
-    for it in filter(None, (*view.notes, shared(view, chosen))):
-        yield from fold(f"note: {it}", "", "      ", width)
+    listed, top = view.listed(), view.call.number("top", TOP)
+    rows = [it for it in listed if not view.is_minor(it)]
+    for note in filter(None, (*view.notes, shared(view, rows))):
+        yield from fold(f"note: {note}", "", "  ", width)
     name = view.call.options.get("object")
     if not view.chosen():
-        yield f"nothing is fought over on {plain(name)}" if name else "no line is fought over"
+        yield f"{plain(name)} is not contended" if name else "no line is contended"
     else:
-        yield paint(DIM, "      useless   useful    count  lines  object")
-    for place, thing in enumerate(chosen[:top], 1):
-        yield from row(view, place, thing, paint, width)
-        if "words" in view.call.options and view.seen(thing).words:
-            needs = "" if view.by_word is None else "   needed"
-            yield paint(DIM, f"        {'word':<10}    reads   writes{needs}  hart  field")
-            yield from words_table(view, thing)
-    if view.folded():
-        numbers, text = row_of(view.folded(), view.misses is not None, bool(view.runtime))
-        yield "    " + "".join(
-            f" {it:>8}" for it in numbers[:3]
-        ) + f" {numbers[3]:>6}  {paint(DIM, text)}"
-    if len(chosen) > top:
-        yield paint(
-            DIM, f"{counted(len(chosen) - top, 'more object')}: --top {len(chosen)} shows all"
-        )
+        yield from table_rows(view, rows, top, paint, width)
+    rest = minors(view, [it for it in listed if view.is_minor(it)])
+    if rest:
+        yield ""
+        yield from fold(rest, "", "  ", width)
     yield from predictions(view, paint, width)
+
+
+def table_rows(
+    view: View, rows: Sequence[Thing], top: int, paint: Paint, width: int
+) -> Iterator[str]:
+    """The table: its head, the first rows, that of the library's objects, and how many more there are."""
+    shown = rows[:top]
+    table = table_of(view, shown)
+    yield ""
+    by = order(view, shown)
+    if by:
+        yield paint(DIM, f"{by}:")
+    yield paint(DIM, table.head())
+    for place, thing in enumerate(shown, 1):
+        yield from row(view, place, thing, paint, width, table)
+        if "words" in view.call.options:
+            yield from words_table(view, thing, paint, " " * (table.rank + 2 + LABEL))
+    if view.folded():
+        numbers = numbers_together(view, view.folded())
+        yield table.cells("", numbers) + paint(DIM, row_of(view.folded(), bool(view.runtime)))
+    if len(rows) > top:
+        more = counted(len(rows) - top, "more object")
+        yield paint(DIM, f"{more} (--top {len(rows)} shows all)")

@@ -1,4 +1,4 @@
-"""The totals of a trace under every shift of its lines: `predator view sweep TRACE --size N`. The program counts; this draws."""
+"""The invalidations of a trace under every shift of its lines: `predator view sweep TRACE --size N`. The program counts; this draws."""
 
 import contextlib
 import os
@@ -19,7 +19,7 @@ OBJECTS = 10
 
 
 class Shift(NamedTuple):
-    """Where lines begin, how often lines are then taken in all, and how many of them are."""
+    """Where lines begin, and then the invalidations of all lines, and how many lines have some."""
 
     shift: int
     total: int
@@ -27,7 +27,7 @@ class Shift(NamedTuple):
 
 
 class Sweep:
-    """What `sweep` prints; `own` is the layout of the trace as it lies, and `most` and `least` are those that count most and least: `own`
+    """The output of `sweep`; `own` is the layout of the trace as placed, and `most` and `least` are those that count most and least: `own`
     where none differs from it."""
 
     def __init__(self, text: str, of: str = "sweep") -> None:
@@ -35,55 +35,51 @@ class Sweep:
         least = re.search(r"^least (\d+) total (\d+)\nend\n", text, re.MULTILINE)
         self.shifts = [Shift(*map(int, it)) for it in SHIFT.findall(text)]
         if not head or not least or not self.shifts or self.shifts[0].shift != 0:
-            raise Fault(f"{of}: it isn't what `sweep` prints")
+            raise Fault(f"{of}: unexpected output of `predator sweep`")
         self.size, self.accesses = int(head[1]), int(head[2])
         self.own = self.shifts[0]
         self.least = next((it for it in self.shifts if it.shift == int(least[1])), self.own)
-        self.most = max(self.shifts, key=lambda it: it.total)
+        self.most = max(self.shifts, key=lambda shift: shift.total)
         self.objects: list[Crossed] = []
 
     def ends(self) -> list[Shift]:
-        """The shifts that are looked at: the trace's own, the one that counts most and the one that counts least, each once."""
+        """The shifts that are shown by objects: the trace's own, the one that counts most and the one that counts least, each once."""
         return [*{it.shift: it for it in (self.own, self.most, self.least)}.values()]
 
     def look(self, trace: str) -> None:
-        """Asks whose lines are taken under these shifts."""
+        """Finds the objects on the contended lines under these shifts."""
         if self.most.total:
             totals = {it.shift: it.total for it in self.ends()}
             self.objects = crossed(trace, self.size, totals, self.most.shift, self.least.shift)
 
     def title(self) -> str:
-        """What is seen, in a sentence."""
-        told = (
-            f"lines of {self.size} bytes are taken {counted(self.own.total, 'time')} as data lies"
-        )
+        """The result in a sentence."""
+        told = f"{self.size}-byte lines: {counted(self.own.total, 'invalidation')} as placed"
         if self.least.total == self.most.total:
-            return f"{told}, and as often under every shift"
+            return f"{told}, and under every shift"
         told += self.extremes()
         if not self.objects:
             return told
         first = self.objects[0]
         differs = first.differs(self.ends().index(self.most), self.ends().index(self.least))
         is_most = 2 * differs >= self.most.total - self.least.total
-        return f"{told}; {'most of the difference is in' if is_most else 'what differs most is'} {first.name}"
+        return f"{told}; {'most of the difference is in' if is_most else 'the largest difference is in'} {first.name}"
 
     def extremes(self) -> str:
         """The totals that aren't the trace's own."""
-        least = f"{counted(self.least.total, 'time')}, the least, with the shift {self.least.shift}"
-        most = f"{counted(self.most.total, 'time')}, the most, with the shift {self.most.shift}"
         if self.least.total == self.own.total:
-            return f", and under no shift less often; {most}"
-        return f", and {least}"
+            return f", the least; the most are {self.most.total:,} at shift {self.most.shift}"
+        return f"; the least are {self.least.total:,} at shift {self.least.shift}"
 
-    def mark(self, it: Shift) -> str:
+    def mark(self, shift: Shift) -> str:
         """What a shift is marked as."""
-        marks = ["as data lies"] if it is self.own else []
-        marks += ["the most"] if it is self.most and self.most.total > self.least.total else []
-        return ", ".join([*marks, *(["the least"] if it is self.least else [])])
+        marks = ["as placed"] if shift is self.own else []
+        marks += ["most"] if shift is self.most and self.most.total > self.least.total else []
+        return ", ".join([*marks, *(["least"] if shift is self.least else [])])
 
-    def heading(self, it: Shift) -> str:
-        mark = self.mark(it)
-        return f"shift {it.shift}" + (f" ({mark})" if mark else "")
+    def heading(self, shift: Shift) -> str:
+        mark = self.mark(shift)
+        return f"shift {shift.shift}" + (f" ({mark})" if mark else "")
 
 
 @contextlib.contextmanager
@@ -106,54 +102,57 @@ def sweep_of(call: Call) -> Sweep:
 
 def rows(sweep: Sweep, most: int) -> Iterator[str]:
     """The screen."""
-    yield f"{sweep.title()} ({sweep.accesses} accesses)"
-    yield "   shift    total  lines"
-    for it in sweep.shifts:
-        yield f"{it.shift:>8} {it.total:>8} {it.lines:>6}  {sweep.mark(it)}".rstrip()
+    yield f"{sweep.title()} ({counted(sweep.accesses, 'access')})"
+    yield ""
+    wide = max(8, *(len(f"{shift.total:,}") for shift in sweep.shifts))
+    yield f"   shift {'inval':>{wide}}  lines"
+    for shift in sweep.shifts:
+        yield f"{shift.shift:>8} {shift.total:>{wide},} {shift.lines:>6,}  {sweep.mark(shift)}".rstrip()
     if not sweep.objects:
         return
     ends = sweep.ends()
-    wide = [max(11, len(str(it.total)) + 2) for it in ends]
-    heads = "".join(f"{f'shift {it.shift}':>{width}}" for it, width in zip(ends, wide))
-    yield f"{heads}  object, and its worst line with the shift {sweep.most.shift}"
+    widths = [max(11, len(f"{it.total:,}") + 2) for it in ends]
+    heads = "".join(f"{f'shift {it.shift}':>{width}}" for it, width in zip(ends, widths))
+    yield ""
+    yield f"{heads}  object (and its worst line at shift {sweep.most.shift})"
     for own in sweep.objects[:most]:
-        cells = "".join(f"{it:>{width}}" for it, width in zip(own.counts, wide))
+        cells = "".join(f"{it:>{width},}" for it, width in zip(own.counts, widths))
         yield f"{cells}  {own.name}" + (f" ({own.border})" if own.border else "")
     more = len(sweep.objects) - most
     if more > 0:
-        yield f"{counted(more, 'more object')}: --top {len(sweep.objects)} shows all"
+        yield f"{counted(more, 'more object')} (--top {len(sweep.objects)} shows all)"
 
 
 def marks(sweep: Sweep) -> list[tuple[str, int, str]]:
-    """What is marked on the line: a shape, the place of the shift, and what is said of it."""
-    found = [("square", sweep.own, "as data lies")]
+    """The marks on the curve: a shape, the place of the shift, and its text."""
+    found = [("square", sweep.own, "as placed")]
     if sweep.most.total > sweep.least.total:
         found += [
-            (shape, it, what)
-            for shape, it, what in (
+            (shape, shift, what)
+            for shape, shift, what in (
                 ("triangle", sweep.most, "most"),
                 ("circle", sweep.least, "least"),
             )
         ]
     places = {it.shift: at for at, it in enumerate(sweep.shifts)}
     told: list[tuple[str, int, str]] = []
-    for shape, it, what in found:
-        if it is not sweep.own or shape == "square":
-            where = "" if shape == "square" else f", shift {it.shift}"
-            told.append((shape, places[it.shift], f"{what}{where}: {it.total}"))
+    for shape, shift, what in found:
+        if shift is not sweep.own or shape == "square":
+            where = "" if shape == "square" else f", shift {shift.shift}"
+            told.append((shape, places[shift.shift], f"{what}{where}: {shift.total:,}"))
     return told
 
 
 def page(sweep: Sweep, name: str, most: int = OBJECTS) -> str:
-    """The page: the totals over the shifts as a line, on which the trace's own shift, the greatest and the least are marked; the objects
-    that make them; and all as a table."""
+    """The page: the invalidations over the shifts as a curve, on which the trace's own shift, the greatest and the least are marked; the
+    objects that make them; and all as a table."""
     found = marks(sweep)
     shifts = [it.shift for it in sweep.shifts]
     given: Given = curve(
         [it.total for it in sweep.shifts], [(at, text) for _, at, text in found], shifts
     )
-    for it, (shape, _, _) in zip(given["marks"], found):
-        it["shape"] = shape
+    for mark, (shape, _, _) in zip(given["marks"], found):
+        mark["shape"] = shape
     return (
         templates()
         .get_template("sweep.html")

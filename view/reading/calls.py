@@ -1,4 +1,4 @@
-"""The words of a call of view."""
+"""The arguments of a call of view."""
 
 import difflib
 import os
@@ -6,7 +6,7 @@ import re
 from typing import Any, Iterable, Iterator, Sequence
 
 from view.faults import Fault
-from view.reading.file_kinds import DOES, IS, How, how_of
+from view.reading.file_kinds import IS, How, how_of
 from view.reading.settings import ASKED, BARE, KEYS, OPTIONS, WRITTEN
 
 USAGE = """usage: predator view run PROGRAM [options of run] [OPTIONS] [-- WORD ..]
@@ -20,41 +20,41 @@ HELP = (
     USAGE
     + """
 
-Shows by objects, fields and source lines what a program, a recorded trace or a kept report says: the worst object first, by its useless
-misses. docs/VIEW.md has a walk through it.
+Shows the contended objects of a program, a recorded trace or a kept report, with their fields, source lines, threads and fixes. The object
+with the most false-sharing misses comes first. docs/VIEW.md walks through it.
 
 Options:
   --program P        the program of the trace or the report, for the names of fields and source lines
-  --back TABLE       the same for a program of this machine, by the table that `predator native` wrote; TRACE.table unless it is given
-  --top N            shows N objects (10)
-  --object NAME      shows this object alone, and those that share lines with it
-  --words            lists the words of each object's lines with their fields, and all instructions that fight over the worst one
-                     (of a trace above 10,000,000 accesses predicted lines are counted, and repairs in the whole, with this or
-                     an output file alone)
-  --library          shows the objects of the C library, of Go's runtime and of the kernel too, which are one line else
-  --predicted        counts and shows all predicted lines, those too that say nothing more
-  --no-predicted     counts and shows none
-  --explain N        looks for the instructions that fight over the worst lines of the first N objects (3), each by a run; 0 for none. A
-                     trace that has its instructions tells those of all objects
-  --latency NS       what a line takes from one core to another, in nanoseconds, for the bound on the time (140); 0 for no bound, which
-                     saves a run
-  --type SITE=TYPE   what the blocks of a call site hold, as arena.c:78=node; a type, or a variable that points to one
-  --sources DIR      where the sources are, if they moved
-  --shape SHAPE      for `view caches`: a shape of caches, as 64x16x2 for 16 sets of 2 lines of 64 bytes; may come more than once, and
-                     without it the shapes are 64x16x2, 64x32x4, 64x64x8 and 64x512x8
-  --html F           writes a page to F; of one of these three options F may be `-`: standard output, in place of the screen
-  --json F           writes all that was found to F, by view/output/schema.json
-  --sarif F          writes the same for editors and code hosts, as SARIF 2.1.0
-  --patch F          writes the repairs that change declarations alone to F, for `patch -p1`; where the program has `move`
-  --against OLD      tells what got better and worse than in OLD, which --json wrote, or a kept report
-  --fail-above N     ends with 1 if an object has more than N useless misses, and with 3 if the run didn't end by exit 0, or a thread
-                     didn't run since no hart was free
-  --by count         judges by the report's count instead
+  --map FILE         the same for a native program: the address map that `predator native` wrote (TRACE.table is found by itself)
+  --top N            show N objects (10)
+  --object NAME      show this object and those that share lines with it, no others
+  --words            list the words of each object's lines, and all conflicting instructions of its worst line; for a trace above
+                     10,000,000 accesses also count predicted lines, and try fixes on the whole trace
+  --library          show the objects of the C library, of Go's runtime and of the kernel one by one
+  --predicted        show all predicted lines, also those that add no false sharing
+  --no-predicted     count and show no predicted lines
+  --explain N        find the conflicting instructions of the first N objects (3), with one run each; 0 for none. A trace with program
+                     counters names those of all objects
+  --type SITE=TYPE   the type of the blocks of a call site, as arena.c:78=node: a type, or a pointer variable
+  --sources DIR      the folder of the sources, if they moved
+  --shape SHAPE      for `view caches`: a cache, as 64x16x2 for 16 sets of 2 lines of 64 bytes; may be given several times (64x16x2,
+                     64x32x4, 64x64x8 and 64x512x8)
+  --html F           write an HTML page to F; F can be `-`, standard output without the screen, for one of these outputs
+  --json F           write all that was found to F as JSON, by view/output/schema.json
+  --json-version N   the version of that JSON: 2, or 1 for the former keys, by view/output/schema-1.json
+  --latency NS       the nanoseconds that a line takes between cores, for the upper bound on the time in the JSON (140); 0 for no bound,
+                     which saves a run
+  --sarif F          write the objects to F as SARIF 2.1.0, for editors and code hosts
+  --patch F          write the fixes that change declarations only to F, for `patch -p1`
+  --against OLD      compare with OLD, which --json wrote, or a kept report
+  --fail-above N     exit with 1 if an object has more than N false-sharing misses, and with 3 if the run didn't end with exit 0, or a
+                     thread didn't run
+  --by WHAT          compare false-sharing (the default) or invalidations with N
   --help, -h         this page
-Words behind a `--` that follows PROGRAM are for its `main`.
+Words after a `--` that follows PROGRAM go to its `main`.
 
-Status: 0 shown; 1 an object is above N; 2 refused, which standard error tells; 3 (with --fail-above) the run didn't end by exit 0, or
-lacked a hart; 127 a package is missing, or the program. Colours are for terminals, unless NO_COLOR is set."""
+Status: 0 shown; 1 an object is above N; 2 refused, with a message; 3 (with --fail-above) the run didn't end with exit 0, or a thread
+didn't run; 127 a package or the program is missing. Colours are for terminals, unless NO_COLOR is set."""
 )
 # The options of view's own that have a value, and those that have none; `type` may come more than once.
 VALUES = (
@@ -64,12 +64,14 @@ VALUES = (
         "object",
         "html",
         "json",
+        "json-version",
         "sarif",
         "against",
         "fail-above",
         "by",
         "type",
         "program",
+        "map",
         "back",
         "sources",
         "explain",
@@ -77,6 +79,10 @@ VALUES = (
     "latency",
 )
 FLAGS = ("words", "predicted", "no-predicted", "library", "help")
+# The former names of options.
+FORMER = {"back": "map"}
+# What `--by` judges, and its values for misses; `useless` and `count` are former names.
+BY, MISSES = ("false-sharing", "invalidations", "useless", "count"), ("false-sharing", "useless")
 # Those that may come more than once, each of which is a list of texts.
 LISTS = ("type", "shape")
 # Those that what counts a trace alone takes.
@@ -127,9 +133,9 @@ class Call:
                 self.how, "a trace"
             )
             raise Fault(
-                f"{what} is wanted, one\n{USAGE}"
+                f"missing argument: {what}\n{USAGE}"
                 if not names
-                else f"'{names[1]}' is one word more than is wanted\n{USAGE}"
+                else f"unexpected argument '{names[1]}'\n{USAGE}"
             )
         self.subject = self.named = names[0]
         self.judge_words()
@@ -140,9 +146,7 @@ class Call:
         """Refuses words that what is done with the file doesn't take, and a file with which it can't be done."""
         what = how_of(self.subject)
         if what not in ("file", "replay" if self.how in ALONE else self.how):
-            raise Fault(
-                f"{self.subject} is {IS[what]}: `predator view {self.subject}` {DOES[what]} it"
-            )
+            raise Fault(f"{self.subject} is {IS[what]}: use `predator view {self.subject}`")
         known = (
             OPTIONS.get(self.how, [])
             if self.how != "native"
@@ -153,14 +157,14 @@ class Call:
             near = nearest(
                 word.partition("=")[0], [*known, *(f"--{it}" for it in (*VALUES, *LISTS, *FLAGS))]
             ).strip()
-            raise Fault(f"'{word}' is no option of {where}{near and '; '}{near}\n{USAGE}")
+            raise Fault(f"{where} has no option '{word}'{near and '; '}{near}\n{USAGE}")
         if self.marks and self.how != "native":
-            raise Fault(f"'{self.marks[0]}' is for a program of this machine")
-        for it in (one for value in self.values("--set") for one in value.split(",")):
-            key, is_set, _ = it.partition("=")
+            raise Fault(f"'{self.marks[0]}' applies to native programs only")
+        for pair in (one for value in self.values("--set") for one in value.split(",")):
+            key, is_set, _ = pair.partition("=")
             if is_set and key not in KEYS:
                 raise Fault(
-                    f"'{it}' in --set names no key of the settings; {nearest(key, KEYS)}the keys are: {', '.join(KEYS)}"
+                    f"'--set {pair}': there is no setting '{key}'; {nearest(key, KEYS)}the settings are {', '.join(KEYS)}"
                 )
 
     def split(self, words: Sequence[str]) -> tuple[list[str], list[str]]:
@@ -189,7 +193,7 @@ class Call:
             ):
                 if name[2:] in (*VALUES, *LISTS) and not has_value:
                     if at == len(words):
-                        raise Fault(f"a value is required for '{word}'")
+                        raise Fault(f"'{word}' needs a value")
                     value, at = words[at], at + 1
                 self.put("help" if word == "-h" else name[2:], value)
             elif (
@@ -209,10 +213,11 @@ class Call:
         return rest, names
 
     def put(self, name: str, value: str) -> None:
+        name = FORMER.get(name, name)
         if name in LISTS:
             self.options[name].append(value)
         elif name in self.options:
-            raise Fault(f"the option '--{name}' stands twice")
+            raise Fault(f"'--{name}' is given twice")
         else:
             self.options[name] = value
 
@@ -222,37 +227,38 @@ class Call:
         for name in ("top", "fail-above", "explain", "latency"):
             value = self.options.get(name, "0")
             if not re.fullmatch("[0-9]{1,18}", value):
-                raise Fault(f"'--{name}' is a number, and not '{value}'")
-        if self.options.get("by", "useless") not in ("useless", "count"):
-            raise Fault(f"'--by' is `useless` or `count`, and not '{self.options['by']}'")
-        for it in self.options["type"]:
-            if not all(it.partition("=")[::2]):
-                raise Fault(f"'--type' is SITE=TYPE, as arena.c:78=node, and not '{it}'")
+                raise Fault(f"'--{name}' takes a number, not '{value}'")
+        if self.options.get("by", BY[0]) not in BY:
+            raise Fault(f"'--by' takes {BY[0]} or {BY[1]}, not '{self.options['by']}'")
+        if self.options.get("json-version", "2") not in ("1", "2"):
+            raise Fault(f"'--json-version' takes 1 or 2, not '{self.options['json-version']}'")
+        for assignment in self.options["type"]:
+            if not all(assignment.partition("=")[::2]):
+                raise Fault(
+                    f"'--type' takes SITE=TYPE, such as arena.c:78=node, not '{assignment}'"
+                )
         if "predicted" in self.options and "no-predicted" in self.options:
-            raise Fault("'--predicted' and '--no-predicted' are two answers to one question")
-        if "by" in self.options and "fail-above" not in self.options:
-            raise Fault("'--by' is for '--fail-above', which isn't there")
+            raise Fault("'--predicted' and '--no-predicted' exclude each other")
+        for name, of in (("by", "fail-above"), ("json-version", "json")):
+            if name in self.options and of not in self.options:
+                raise Fault(f"'--{name}' needs '--{of}'")
         if self.options["type"] and not self.has_types():
-            raise Fault("'--type' wants the types of a program: '--program' names it")
+            raise Fault("'--type' needs a program's types: name the program with '--program'")
         if self.how in ("run", "native") and "program" in self.options:
-            raise Fault(
-                "'--program' is for a trace or a report: the program that is run is named already"
-            )
+            raise Fault(f"'--program' applies to a trace or a report, not to `view {self.how}`")
         if "latency" in self.options and self.how != "run":
-            raise Fault(
-                "'--latency' is for `view run`: the bound on the time is that of another run of the program"
-            )
+            raise Fault("'--latency' applies to `view run` only")
         if "sources" in self.options and not os.path.isdir(self.options["sources"]):
-            raise Fault(f"'--sources' is a folder, and '{self.options['sources']}' is none")
-        if "back" in self.options and (self.how in ("run", "native") or "program" in self.options):
-            raise Fault(
-                "'--back' is for a trace or a report of this machine's programs, and names the program itself"
-            )
+            raise Fault(f"'--sources' takes a folder, and '{self.options['sources']}' isn't one")
+        if "map" in self.options and "program" in self.options:
+            raise Fault("'--map' and '--program' exclude each other: the map names the program")
+        if "map" in self.options and self.how in ("run", "native"):
+            raise Fault("'--map' applies to a trace or a report of a native program")
 
     def judge_alone(self) -> None:
         """Refuses what a sweep and caches don't take, and shapes for anything else."""
         if self.options["shape"] and self.how != "caches":
-            raise Fault("'--shape' is for `predator view caches`")
+            raise Fault("'--shape' applies to `view caches` only")
         if self.how not in ALONE:
             return
         strange = [
@@ -262,14 +268,14 @@ class Call:
         ]
         if strange:
             raise Fault(
-                f"'--{strange[0]}' isn't for `view {self.how}`, which takes {', '.join(f'--{it}' for it in ALONE[self.how])}"
+                f"`view {self.how}` has no option '--{strange[0]}'; it takes {', '.join(f'--{it}' for it in ALONE[self.how])}"
             )
         if self.how == "sweep" and self.value_of("--size") is None:
-            raise Fault("a sweep is of lines of a size: '--size' names it")
+            raise Fault("`view sweep` needs a line size, such as '--size 64'")
 
     def has_types(self) -> bool:
         """Whether a program is named whose types can be looked up, by itself or by the table of a native one."""
-        if self.program or self.how == "native" or "back" in self.options:
+        if self.program or self.how == "native" or "map" in self.options:
             return True
         if self.how != "replay":
             return False

@@ -24,14 +24,14 @@ Counted = Union[Misses, Report, Blame]
 
 def launcher() -> str:
     """The command `predator` of this checkout, or that of the folder where this was installed."""
-    for it in (
+    for path in (
         os.environ.get("PREDATOR"),
         os.path.join(TOP, "bin", "predator"),
         os.path.join(TOP, "..", "..", "bin", "predator"),
     ):
-        if it and os.path.exists(it):
-            return it
-    raise Fault("there is no command predator beside this one", 127)
+        if path and os.path.exists(path):
+            return path
+    raise Fault("can't find the command predator", 127)
 
 
 class Refused(Fault):
@@ -70,7 +70,7 @@ class Predator:
             )
             if ran.stderr:
                 said += f" ({ran.stderr.decode('utf-8', 'replace').strip().rpartition(chr(10))[2].removeprefix('predator: ')})"
-            raise Refused(f"`predator {words[0]!s}` was refused: {said.removeprefix('predator: ')}")
+            raise Refused(f"`predator {words[0]!s}` failed: {said.removeprefix('predator: ')}")
         return text
 
     def direct(self) -> str:
@@ -107,7 +107,7 @@ class Predator:
             if ran.returncode != 1:
                 raise Fault(
                     ran.stderr.decode("utf-8", "replace").strip()
-                    or "the command predator doesn't answer",
+                    or "the command predator fails without a message",
                     127,
                 )
             self.known = set(
@@ -189,9 +189,9 @@ class Predator:
         ) as pool, contextlib.ExitStack() as open_ends:
             mains: list[Any] = []
             counts = []
-            for it in readers:
+            for reader in readers:
                 take, give = os.pipe()
-                counts.append(pool.submit(self.count_from, take, it))
+                counts.append(pool.submit(self.count_from, take, reader))
                 mains.append(open_ends.enter_context(open(give, "wb", 0)))
             take, give = os.pipe()
             copying = threading.Thread(target=copy, args=(take, mains))
@@ -245,15 +245,15 @@ def copy(take: int, ends: list[Any]) -> None:
     """Copies a pipe to others, and closes them; one whose reader is gone is left out."""
     with open(take, "rb", 0) as source:
         while piece := source.read(PIECE):
-            for it in list(ends):
+            for end in list(ends):
                 try:
                     left = memoryview(piece)
                     while left:
-                        left = left[it.write(left) :]
+                        left = left[end.write(left) :]
                 except OSError:
-                    ends.remove(it)
-    for it in ends:
-        it.close()
+                    ends.remove(end)
+    for end in ends:
+        end.close()
 
 
 def stacks(predator: Predator, program: str, words: Sequence[str]) -> tuple[int, int] | None:

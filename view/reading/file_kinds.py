@@ -4,11 +4,10 @@ import contextlib
 import os
 from typing import Literal
 
-# What is done with a file: a program for RV32 is run, one of this machine recorded, a trace replayed or counted under many layouts, and a
-# report shown.
+# What view does with a file: it runs a program for RV32, records a native one, replays a trace or counts it under many layouts, and shows a
+# report.
 How = Literal["run", "native", "replay", "sweep", "caches", "file"]
-IS = {"run": "a program", "native": "a program of this machine", "replay": "a trace"}
-DOES = {"run": "runs", "native": "records", "replay": "replays"}
+IS = {"run": "a program for RV32", "native": "a native program", "replay": "a trace"}
 # The number of x86-64 in an ELF file.
 X86_64 = b"\x3e\x00"
 
@@ -39,9 +38,9 @@ def how_of(path: str) -> How:
 def other(text: str) -> str:
     """What a text is that is no report, as far as its beginning tells, and what to do with it."""
     if text.startswith("PRDTRC"):
-        return "a trace: `predator view replay -` reads one from standard input"
+        return "a trace: use `predator view replay -` to read one from standard input"
     if text.startswith("PRDSTA"):
-        return "a saved state, from which `predator replay --resume` goes on"
+        return "a saved state: use `predator replay --resume`"
     if text.startswith("{"):
-        return "what --json wrote, and `--against` compares with"
+        return "JSON of `predator view --json`: use `--against` to compare with it"
     return ""

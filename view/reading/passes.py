@@ -34,10 +34,10 @@ class Passes:
         self.made: dict[tuple[str, ...], concurrent.futures.Future[Counted]] = {}
 
     def begin(self, readers: Iterable[Reader]) -> None:
-        for it in readers:
-            key = tuple(it.words)
+        for reader in readers:
+            key = tuple(reader.words)
             if key not in self.made:
-                self.made[key] = self.pool.submit(self.predator.counted_of_file, self.trace, it)
+                self.made[key] = self.pool.submit(self.predator.counted_of_file, self.trace, reader)
 
     def told(self, readers: Sequence[Reader]) -> list[Counted]:
         """What the readers tell of the trace."""
@@ -56,8 +56,8 @@ def first_readers(layout: Layout, is_blamed: bool, is_brief: bool = False) -> di
     }
     left_out = {"each", "words" if is_blamed else ""} if is_brief else set()
     return {
-        name: it
-        for name, it in asked.items()
+        name: reader
+        for name, reader in asked.items()
         if name not in left_out and (is_blamed or name != "blame")
     }
 

@@ -75,25 +75,25 @@ def status_of(words: Sequence[str]) -> int:
     def take(number: int, frame: FrameType | None) -> None:
         if number in HANDED_ON and not runs:
             came.append(number)
-        for it in runs if number in HANDED_ON else ():
-            it.send_signal(number)
+        for run in runs if number in HANDED_ON else ():
+            run.send_signal(number)
 
     # (what is ignored stays so, here and in the program)
     before = {
-        it: old
-        for it in (*HANDED_ON, *FROM_TERMINAL)
-        if (old := signal.getsignal(it)) is not signal.SIG_IGN
+        number: old
+        for number in (*HANDED_ON, *FROM_TERMINAL)
+        if (old := signal.getsignal(number)) is not signal.SIG_IGN
     }
-    for it in before:
-        signal.signal(it, take)
+    for number in before:
+        signal.signal(number, take)
     try:
         runs.append(subprocess.Popen(words, stdout=2))
-        for number in came:
-            runs[0].send_signal(number)
+        for early in came:
+            runs[0].send_signal(early)
         return runs[0].wait()
     finally:
-        for it, old in before.items():
-            signal.signal(it, old)
+        for number, old in before.items():
+            signal.signal(number, old)
 
 
 @contextlib.contextmanager
@@ -124,7 +124,7 @@ def recorded(call: Call) -> Iterator[None]:
         status = status_of(words)
         if not os.path.exists(trace):
             raise Fault(
-                f"`predator native` was refused: status {status}",
+                f"`predator native` failed with status {status}",
                 status if status in REFUSED[2:] else 2,
             )
         call.how, call.subject, call.words, call.own = "replay", trace, [trace, *replay], []

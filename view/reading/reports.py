@@ -78,7 +78,9 @@ class Word(NamedTuple):
 
 def bytes_of(name: str) -> bytes:
     """The bytes of a name that is printed."""
-    return re.sub(rb"\\x([0-9a-f]{2})", lambda it: bytes([int(it[1], 16)]), name.encode("latin-1"))
+    return re.sub(
+        rb"\\x([0-9a-f]{2})", lambda escape: bytes([int(escape[1], 16)]), name.encode("latin-1")
+    )
 
 
 class Rows:
@@ -113,8 +115,8 @@ class Rows:
 def objects_of(rows: str) -> list[Symbol | Block]:
     """What some rows say that stands on a line."""
     found: list[Symbol | Block] = []
-    for it in OBJECT.finditer(rows):
-        name, at, size, block, length, born, died, sites = it.groups()
+    for match in OBJECT.finditer(rows):
+        name, at, size, block, length, born, died, sites = match.groups()
         if name is not None:
             found.append(Symbol(name, int(at, 16), int(size)))
         else:
@@ -190,17 +192,17 @@ def listed(
     if not place:
         return found, None
     last = pattern.groups
-    for it in pattern.finditer(text, place):
-        begin, end = it.span()
+    for match in pattern.finditer(text, place):
+        begin, end = match.span()
         if begin != place:
             break
         place = end
-        fields = it.groups()
+        fields = match.groups()
         stands = known.setdefault(fields[-1], fields[-1])
-        found.append(kind(text, stands, it.end(last), end - 1, fields))
+        found.append(kind(text, stands, match.end(last), end - 1, fields))
     if text.startswith(("line ", "object ", "site ", "word "), place):
         row, shown = text.count("\n", 0, place) + 1, text[place : place + 80].partition("\n")[0]
-        raise Fault(f"{of}: its row {row} is none that it may have: `{shown}`")
+        raise Fault(f"{of}, line {row}: unexpected `{shown}`")
     return found, place
 
 
@@ -211,13 +213,13 @@ def head(text: str, of: str) -> dict[str, str]:
         name, _, value = row.partition(" ")
         fields.setdefault(name, value)
     if "\nend\n" not in text[-2000:] and not re.search(r"^end$", text, re.MULTILINE):
-        raise Fault(f"{of}: it is cut: a whole one ends with a line `end`")
+        raise Fault(f"{of} is cut short: the last line `end` is missing")
     return fields
 
 
 def number(fields: dict[str, str], name: str, of: str) -> int:
     if not re.fullmatch(MANY, fields.get(name, "")):
-        raise Fault(f"{of}: it has no line `{name} N` where a report has one")
+        raise Fault(f"{of} has no line `{name} N` in its head")
     return int(fields[name])
 
 
@@ -233,20 +235,20 @@ class Report:
         self.text = text
         first = text[: text.find("\n") if "\n" in text else None]
         if not text or text.isspace():
-            raise Fault(f"{of}: it is empty, and no report")
+            raise Fault(f"{of} is empty")
         if first != "predator report 1":
             what = (
-                "a report of another version"
+                "has an unknown report version"
                 if re.fullmatch(r"predator report \d+", first)
-                else "no report"
+                else "isn't a report"
             )
             if other(text):
-                raise Fault(f"{of}: it is no report, but {other(text)}")
-            raise Fault(f"{of}: it is {what}: its first line isn't `predator report 1`")
+                raise Fault(f"{of} isn't a report but {other(text)}")
+            raise Fault(f"{of} {what}: the first line isn't `predator report 1`")
         fields = head(text, of)
         self.outcome = fields.get("outcome", "")
         if not OUTCOME.fullmatch(self.outcome):
-            raise Fault(f"{of}: it has no outcome that a report has")
+            raise Fault(f"{of} has no valid line `outcome`")
         self.steps, self.accesses = number(fields, "steps", of), number(fields, "accesses", of)
         layout = re.fullmatch(rf"{NUMBER} {NUMBER}", fields.get("layout", ""))
         told = re.fullmatch(rf"{NUMBER} ({MANY}|none) {NUMBER}", fields.get("thresholds", ""))
@@ -256,17 +258,19 @@ class Report:
             or int(layout[1]) not in SIZES
             or int(layout[2]) >= int(layout[1])
         ):
-            raise Fault(f"{of}: it has no layout or no thresholds that a report has")
+            raise Fault(f"{of} has no valid line `layout` or `thresholds`")
         self.size, self.offset = int(layout[1]), int(layout[2])
         self.thresholds = told.groups()
         self.lines, place = listed(text, LINE, Line, of)
         if len(self.lines) != number(fields, "lines", of):
-            raise Fault(f"{of}: it tells of {fields['lines']} lines and has {len(self.lines)}")
+            raise Fault(
+                f"{of}: the header says {fields['lines']} lines, the file has {len(self.lines)}"
+            )
         if {(it.kind == "doubled", it.size) for it in self.lines} - {
             (False, self.size),
             (True, 2 * self.size),
         }:
-            raise Fault(f"{of}: it has lines of another size than its layout says")
+            raise Fault(f"{of} has lines of another size than its layout")
         # What native/predator-native prints behind a report: where a call site stands.
         self.where = {int(it[1], 16): it[2] for it in WHERE.finditer(text, place or 0)}
 
@@ -296,14 +300,14 @@ class Misses:
             r"^total cold (\d+) useful (\d+) useless (\d+)\nend\n", text, re.MULTILINE
         )
         if not found or not total:
-            raise Fault(f"{of}: it isn't what `misses` prints")
+            raise Fault(f"{of}: unexpected output of `predator misses`")
         self.size, self.offset, self.accesses = (int(it) for it in found.groups()[:3])
         self.text, self.lines = text, {it.base: it for it in listed(text, MISSES, Missed, of)[0]}
         self.total = {
-            name: int(it) for name, it in zip(("cold", "useful", "useless"), total.groups())
+            name: int(count) for name, count in zip(("cold", "useful", "useless"), total.groups())
         }
         if len(self.lines) != int(found[4]):
-            raise Fault(f"{of}: it tells of {found[4]} lines and has {len(self.lines)}")
+            raise Fault(f"{of}: the header says {found[4]} lines, the text has {len(self.lines)}")
 
     def sites(self) -> set[int]:
         return sites_of(self.text)
@@ -340,11 +344,11 @@ class Blame:
             r"predator blame 1\naccesses (\d+)\nlayout (\d+) (\d+)\nlines (\d+)\n", text
         )
         if not head or not re.search(r"^total takings \d+\nend\n\Z", text[-80:], re.MULTILINE):
-            raise Fault(f"{of}: it isn't what `blame` prints")
+            raise Fault(f"{of}: unexpected output of `predator blame`")
         self.accesses, self.text = int(head[1]), text
         self.places = {int(it[1], 16): it.span() for it in TAKEN.finditer(text)}
         if len(self.places) != int(head[4]):
-            raise Fault(f"{of}: it tells of {head[4]} lines and has {len(self.places)}")
+            raise Fault(f"{of}: the header says {head[4]} lines, the text has {len(self.places)}")
 
     def takings(self, base: int) -> Takings | None:
         place = self.places.get(base)
@@ -356,13 +360,13 @@ class Explained:
 
     def __init__(self, text: str, of: str = "explain") -> None:
         if not text.startswith("predator explain 1\n") or not text.endswith("\nend\n"):
-            raise Fault(f"{of}: it isn't what `explain` prints")
+            raise Fault(f"{of}: unexpected output of `predator explain`")
         line = re.search(rf"^line {ADDRESS} (\d+) start (\d+) count (\d+)$", text, re.MULTILINE)
         steps, accesses = (
             re.search(rf"^{it} (\d+)$", text, re.MULTILINE) for it in ("steps", "accesses")
         )
         if not line or not steps or not accesses:
-            raise Fault(f"{of}: it isn't what `explain` prints")
+            raise Fault(f"{of}: unexpected output of `predator explain`")
         self.base, self.size, self.start, self.count = (
             int(line[1], 16),
             int(line[2]),
@@ -388,7 +392,7 @@ class Placed:
             rf"^before {NUMBER}\nafter {NUMBER}\nmany {NUMBER}\nend\n", text, re.MULTILINE
         )
         if not head or not counts:
-            raise Fault(f"{of}: it isn't what `place` prints")
+            raise Fault(f"{of}: unexpected output of `predator place`")
         self.name, self.addr, self.line = head[1], int(head[2], 16), int(head[4])
         words = re.findall(rf"^word {ADDRESS} to {ADDRESS} (?:hart )?(\w+)$", text, re.MULTILINE)
         self.words = {int(it, 16): (int(to, 16), hart) for it, to, hart in words}

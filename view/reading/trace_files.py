@@ -131,9 +131,9 @@ class Uses:
         own = self.words[word]
         most = max((it.accesses() for it in own.values()), default=0)
         found = {
-            hart: it
-            for hart, it in own.items()
-            if it.accesses() * SELDOM >= most and (it.accesses() > LOOKS or most <= LOOKS)
+            hart: use
+            for hart, use in own.items()
+            if use.accesses() * SELDOM >= most and (use.accesses() > LOOKS or most <= LOOKS)
         }
         self.cached[word] = found
         return found

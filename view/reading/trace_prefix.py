@@ -43,11 +43,11 @@ def cut(trace: str, most: int, out: str) -> int:
         one, many = (re.compile(it, re.DOTALL) for it in (access, b"(?:%s){%d}" % (access, PIECE)))
         place, found = HEADER, 0
         while found < most:
-            it, by = many.match(data, place), PIECE
-            if it is None:
-                it, by = one.match(data, place), 1
-            if it is not None:
-                place, found = it.end(), found + by
+            match, by = many.match(data, place), PIECE
+            if match is None:
+                match, by = one.match(data, place), 1
+            if match is not None:
+                place, found = match.end(), found + by
                 continue
             size = other(data, place)
             if not size:

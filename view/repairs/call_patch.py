@@ -17,16 +17,14 @@ def patch_text(view: View) -> str:
     """The patch. What it can't say is noted."""
     if view.tried is None:
         wanted = "a trace in a file, a program with debug information, and a predator with `move`"
-        raise Fault(
-            f"`--patch` writes repairs that were counted, and none could be: it takes {wanted}"
-        )
+        raise Fault(f"--patch writes fixes that were tried on the trace, which needs {wanted}")
     edits: list[Edit] = []
-    for it in view.tried.values():
-        if it.repair is None or not it.is_saving():
+    for tried in view.tried.values():
+        if tried.repair is None or not tried.is_saving():
             continue
-        why = why_not(it.repair.edits and [*edits, *it.repair.edits], finder(view))
+        why = why_not(tried.repair.edits and [*edits, *tried.repair.edits], finder(view))
         if why:
-            view.notes.append(f"the patch says nothing of {it.thing.name}: {why}")
+            view.notes.append(f"the patch leaves out {tried.thing.name}: {why}")
         else:
-            edits += it.repair.edits or []
+            edits += tried.repair.edits or []
     return patch(edits, finder(view))

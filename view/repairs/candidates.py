@@ -1,4 +1,4 @@
-"""The ways in which an object may be declared otherwise, each as where its words would lie and as code."""
+"""The repairs of an object: other declarations, each as the places of its words and as code."""
 
 from typing import Callable, Iterator, NamedTuple, Sequence
 
@@ -56,12 +56,12 @@ class Repair(NamedTuple):
     def said(self) -> str:
         """What to do, in a sentence."""
         whole = (
-            ", and {} become {} in all".format(*self.sizes)
+            ", {:,} → {:,} bytes in all".format(*self.sizes)
             if self.sizes and self.sizes[0] != self.sizes[1]
             else ""
         )
         own = self.hows[: len(self.hows) - bool(self.others)]
-        return "; and ".join(["; and ".join(own) + whole, *self.hows[len(own) :]])
+        return "; ".join(["; ".join(own) + whole, *self.hows[len(own) :]])
 
 
 def at(place: Declared | None) -> str:
@@ -89,29 +89,29 @@ def moved(subject: Subject, change: Change) -> tuple[list[Part], int]:
 
 
 def aligned_alloc(subject: Subject, line: int) -> str:
-    return f", and make the blocks by `aligned_alloc({line}, ..)`" if subject.is_blocks() else ""
+    return f", allocated with `aligned_alloc({line}, ..)`" if subject.is_blocks() else ""
 
 
 def becomes(old: int, new: int, is_whole: bool) -> str:
-    """What becomes of the size of a type."""
-    told = f"{old} bytes become {new}" if old != new else f"it keeps its {old} bytes"
+    """The size of a type before and after."""
+    told = f"{old:,} → {new:,} bytes" if old != new else f"{old:,} bytes as before"
     return told if is_whole else f"{told} each"
 
 
 def own_lines(shape: Shape, line: int) -> str:
-    """How each value of a type gets lines of its own, as code: by its own struct, or by one around it where that isn't the program's."""
+    """The code that gives each value of a type its own line: its own struct, or one around it where that isn't the program's."""
     record = shape.record()
     place = users(record) if record is not None else None
     if place:
         keyword, name = spelled_record(shape)
         return f"`{keyword} {attribute(line)} {name}".rstrip() + f"`{at(place)}"
-    return f"a struct around it, `struct {attribute(line)} {WRAPPER} {{ {declaration(shape, 'value')}; }};`"
+    return f"wrap it in `struct {attribute(line)} {WRAPPER} {{ {declaration(shape, 'value')}; }};`"
 
 
 def element_apart(
     subject: Subject, array: Array, line: int
 ) -> tuple[str, Change, list[Edit] | None]:
-    """How each element of an array gets lines of its own: as code, as a change, and as edits where declarations alone change."""
+    """How each element of an array gets its own line: as code, as a change, and as edits where declarations alone change."""
     change, record, how = Change(line), array.shape.record(), own_lines(array.shape, line)
     place = users(record) if record is not None else None
     edits: list[Edit] | None = None
@@ -129,15 +129,15 @@ def element_apart(
         if not subject.is_blocks() or array.path
         else "each element"
     )
-    return f"give {of} lines of its own by {how}{aligned_alloc(subject, line)}", change, edits
+    return f"give {of} its own line: {how}{aligned_alloc(subject, line)}", change, edits
 
 
 def elements(subject: Subject, array: Array, uses: Uses, line: int) -> Repair:
-    """Each element of an array on lines of its own."""
+    """Each element of an array on its own line."""
     how, change, edits = element_apart(subject, array, line)
     parts, room = moved(subject, change)
     wide, whole = array.shape.size(), subject.size()
-    told = [f"{how}: {becomes(wide, rounded(wide, line), whole == wide)}"]
+    told = [f"{how}, {becomes(wide, rounded(wide, line), whole == wide)}"]
     return Repair(
         told,
         parts,
@@ -159,7 +159,7 @@ def neighbouring(array: Array, uses: Uses) -> Repair | None:
     changes = sum(one != other for one, other in zip(harts, harts[1:]))
     if len(harts) < len(found) or changes < len(set(harts)) or array.begins != sorted(array.begins):
         return None
-    order = sorted(range(len(harts)), key=lambda it: harts[it])
+    order = sorted(range(len(harts)), key=lambda place: harts[place])
     try:
         parts = in_words(
             Part(array.begins[old], wide, array.begins[new])
@@ -168,11 +168,11 @@ def neighbouring(array: Array, uses: Uses) -> Repair | None:
         )
     except Unmovable:
         return None
-    return Repair(["give neighbouring elements to one thread"], parts, 0, None, is_in_place=True)
+    return Repair(["assign neighbouring elements to one thread"], parts, 0, None, is_in_place=True)
 
 
 def bytewise(subject: Subject, uses: Uses, line: int) -> str:
-    """What to do where harts use different bytes of words, so that nothing can be tried by words."""
+    """The fix where threads use different bytes of words, so that nothing can be tried by words."""
     mixed = {it for it in subject.words() if uses.is_mixed(it)}
     if subject.shape is not None:
         for array in arrays_in(subject.shape, subject.begins()):
@@ -180,27 +180,27 @@ def bytewise(subject: Subject, uses: Uses, line: int) -> str:
                 return element_apart(subject, array, line)[0]
         for record in records_in(subject.shape, subject.begins()):
             own = [
-                it.name
-                for it in record.members
-                if any((at + it.begin) // 4 * 4 in mixed for at in record.begins)
+                member.name
+                for member in record.members
+                if any((at + member.begin) // 4 * 4 in mixed for at in record.begins)
             ]
             if len(own) > 1:
-                return f"put `{attribute(line)}` behind each of {', '.join(own)}"
-    return f"give what each hart uses lines of its own, as `{attribute(line)}` makes them"
+                return f"put `{attribute(line)}` after each of {', '.join(own)}"
+    return f"give each thread's bytes their own line with `{attribute(line)}`"
 
 
-def of_whom(own: Sequence[Whose]) -> str:
-    """Whose a group is, over all the records that it lies in."""
+def of_whom(own: Sequence[Whose], owner: Callable[[int], str]) -> str:
+    """Whose a group is, over all the records that it lies in; `owner` gives a thread's name."""
     known = [it for it in own if it.kind != "none"]
     if not known:
         return "unused"
     if all(it.kind == "read" for it in known):
-        return "only read"
+        return "read-only"
     if any(it.kind == "shared" for it in known):
         writers = {hart for it in known for hart in it.harts}
-        return f"written by hart {min(writers)}" if len(writers) == 1 else "shared"
+        return f"written by {owner(min(writers))}" if len(writers) == 1 else "several threads"
     harts = {hart for it in known for hart in it.harts}
-    return f"hart {min(harts)}" if len(harts) == 1 else "a hart's own"
+    return owner(min(harts)) if len(harts) == 1 else "one thread each"
 
 
 Key = tuple[object, ...]
@@ -213,41 +213,47 @@ class Keys:
     def __init__(self, members: Sequence[Member], found: dict[str, Pattern]) -> None:
         self.found = found
         self.first: dict[Key, str] = {}
-        for it in members:
-            if self.kind(it) == "shared":
-                self.first.setdefault(self.harts(it), it.name)
+        for member in members:
+            if self.kind(member) == "shared":
+                self.first.setdefault(self.harts(member), member.name)
 
-    def kind(self, it: Member) -> str:
-        kinds = {one.kind for one in self.found[it.name]} - {"none"}
+    def kind(self, member: Member) -> str:
+        kinds = {one.kind for one in self.found[member.name]} - {"none"}
         return next((one for one in ("shared", "read", "own") if one in kinds), "none")
 
-    def harts(self, it: Member) -> Key:
-        return tuple(one.harts for one in self.found[it.name])
+    def harts(self, member: Member) -> Key:
+        return tuple(one.harts for one in self.found[member.name])
 
-    def alone(self, it: Member) -> Key:
+    def alone(self, member: Member) -> Key:
         """What harts share is alone; what they only read, and what each has for itself, is a group."""
         return (
-            ("shared", it.name)
-            if self.kind(it) == "shared"
-            else (self.kind(it), *(self.harts(it) if self.kind(it) == "own" else ()))
+            ("shared", member.name)
+            if self.kind(member) == "shared"
+            else (self.kind(member), *(self.harts(member) if self.kind(member) == "own" else ()))
         )
 
-    def by_writer(self, it: Member) -> Key:
+    def by_writer(self, member: Member) -> Key:
         """The same, and what harts share by who writes it."""
-        return ("shared", *self.harts(it)) if self.kind(it) == "shared" else self.alone(it)
+        return (
+            ("shared", *self.harts(member)) if self.kind(member) == "shared" else self.alone(member)
+        )
 
-    def together(self, it: Member) -> Key:
+    def together(self, member: Member) -> Key:
         """The same, and all that harts share as one."""
-        return ("shared",) if self.kind(it) == "shared" else self.alone(it)
+        return ("shared",) if self.kind(member) == "shared" else self.alone(member)
 
-    def with_writer(self, it: Member) -> Key:
+    def with_writer(self, member: Member) -> Key:
         """What harts share with what its writer has for itself."""
-        return ("of", *self.harts(it)) if self.kind(it) in ("shared", "own") else self.alone(it)
+        return (
+            ("of", *self.harts(member))
+            if self.kind(member) in ("shared", "own")
+            else self.alone(member)
+        )
 
-    def with_first(self, it: Member) -> Key:
+    def with_first(self, member: Member) -> Key:
         """What a hart has for itself with the first of what it writes for others."""
-        is_writers = self.kind(it) == "own" and self.harts(it) in self.first
-        return ("shared", self.first[self.harts(it)]) if is_writers else self.alone(it)
+        is_writers = self.kind(member) == "own" and self.harts(member) in self.first
+        return ("shared", self.first[self.harts(member)]) if is_writers else self.alone(member)
 
 
 def groupings(members: Sequence[Member], found: dict[str, Pattern]) -> list[list[list[Member]]]:
@@ -271,8 +277,8 @@ def grouped(
 ) -> list[list[Member]]:
     """The fields by their keys, in the order of their firsts; those that nobody uses go to what is only read, or else behind the rest."""
     groups: dict[Key, list[Member]] = {}
-    for it in used:
-        groups.setdefault(key(it), []).append(it)
+    for member in used:
+        groups.setdefault(key(member), []).append(member)
     if groups and unused:
         into = groups.get(("read",)) or list(groups.values())[-1]
         into.extend(unused)
@@ -293,18 +299,18 @@ def fields(
     keyword, name = spelled_record(record.shape)
     place = users(record.die)
     told = [
-        f"{', '.join(it.name for it in own)} ({of_whom([one for it in own for one in found[it.name]])})"
+        f"{', '.join(it.name for it in own)} ({of_whom([one for it in own for one in found[it.name]], subject.owner)})"
         for own in groups
     ]
     firsts = [f"`{own[0].name}`" for own in groups[1:]]
-    behind = f"`{attribute(line)}` behind {', '.join(firsts[:-1])}{' and ' if len(firsts) > 1 else ''}{firsts[-1]}"
+    after = f"put `{attribute(line)}` after {', '.join(firsts[:-1])}{' and ' if len(firsts) > 1 else ''}{firsts[-1]}"
     what = f"`{keyword} {name}`" if name else f"the {keyword} of {subject.name}{record.path}"
     old, new, whole = record.shape.size(), laid(record.shape, change).size, subject.size()
-    said = f"put the fields of {what}{at(place)} in this order, with {behind}: {'; '.join(told)}{aligned_alloc(subject, line)}"
+    said = f"group the fields of {what}{at(place)}, each group on its own lines: {'; '.join(told)}; {after}{aligned_alloc(subject, line)}"
     edits: list[Edit] | None = (
         [OrderFields(place, name, groups, line)] if place and not subject.is_blocks() else None
     )
-    how = [f"{said}; {becomes(old, new, whole == old)}"]
+    how = [f"{said}, {becomes(old, new, whole == old)}"]
     return Repair(how, parts, room, edits, change, (), None if whole == old else (whole, room))
 
 
@@ -314,19 +320,22 @@ def alone(subjects: Sequence[Subject], line: int) -> Repair:
     room = 0
     edits: list[Edit] | None = []
     told: list[str] = []
-    for it in subjects:
-        own, size = moved(it, Change(line))
+    for subject in subjects:
+        own, size = moved(subject, Change(line))
         parts += [Part(one.begin, one.size, one.to + room) for one in own]
         room = rounded(room + size, line)
-        place = users(it.die) if it.die is not None else None
-        told.append(it.name + at(place))
+        place = users(subject.die) if subject.die is not None else None
+        told.append(subject.name + at(place))
         edits = (
-            [*edits, AlignVariable(place, it.name, line)] if edits is not None and place else None
+            [*edits, AlignVariable(place, subject.name, line)]
+            if edits is not None and place
+            else None
         )
     names = ", ".join(told[:-1]) + (" and " if len(told) > 1 else "") + told[-1]
-    how = f"`{attribute(line)}` behind {'the name of each' if len(told) > 1 else 'its name'}"
+    how = f"`{attribute(line)}` after {'each name' if len(told) > 1 else 'its name'}"
+    own_line = "each its own line" if len(told) > 1 else "its own line"
     return Repair(
-        [f"give {names} lines of {'their' if len(told) > 1 else 'its'} own: {how}"],
+        [f"give {names} {own_line}: {how}"],
         in_words(parts),
         room,
         edits,
@@ -340,7 +349,7 @@ def blocks(subject: Subject, line: int) -> Repair:
     for begin, size in subject.ranges:
         parts.append(Part(begin, size, to))
         to = rounded(to + size, line)
-    said = f"let no two of these blocks share a line: `aligned_alloc({line}, ..)`, with sizes that are multiples of {line}"
+    said = f"allocate each of these blocks on its own lines: `aligned_alloc({line}, ..)` with sizes rounded up to multiples of {line}"
     return Repair([said], in_words(parts), to, None)
 
 
@@ -361,13 +370,13 @@ def arenas(subject: Subject, uses: Uses, line: int) -> Repair | None:
         parts += [Part(word, 4, to + 4 * at) for at, word in enumerate(words)]
         to = rounded(to + 4 * len(words), line)
     if subject.is_blocks() or subject.shape is not None and subject.shape.dims():
-        how = f"give each thread an arena of its own, whose beginning and size are multiples of {line}"
+        how = (
+            f"give each thread its own arena, with start and size rounded up to multiples of {line}"
+        )
     else:
-        where = " on the type of its elements" if subject.shape is None else ""
-        how = f"give each hart's words lines of their own, by `{attribute(line)}`{where}"
-    return Repair(
-        [f"harts have words of their own in {subject.name}: {how}"], in_words(parts), to, None
-    )
+        where = " on the element's type" if subject.shape is None else ""
+        how = f"give each thread's words their own line: `{attribute(line)}`{where}"
+    return Repair([how], in_words(parts), to, None)
 
 
 def joined(first: Repair, others: Sequence[Subject], line: int) -> Repair:
@@ -454,18 +463,18 @@ def repairs_of(subject: Subject, uses: Uses, line: int) -> list[Repair]:
 
     def add(make: Callable[[], Repair | None]) -> None:
         try:
-            it = make()
+            repair = make()
         except Unmovable:
             return
-        if it is not None and tuple(it.parts) not in seen and len(found) < MOST:
-            seen.add(tuple(it.parts))
-            found.append(it)
+        if repair is not None and tuple(repair.parts) not in seen and len(found) < MOST:
+            seen.add(tuple(repair.parts))
+            found.append(repair)
 
     for make in inner(subject, uses, line):
         add(make)
     if not subject.is_blocks():
         own = list(found) if subject.neighbours else []
         add(lambda: alone([subject, *subject.neighbours], line))
-        for it in own:
-            add(lambda it=it: joined(it, subject.neighbours, line))  # type: ignore[misc]
+        for repair in own:
+            add(lambda repair=repair: joined(repair, subject.neighbours, line))  # type: ignore[misc]
     return found

@@ -50,8 +50,8 @@ class Shape(NamedTuple):
         if not dims:
             return size_of(self.die)
         size = size_of(type_of(bare(self.die)))
-        for it in dims:
-            size *= it
+        for count in dims:
+            size *= count
         return size
 
     def record(self) -> Die:
@@ -78,15 +78,21 @@ def members_of(record: Die) -> list[Member] | None:
     found: list[Member] = []
     if record.tag not in STRUCTS:
         return None
-    for it in record.iter_children():
-        if it.tag == "DW_TAG_inheritance":
+    for child in record.iter_children():
+        if child.tag == "DW_TAG_inheritance":
             return None
-        if it.tag == "DW_TAG_member" and "DW_AT_external" not in it.attributes:
-            start, bits = place_in(it)
-            if bits is not None or start % 8 or not name_of(it):
+        if child.tag == "DW_TAG_member" and "DW_AT_external" not in child.attributes:
+            start, bits = place_in(child)
+            if bits is not None or start % 8 or not name_of(child):
                 return None
             found.append(
-                Member(name_of(it), start // 8, size_of(type_of(it)), Shape(type_of(it)), it)
+                Member(
+                    name_of(child),
+                    start // 8,
+                    size_of(type_of(child)),
+                    Shape(type_of(child)),
+                    child,
+                )
             )
     return found if all(it.size for it in found) else None
 
@@ -179,9 +185,9 @@ def laid_array(shape: Shape, change: Change, path: str) -> Laid:
     if count * len(inner.parts) > MOST:
         raise Unmovable("it has too many elements")
     parts = [
-        Part(at * wide + it.begin, it.size, at * stride + it.to)
+        Part(at * wide + part.begin, part.size, at * stride + part.to)
         for at in range(count)
-        for it in inner.parts
+        for part in inner.parts
     ]
     return Laid(count * stride, alignment, parts)
 
@@ -227,9 +233,12 @@ def arrays_in(shape: Shape, begins: list[int], path: str = "", depth: int = 0) -
         yield Array(f"{path}[]", element, own)
         yield from arrays_in(element, own, f"{path}[]", depth + 1)
     elif record is not None:
-        for it in members_of(record) or []:
+        for member in members_of(record) or []:
             yield from arrays_in(
-                it.shape, [at + it.begin for at in begins], f"{path}.{it.name}", depth + 1
+                member.shape,
+                [at + member.begin for at in begins],
+                f"{path}.{member.name}",
+                depth + 1,
             )
 
 
@@ -262,7 +271,10 @@ def records_in(shape: Shape, begins: list[int], path: str = "", depth: int = 0) 
         members = members_of(record)
         if members and len(members) > 1:
             yield Record(path, record, shape, members, begins)
-        for it in members or []:
+        for member in members or []:
             yield from records_in(
-                it.shape, [at + it.begin for at in begins], f"{path}.{it.name}", depth + 1
+                member.shape,
+                [at + member.begin for at in begins],
+                f"{path}.{member.name}",
+                depth + 1,
             )

@@ -32,7 +32,7 @@ class Unpatchable(Exception):
 
 def behind(text: str, name: str, line: int) -> str:
     """A declaration with the attribute behind a name and its dimensions. (What is behind a name in parentheses is another declarator's.)"""
-    plain = COMMENT.sub(lambda it: " " * len(it[0]), text)
+    plain = COMMENT.sub(lambda comment: " " * len(comment[0]), text)
     found = list(re.finditer(rf"\b{re.escape(name)}\b((?:\s*\[[^\]]*\])*)(?=\s*[;,={{])", plain))
     if len(found) != 1:
         raise Unpatchable(name)
@@ -57,7 +57,9 @@ class AlignRecord(NamedTuple):
             rf"\b{self.keyword}\s+{re.escape(self.name)}\b(?=\s*(?:final\s*)?(?::[^;]*)?(?:\{{|$))"
         )
         for pattern in (named, rf"\b{self.keyword}\b(?=\s*(?:\{{|$))"):
-            found = re.search(pattern, COMMENT.sub(lambda it: " " * len(it[0]), lines[at]))
+            found = re.search(
+                pattern, COMMENT.sub(lambda comment: " " * len(comment[0]), lines[at])
+            )
             if found:
                 end = found.start() + len(self.keyword)
                 lines[at] = f"{lines[at][:end]} {attribute(self.line)}{lines[at][end:]}"
@@ -103,8 +105,8 @@ class OrderFields(NamedTuple):
 
     def apply(self, lines: list[str]) -> None:
         if self.by_position(lines):
-            raise Unpatchable("its fields have values by their order")
-        own = sorted((it for group in self.groups for it in group), key=lambda it: it.begin)
+            raise Unpatchable("an initializer names no fields")
+        own = sorted((it for group in self.groups for it in group), key=lambda member: member.begin)
         starts = [value(it.die, "decl_line", 0) for it in own]
         first = next(
             (at for at in range(self.place.line - 1, starts[0]) if "{" in lines[at]), len(lines)
@@ -112,7 +114,7 @@ class OrderFields(NamedTuple):
         if starts != sorted(set(starts)) or first >= starts[0] - 1:
             raise Unpatchable("fields")
         segments, at = {}, first + 1
-        for it, start, after in zip(own, starts, [*starts[1:], len(lines) + 1]):
+        for member, start, after in zip(own, starts, [*starts[1:], len(lines) + 1]):
             end = next(
                 (
                     row
@@ -122,14 +124,14 @@ class OrderFields(NamedTuple):
                 None,
             )
             if end is None or FIXED.search("\n".join(lines[at:end])):
-                raise Unpatchable(it.name)
-            segments[it.name], at = lines[at:end], end
+                raise Unpatchable(member.name)
+            segments[member.name], at = lines[at:end], end
         new: list[str] = []
         for number, group in enumerate(self.groups):
-            for place, it in enumerate(group):
-                segment = segments[it.name]
+            for place, member in enumerate(group):
+                segment = segments[member.name]
                 if number and not place:
-                    segment = behind("\n".join(segment), it.name, self.line).split("\n")
+                    segment = behind("\n".join(segment), member.name, self.line).split("\n")
                 new += segment
         lines[first + 1 : at] = new
 
@@ -140,17 +142,17 @@ Edit = AlignRecord | AlignVariable | OrderFields
 def applied(edits: Iterable[Edit], read: Callable[[str], str]) -> dict[str, tuple[str, str]]:
     """The files of some edits, each as it is and as it is to be; `read` gives the text of one."""
     by_key: dict[tuple[str, int, str], Edit] = {}
-    for it in edits:
-        by_key.setdefault(it.key(), it)
+    for edit in edits:
+        by_key.setdefault(edit.key(), edit)
     found: dict[str, tuple[str, str]] = {}
     # (each keeps the number of lines, and those that move lines come last)
-    for it in sorted(by_key.values(), key=lambda it: isinstance(it, OrderFields)):
-        old, new = found.get(it.place.file) or (read(it.place.file),) * 2
+    for edit in sorted(by_key.values(), key=lambda edit: isinstance(edit, OrderFields)):
+        old, new = found.get(edit.place.file) or (read(edit.place.file),) * 2
         lines = new.split("\n")
-        if it.place.line > len(lines):
-            raise Unpatchable(it.place.file)
-        it.apply(lines)
-        found[it.place.file] = old, "\n".join(lines)
+        if edit.place.line > len(lines):
+            raise Unpatchable(edit.place.file)
+        edit.apply(lines)
+        found[edit.place.file] = old, "\n".join(lines)
     return found
 
 
@@ -172,27 +174,27 @@ def name_in_patch(path: str) -> str:
 
 def difference(name: str, old: str, new: str) -> str:
     rows = []
-    for it in difflib.unified_diff(
+    for row in difflib.unified_diff(
         old.splitlines(True), new.splitlines(True), f"a/{name}", f"b/{name}"
     ):
-        rows.append(it if it.endswith("\n") else f"{it}\n\\ No newline at end of file\n")
+        rows.append(row if row.endswith("\n") else f"{row}\n\\ No newline at end of file\n")
     return "".join(rows)
 
 
 def why_not(edits: Sequence[Edit] | None, path: Callable[[str], str | None]) -> str:
     """Why some edits can't be made, or nothing; `path` tells where a source is."""
     if edits is None:
-        return "what is to do there changes more than declarations"
+        return "its fix changes more than declarations"
     try:
-        applied(edits, lambda it: text_of(path(it)))
+        applied(edits, lambda file: text_of(path(file)))
     except Unpatchable as fault:
-        return f"its declaration can't be changed line by line ({fault})"
+        return f"its declaration can't be edited line by line ({fault})"
     return ""
 
 
 def patch(edits: Sequence[Edit], path: Callable[[str], str | None]) -> str:
     """All of some edits that can be made, as a unified diff."""
-    files = applied(edits, lambda it: text_of(path(it)))
+    files = applied(edits, lambda file: text_of(path(file)))
     return "".join(
         difference(name_in_patch(path(file) or file), old, new)
         for file, (old, new) in sorted(files.items())

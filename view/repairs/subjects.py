@@ -2,7 +2,7 @@
 
 import os
 import re
-from typing import Any, Iterable, Iterator, Literal, NamedTuple, Sequence
+from typing import Any, Callable, Iterable, Iterator, Literal, NamedTuple, Sequence
 
 from view.names.fields import (
     NAMES_FOR,
@@ -89,6 +89,8 @@ class Subject:
             die,
         )
         self.neighbours: list[Subject] = []
+        # (what a thread is called)
+        self.owner: Callable[[int], str] = lambda hart: f"hart {hart}"
 
     def size(self) -> int:
         return sum(size for _, size in self.ranges)
@@ -157,10 +159,10 @@ def symbols_beside(view: View, thing: Thing) -> dict[Key, Symbol]:
     """The variables that lie on lines of an object, by their keys."""
     found: dict[Key, Symbol] = {}
     for spot in thing.spots:
-        for it in spot.rows():
-            key = key_of(it, view.naming, spot.base)
-            if isinstance(it, Symbol) and key != thing.key:
-                found.setdefault(key, it)
+        for obj in spot.rows():
+            key = key_of(obj, view.naming, spot.base)
+            if isinstance(obj, Symbol) and key != thing.key:
+                found.setdefault(key, obj)
     return found
 
 
@@ -180,9 +182,9 @@ def of_symbol(view: View, thing: Thing, symbol: Symbol) -> Subject:
 def of_blocks(view: View, thing: Thing, example: Block) -> Subject:
     ranges: set[tuple[int, int]] = set()
     for spot in thing.spots:
-        for it in spot.rows():
-            if isinstance(it, Block) and key_of(it, view.naming, spot.base) == thing.key:
-                ranges.add((it.addr, it.size))
+        for obj in spot.rows():
+            if isinstance(obj, Block) and key_of(obj, view.naming, spot.base) == thing.key:
+                ranges.add((obj.addr, obj.size))
     of = sound(lambda: view.naming.type_of_block(example), None)
     shape = Shape(of) if of is not None and size_of(of) else None
     return Subject(thing, view.label(thing), disjoint(ranges), shape)
@@ -214,6 +216,7 @@ def subject_of(view: View, thing: Thing, uses: Uses) -> Subject | None:
         return None
     if not 0 < found.size() <= LARGEST:
         return None
+    found.owner = view.naming.memory.owner
     for key, symbol in symbols_beside(view, thing).items():
         other = Thing(key, symbol)
         other.name = view.naming.key_name(key, symbol)

@@ -1,4 +1,4 @@
-"""What came of the repairs that were tried of an object, and what to do about it, in a sentence."""
+"""The repairs that were tried of an object, what each came to on the trace, and the fix as a sentence."""
 
 from typing import NamedTuple
 
@@ -10,7 +10,7 @@ from view.repairs.subjects import Subject
 
 # A repair that saves fewer than one in so many of the object's misses, or of the accesses, isn't worth it.
 LITTLE, SELDOM = 10, 1000
-# Where words in which harts use different bytes have one in so many of the accesses to what harts share, words can't tell.
+# Where words in which threads use different bytes have one in so many of the accesses to what threads share, words can't tell.
 MIXED = 4
 
 
@@ -24,21 +24,21 @@ class Counted(NamedTuple):
         return self.total["useless"] + self.total["useful"]
 
     def beside(self, after: "Counted") -> str:
-        """What a repair makes of it."""
-        told = "; ".join(
-            f"{name} {self.total[name]}{' before' if name == 'useless' else ''}, {after.total[name]}{' after' if name == 'useless' else ''}"
-            for name in ("useless", "useful")
+        """The numbers before and after a repair."""
+        told = ", ".join(
+            f"{column} {self.total[name]:,} → {after.total[name]:,}"
+            for name, column in (("useless", "false"), ("useful", "true"))
         )
-        return (
-            told
+        return f"misses {told}" + (
+            ""
             if self.rule is None or after.rule is None
-            else f"{told}; by the report's rule {self.rule}, {after.rule}"
+            else f", invalidations {self.rule:,} → {after.rule:,}"
         )
 
 
 class Tried:
-    """The best of the repairs of an object and what it came to, each none where none could be tried; `instead` is what to do about words
-    in which harts use different bytes. Of a long trace only its first accesses are counted: `own_there` are the object's misses there, and
+    """The best of the repairs of an object and what it came to, each none where none could be tried; `instead` is the fix for words in
+    which threads use different bytes. Of a long trace only its first accesses are counted: `own_there` are the object's misses there, and
     none where the whole is counted."""
 
     def __init__(
@@ -70,8 +70,8 @@ class Tried:
         return self.thing.useless + self.thing.useful if self.own_there is None else self.own_there
 
     def there(self) -> str:
-        """What part of the trace was counted, where it isn't the whole."""
-        return "" if self.own_there is None else f" in the first {self.accesses:,} accesses"
+        """The part of the trace that was counted, where it isn't the whole."""
+        return "" if self.own_there is None else f" (first {self.accesses:,} accesses)"
 
     def is_rare(self) -> bool:
         """Whether the object is missed so seldom that no repair is worth anything."""
@@ -88,7 +88,7 @@ class Tried:
         return saved > 0 and saved * LITTLE >= self.own() and saved * SELDOM >= self.accesses
 
     def otherwise(self) -> str:
-        """The other way that the repair names, where that saves enough too, and what it came to."""
+        """The other way that the repair names, where that saves enough too, and what it came to; or nothing."""
         other = self.repair.instead if self.repair else None
         if (
             other is None
@@ -96,11 +96,10 @@ class Tried:
             or not self.is_much(self.before.missed() - self.other.missed())
         ):
             return ""
-        return f"; or {other.said()}, which leaves {self.other.total['useless']} useless and {self.other.total['useful']} useful"
+        return f"; or {other.said()}: {self.before.beside(self.other)}"
 
     def mixed(self) -> list[int]:
-        """The words of the object in which harts use different bytes, where these have a large part of what harts do with words that they
-        share."""
+        """The words of the object in which threads use different bytes, where these have a large part of the accesses to shared words."""
         if self.known_mixed is None:
             self.known_mixed = self.mixed_words()
         return self.known_mixed
@@ -121,28 +120,34 @@ class Tried:
         )
 
     def knows(self) -> bool:
-        """Whether what was tried says what to do."""
+        """Whether the trial decides the fix."""
         return self.after is not None or self.is_rare() or bool(self.mixed())
 
-    def sentence(self, name: str, names: list[str]) -> str:
-        """What to do about the object of a name; `names` are those of the words in which harts use different bytes."""
+    def fix(self, names: list[str], quantum: int = 0) -> str:
+        """The fix of the object; `names` are the words in which threads use different bytes, and `quantum` is 0 where it isn't known."""
         if self.is_rare():
-            return f"nothing to do: {self.own():,} of {self.accesses:,} accesses miss"
-        told = f"words can't tell: harts use different bytes of {', '.join(patterns(names))}, and misses are counted by whole words"
-        how = f"{self.instead}, and look again"
-        if self.is_saving() and self.repair and self.after:
-            counted = f"{self.repair.said()}; counted so{self.there()}: {self.before.beside(self.after)}{self.otherwise()}"
-            return counted + (f"; of the rest {told}: {how}" if names else "")
-        return f"{told}; {how}" if names else self.nothing(name)
+            return f"none needed: {self.own():,} of {self.accesses:,} accesses miss"
+        mixed = f"because threads use different bytes of {', '.join(patterns(names))} and misses are counted per 4-byte word"
+        if self.is_saving() and self.repair:
+            rest = f"; for the rest {self.instead}, then run again, {mixed}" if names else ""
+            return self.repair.said() + rest
+        if names:
+            return f"{self.instead}, then run again, {mixed}"
+        where = f" at this interleaving (quantum {quantum:,})" if quantum else " on this trace"
+        less = "; write shared data less often" if self.thing.useful >= self.thing.useless else ""
+        return f"none: no layout change helps{where}{less}"
 
-    def nothing(self, name: str) -> str:
-        """That no repair is worth it."""
+    def outcome(self, is_mixed: bool) -> str:
+        """What trying the repairs came to: the numbers before and after the one that is named, or how little the best one saves; or
+        nothing. `is_mixed` says whether threads use different bytes of words, so that the numbers don't judge the fix.
+        """
+        if self.is_rare() or self.after is None:
+            return ""
+        if self.is_saving():
+            return self.before.beside(self.after) + self.there() + self.otherwise()
+        if is_mixed:
+            return ""
         what = (
-            f"the best of {self.many} repairs that were counted saves"
-            if self.many > 1
-            else "the one repair that was counted saves"
+            f"{self.many} layouts, the best saves" if self.many > 1 else "one layout, which saves"
         )
-        said = f"nothing by putting words elsewhere: {what} {max(self.saved(), 0)} of {self.own()} misses{self.there()}"
-        if self.thing.useful < self.thing.useless:
-            return said
-        return f"{said}; what harts hand to each other in {name} costs less where it is written less often"
+        return f"{what} {max(self.saved(), 0):,} of {self.own():,} misses{self.there()}"

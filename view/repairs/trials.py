@@ -119,7 +119,7 @@ class Trial:
             return None
         least = min(own for _, own in found)
         most = least + max(self.before - least, 0) // ABOUT
-        return min((it for it in found if it[1] <= most), key=lambda it: it[0].room)
+        return min((it for it in found if it[1] <= most), key=lambda choice: choice[0].room)
 
     def best_of(
         self, subject: Subject, repairs: Sequence[Repair], useless: float
@@ -131,10 +131,10 @@ class Trial:
             if found is None or self.before - found[1] > ENOUGH * useless * self.before:
                 break
             more = [
-                it
+                joined
                 for one in repairs
-                if (it := together(subject, found[0], one, self.layout[0]))
-                and it.parts != found[0].parts
+                if (joined := together(subject, found[0], one, self.layout[0]))
+                and joined.parts != found[0].parts
             ]
             better, many = self.best(more), many + len(more)
             if better is None or found[1] - better[1] <= (self.before - found[1]) / ABOUT:
@@ -188,7 +188,9 @@ class Ground(NamedTuple):
         own = None
         if self.in_part is not None:
             there = [
-                self.in_part.lines[it.base] for it in thing.spots if it.base in self.in_part.lines
+                self.in_part.lines[spot.base]
+                for spot in thing.spots
+                if spot.base in self.in_part.lines
             ]
             own = sum(it.useless + it.useful for it in there)
         return Tried(thing, self.before, self.accesses, subject, self.uses, own)
@@ -279,7 +281,7 @@ def chosen(trial: Trial, found: Tried, subject: Subject, uses: Uses, line: int) 
     repairs = sound(functools.partial(repairs_of, subject, uses, line), none)
     if found.mixed():
         found.instead = sound(
-            functools.partial(bytewise, subject, uses, line), "give each a line of its own"
+            functools.partial(bytewise, subject, uses, line), "give each its own line"
         )
     thing = found.thing
     useless = (
@@ -306,9 +308,9 @@ def count(trial: Trial, found: Sequence[Tried]) -> Counted | None:
     )
     jobs = [*(it.repair for it in own), *(it.repair and it.repair.instead for it in own), both]
     with concurrent.futures.ThreadPoolExecutor(max_workers=min(4, os.cpu_count() or 1)) as pool:
-        counts = list(pool.map(lambda it: trial.counted(it) if it else None, jobs))
-    for at, it in enumerate(own):
-        it.after, it.other = counts[at], counts[len(own) + at]
+        counts = list(pool.map(lambda job: trial.counted(job) if job else None, jobs))
+    for at, result in enumerate(own):
+        result.after, result.other = counts[at], counts[len(own) + at]
     saving = [it for it in own if it.is_saving()]
     if len(saving) < 2 or saving == likely:
         return counts[-1] if len(saving) > 1 else None
@@ -324,9 +326,9 @@ def together_of(repairs: Sequence[Repair], line: int) -> Repair:
             [
                 *parts,
                 *(
-                    Part(it.begin, it.size, it.to + room)
+                    Part(rest.begin, rest.size, rest.to + room)
                     for one in own.parts
-                    for it in outside(one, parts)
+                    for rest in outside(one, parts)
                 ),
             ]
         )
@@ -337,7 +339,7 @@ def together_of(repairs: Sequence[Repair], line: int) -> Repair:
 def outside(part: Part, others: Sequence[Part]) -> Iterator[Part]:
     """What of a part lies in none of the others, which rise and don't overlap."""
     begin, end, by = part.begin, part.begin + part.size, part.to - part.begin
-    at = max(bisect_right(others, begin, key=lambda it: it.begin) - 1, 0)
+    at = max(bisect_right(others, begin, key=lambda part: part.begin) - 1, 0)
     while at < len(others) and others[at].begin < end:
         if begin < others[at].begin:
             yield Part(begin, others[at].begin - begin, begin + by)
@@ -351,5 +353,5 @@ def note_together(view: View, found: Sequence[Tried], counted: Counted | None) -
     """Notes what all repairs come to that are named, where they are several."""
     if counted is not None:
         view.notes.append(
-            f"all that is to do, done together{found[0].there()}: {found[0].before.beside(counted)}"
+            f"all fixes together{found[0].there()}: {found[0].before.beside(counted)}"
         )

@@ -1,4 +1,4 @@
-"""What takes the lines of a trace that has its instructions, and what is named by these."""
+"""Conflicts in a trace with program counters, and the names that come of these."""
 
 import json
 import os
@@ -22,7 +22,7 @@ TEXT = (
     "total takings 7\nend\n"
 )
 EMPTY = "predator blame 1\naccesses 0\nlayout 64 0\nlines 0\ntotal takings 0\nend\n"
-ROLES = ("victim", "taker")
+ROLES = ("victim", "invalidator")
 # Notes each call of the program behind it.
 NOTES = '#!/bin/sh\necho "$*" >>"$CALLS"\nexec "$BEHIND" "$@"\n'
 
@@ -113,7 +113,11 @@ class Guests(Traces):
             for thing in found["objects"]:
                 base = max(
                     thing["lines"],
-                    key=lambda it: (it["useless"], it["count"] or 0, -int(it["base"], 16)),
+                    key=lambda it: (
+                        it["false_sharing"],
+                        it["reported_invalidations"] or 0,
+                        -int(it["base"], 16),
+                    ),
                 )["base"]
                 words = ["explain", built(f"{name}.elf"), base, "64", "0", *TURNS]
                 rows = subprocess.run(
@@ -124,12 +128,17 @@ class Guests(Traces):
                     (int(it[5]) - int(it[3]), -int(it[3]), it[0], it[1]) for it in pairs
                 )[:8]
                 fights = [
-                    (it["same"] - it["taken"], -it["taken"], *(it[one]["address"] for one in ROLES))
-                    for it in thing["fights"]
+                    (
+                        it["same_word"] - it["invalidations"],
+                        -it["invalidations"],
+                        *(it[one]["address"] for one in ROLES),
+                    )
+                    for it in thing["conflicts"]
                 ]
                 self.assertEqual(sorted(fights), wanted, (name, thing["name"]))
                 harts = [
-                    f"from {it['from']} to {it['to']} taken {it['taken']}" for it in thing["harts"]
+                    f"from {it['victim']} to {it['invalidator']} taken {it['invalidations']}"
+                    for it in thing["harts"]
                 ]
                 self.assertEqual(harts, [it for it in rows if it.startswith("from ")])
 
@@ -144,19 +153,18 @@ class Guests(Traces):
             self.path("html"),
             program=self.program,
         )
-        self.shows(
-            text, "ring.c:34 (note < consumer) takes the line from ring.c:34 (note < producer)"
-        )
+        self.shows(text, "ring.c:34 (note < consumer) invalidates ring.c:34 (note < producer): ")
         self.assertEqual((calls.count("blame"), calls.count("explain")), (1, 0))
         with open(self.path("html"), encoding="utf-8") as file:
             page = file.read()
-        self.assertIn("takes the line", page)
+        self.assertIn("<h4>invalidates: ring.c:34 (note &lt; consumer), 0x", page)
+        self.assertIn("<h4>loses the line: ring.c:34 (note &lt; producer), 0x", page)
         self.assertIn("seen[", page)
         # (a program isn't wanted)
         text, _ = self.found()
         self.assertRegex(
             joined(text),
-            "fighting 0x0001[0-9a-f]{4} takes the line from 0x0001[0-9a-f]{4}, 150 times",
+            "where 0x0001[0-9a-f]{4} invalidates 0x0001[0-9a-f]{4}: 150 times, ",
         )
 
     def test_a_run_whose_trace_is_kept(self):
@@ -165,20 +173,18 @@ class Guests(Traces):
         self.assertEqual(
             (calls.count("blame"), calls.count("explain"), calls.count("run")), (1, 0, 1)
         )
-        self.shows(
-            text, "ring.c:34 (note < consumer) takes the line from ring.c:34 (note < producer)"
-        )
+        self.shows(text, "ring.c:34 (note < consumer) invalidates ring.c:34 (note < producer): ")
         _, calls = self.calls(*words, program=self.program)
         self.assertEqual((calls.count("blame"), calls.count("explain")), (0, 2))
 
     def test_without_instructions(self):
         self.record("ring")
         text, calls = self.calls("replay", self.trace, program=self.program)
-        self.assertNotIn("fighting", text)
+        self.assertNotIn("invalidates", text)
         self.assertNotIn("blame", calls)
         self.record("ring", "--pcs")
         text, calls = self.calls("replay", self.trace, "--explain", "0", program=self.program)
-        self.assertNotIn("fighting", text)
+        self.assertNotIn("invalidates", text)
         self.assertNotIn("blame", calls)
 
     def test_a_stack_and_memory(self):
@@ -203,16 +209,16 @@ class Lacking(Traces):
     def test_a_program_without_blame(self):
         self.record("ring", "--pcs")
         text, _ = self.found(lacks="blame")
-        self.assertNotIn("fighting", text)
+        self.assertNotIn("invalidates", text)
         self.shows(
             text,
-            "note: this program has no command `blame`, so the instructions that fight are unknown",
+            "note: this predator has no command `blame`, so the conflicting instructions are unknown",
         )
         text, found = self.found("--program", built("ring.elf"), *TURNS, lacks="blame")
         self.assertEqual(found["notes"], [])
         self.shows(
             text,
-            "ring.c:34 (note < consumer) takes the line from ring.c:34 (note < producer), 142 times",
+            "ring.c:34 (note < consumer) invalidates ring.c:34 (note < producer): 142 times, always different words",
         )
 
 
@@ -220,7 +226,7 @@ class Predictions(Shown):
     def test_none_are_asked_for(self):
         words = ("run", built("apart.elf"), *TURNS, "--explain", "0")
         text, some = self.calls(*words)
-        self.assertIn("Predicted: what would be so", text)
+        self.assertIn("predicted, if data were placed otherwise or lines were longer:\n", text)
         text, none = self.calls(*words, "--no-predicted", "--json", self.path("json"))
         self.assertNotIn("redicted", text)
         self.assertEqual(none.count("misses"), 2)
@@ -230,7 +236,7 @@ class Predictions(Shown):
         self.assertLess(some.count("misses"), every.count("misses"))
         self.assertLessEqual(some.count("misses"), 6)
         status, _, said = view(*words, "--predicted", "--no-predicted")
-        self.assertEqual((status, "two answers" in said), (2, True))
+        self.assertEqual((status, "'--no-predicted' exclude each other" in said), (2, True))
 
     def test_those_that_could_be_shown_are(self):
         for name in ("apart", "ring", "arena", "anderson", "flags"):
@@ -249,7 +255,7 @@ class Predictions(Shown):
                 with open(self.path("json"), encoding="utf-8") as file:
                     shown.append(
                         [
-                            (it["base"], it["size"], it["useless"])
+                            (it["base"], it["size"], it["false_sharing"])
                             for it in json.load(file)["predicted"]
                             if it["shown"]
                         ]
@@ -293,22 +299,22 @@ class OfThisMachine(Compiled):
         self.shows(text, "stack of thread 0, used in on_stack", "(in_plain)")
         self.assertRegex(
             joined(text),
-            r"[0-9] memory of data file, used at nameless\.c:[0-9]+ \(in_file\) worst field",
+            r"[0-9] memory of data file, used at nameless\.c:[0-9]+ \(in_file\) where ",
         )
         self.assertRegex(
-            joined(text), r"[0-9] memory used at nameless\.c:[0-9]+ \(in_plain\) worst field"
-        )
-        self.assertRegex(
-            joined(text),
-            r"fighting nameless\.c:[0-9]+ \(in_file\) takes the line from nameless\.c:[0-9]+ \(in_file\), ",
+            joined(text), r"[0-9] memory used at nameless\.c:[0-9]+ \(in_plain\) where "
         )
         self.assertRegex(
             joined(text),
-            r"block of 4,096 made at nameless\.c:[0-9]+ < main \(an arena: the instructions that use it ",
+            r"where nameless\.c:[0-9]+ \(in_file\) invalidates nameless\.c:[0-9]+ \(in_file\): ",
         )
         self.assertRegex(
             joined(text),
-            r"are nameless\.c:[0-9]+ \((odd|even)\) and nameless\.c:[0-9]+ \((odd|even)\)\)",
+            r"block of 4,096 made at nameless\.c:[0-9]+ < main \(an arena, used at ",
+        )
+        self.assertRegex(
+            joined(text),
+            r"used at nameless\.c:[0-9]+ \((odd|even)\) and nameless\.c:[0-9]+ \((odd|even)\)\)",
         )
 
     def test_by_valgrind(self):
@@ -338,15 +344,15 @@ class WithoutInstructions(Compiled):
         _, _, said = view(
             "native", "--explain", "0", self.compiled("counters", "-s", "-g0"), cwd=self.folder
         )
-        told = "/counters has no debug information, so fields and source lines are unknown: build it with -g, or install its package of"
-        self.shows(said, f"{told} debug information (Debian: NAME-dbgsym)")
+        told = "/counters has no debug information, so fields and source lines are unknown: build it with -g, or install its debug package"
+        self.shows(said, f"{told} (Debian: NAME-dbgsym)")
 
     def test_what_has_no_name_then(self):
         program = self.compiled("nameless")
         for more in ({"lacks": "blame"}, {}):
             words = () if more else ("--explain", "0")
             _, text, _ = view("native", program, *words, cwd=self.folder, **more)
-            self.assertNotIn("fighting", text)
+            self.assertNotIn("invalidates", text)
             self.shows(text, "stack of thread 0", "memory of data file", "memory at 0x")
 
 

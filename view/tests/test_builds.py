@@ -86,7 +86,9 @@ class Builds(unittest.TestCase):
         self.write("queue_test.c", SOURCE.replace("LINE", "4"))
         status, said = self.call("make", "check")
         self.assertEqual(status, 2, said)
-        self.assertRegex(said, "predator view: queue has [0-9]+ useless misses, more than 100")
+        self.assertRegex(
+            said, "predator view: queue has [0-9,]+ false-sharing misses, more than 100"
+        )
         self.write("queue_test.c", SOURCE.replace("LINE", "64"))
         os.remove(os.path.join(self.folder, "queue_test.elf"))
         status, said = self.call("make", "check")
@@ -107,7 +109,7 @@ class Builds(unittest.TestCase):
             self.assertEqual(status, wanted, said)
             if wanted:
                 self.assertRegex(
-                    said, "predator view: queue has [0-9]+ useless misses, more than 100"
+                    said, "predator view: queue has [0-9,]+ false-sharing misses, more than 100"
                 )
 
 

@@ -83,18 +83,18 @@ class CachesOfShapes(unittest.TestCase):
         status, text, said = self.call("--shape", "64x16x2", "--shape=64x64x8")
         self.assertEqual((status, said), (0, ""))
         found = text.split("\n")
-        told = "48 times in those of 2 KiB (64x16x2) and 58 in those of 32 KiB (64x64x8)"
+        told = "48 in caches of 2 KiB (64x16x2), 58 in caches of 32 KiB (64x64x8)"
         self.assertEqual(
             found[0],
-            f"2 lines of 64 bytes are taken 58 times in caches that lose no line, {told} (700 accesses)",
+            f"64-byte lines: 58 invalidations on 2 lines in infinite caches, {told} (700 accesses)",
         )
-        self.assertEqual(found[2].split(), ["39", "39", "39", "0x00001000", "<b>&mine"])
-        self.assertEqual(found[3].split(), ["19", "9", "19", "0x00002000", "lost"])
-        self.assertEqual(found[4].split(), ["58", "48", "58", "all", "lines", "(2)"])
-        self.assertEqual(found[5].split()[0::3], ["-", "evicted"])
+        self.assertEqual(found[3].split(), ["39", "39", "39", "0x00001000", "<b>&mine"])
+        self.assertEqual(found[4].split(), ["19", "9", "19", "0x00002000", "lost"])
+        self.assertEqual(found[5].split(), ["58", "48", "58", "all", "lines", "(2)"])
+        self.assertEqual(found[6].split()[0::3], ["-", "evictions"])
         # Without shapes those that are usual.
         self.assertEqual(
-            self.call()[1].split("\n")[1].split(), ["unbounded", *USUAL, "line", "object"]
+            self.call()[1].split("\n")[2].split(), ["infinite", *USUAL, "line", "object"]
         )
 
     def test_the_page_has_what_the_table_has(self):
@@ -102,7 +102,7 @@ class CachesOfShapes(unittest.TestCase):
         self.assertEqual((status, said), (0, ""))
         for it in (r"<script", r"https?:", r"""(src|href)=""", "<i>", "<b>&"):
             self.assertNotRegex(text, it)
-        self.assertIn("<h1>&lt;i&gt;t: 2 lines of 64 bytes are taken 58 times", text)
+        self.assertIn("<h1>&lt;i&gt;t: 64-byte lines: 58 invalidations on 2 lines", text)
         self.assertIn("<th>2 KiB (64x16x2)</th><th>32 KiB (64x64x8)</th>", text)
         asked = [self.asked(it) for it in ("64x16x2", "64x64x8")]
         (all_lines, *lines) = re.findall(
@@ -130,7 +130,7 @@ class CachesOfShapes(unittest.TestCase):
     def cells(self, row, own, greatest):
         """Compares the texts and the marks of a row with the counts of each shape."""
         found = re.findall(
-            r'<rect .*?width="(\d+)".*?<rect .*?width="(\d+)".*?<b>(\d+)</b> <span class="soft">evicted (\d+)<',
+            r'<rect .*?width="(\d+)".*?<rect .*?width="(\d+)".*?<b>(\d+)</b> <span class="soft">(\d+) evictions<',
             row,
         )
         self.assertEqual(
@@ -139,9 +139,9 @@ class CachesOfShapes(unittest.TestCase):
         for it, (fill, frame, _, _) in zip(own, found):
             drawn = bar(it.bounded, it.unbounded, greatest)
             self.assertEqual((int(fill), int(frame)), (drawn["fill"], drawn["frame"]))
-        self.assertIn(f'<td class="n" data-of="lose no line">{own[0].unbounded}</td>', row)
+        self.assertIn(f'<td class="n" data-of="infinite caches">{own[0].unbounded}</td>', row)
         self.assertEqual(
-            re.findall(r"<title>.*?: (\d+) of (\d+) are left", row),
+            re.findall(r"<title>.*?: (\d+) of (\d+) invalidations in caches of ", row),
             [(str(it.bounded), str(it.unbounded)) for it in own],
         )
 
@@ -149,7 +149,7 @@ class CachesOfShapes(unittest.TestCase):
         status, text, _ = self.call("--shape", "64x64x8", "--shape=8x64x8", "--html", "-")
         self.assertEqual(status, 0)
         self.assertEqual(
-            [re.findall(r"of (\d+) bytes", it)[0] for it in re.findall("<h2>(.*)</h2>", text)],
+            [re.findall(r"^(\d+)-byte lines", it)[0] for it in re.findall("<h2>(.*)</h2>", text)],
             ["64", "8"],
         )
 
@@ -157,9 +157,10 @@ class CachesOfShapes(unittest.TestCase):
         self.write(lost(0x2000, 0x3000))
         text = self.call("--shape", "64x1x1", "--shape", "64x2x1")[1]
         self.assertIn(
-            "taken 19 times in caches that lose no line, and 9 times in those of all 2 shapes", text
+            "64-byte lines: 19 invalidations on 1 line in infinite caches, 9 in caches of all 2 shapes",
+            text,
         )
-        self.assertNotIn("none of these", text)
+        self.assertNotIn("none in these", text)
         # (each write behind a read of another line, by the same hart)
         alone = [
             it
@@ -169,19 +170,20 @@ class CachesOfShapes(unittest.TestCase):
         self.write(alone)
         status, text, _ = self.call("--shape", "64x1x1", "--html", "-")
         self.assertIn(
-            "is taken 19 times in caches that lose no line, and 0 times in those of 64 bytes (64x1x1)",
+            "64-byte lines: 19 invalidations on 1 line in infinite caches, 0 in caches of 64 bytes (64x1x1)",
             text,
         )
-        self.assertIn('<span class="soft">in none of these caches</span>', text)
+        self.assertIn('<span class="soft">none in these caches</span>', text)
         self.assertRegex(text, '<rect x="1" y="3" width="0"')
-        self.assertIn("(in none of these caches)", self.call("--shape", "64x1x1")[1])
+        self.assertIn("(none in these caches)", self.call("--shape", "64x1x1")[1])
 
     def test_nothing(self):
         for accesses in ([], [Access(0, True, 0x1000, 4)]):
             self.write(accesses)
             status, text, said = self.call()
-            told = "no line of 64 bytes is taken, even in caches that lose none"
-            self.assertEqual((status, text, said), (0, f"{told} ({len(accesses)} accesses)\n", ""))
+            told = "64-byte lines: no invalidation, even in infinite caches"
+            much = "0 accesses" if not accesses else "1 access"
+            self.assertEqual((status, text, said), (0, f"{told} ({much})\n", ""))
             status, text, _ = self.call("--html", "-")
             self.assertIn(f"{told}</h1>", text)
             self.assertNotIn("<svg", text)
@@ -191,7 +193,7 @@ class CachesOfShapes(unittest.TestCase):
         text = self.call("--html", "-", "--shape", "64x64x8")[1]
         self.assertEqual(text.count("<svg"), LINES + 1)
         self.assertIn("10 more lines aren't drawn: --top 50 draws all", text.replace("&#39;", "'"))
-        self.assertIn("10 more lines: --top 50 shows all", self.call("--shape", "64x64x8")[1])
+        self.assertIn("10 more lines (--top 50 shows all)", self.call("--shape", "64x64x8")[1])
         self.assertEqual(
             self.call("--html", "-", "--top", "50", "--shape", "64x64x8")[1].count("<svg"), 51
         )
@@ -219,28 +221,32 @@ class CachesOfShapes(unittest.TestCase):
         ):
             status, _, said = self.call("--shape", bad)
             self.assertEqual(
-                (status, f"'--shape' is as 64x64x8, and not '{bad}': bytes of a line" in said),
+                (
+                    status,
+                    f"'--shape' takes SIZExSETSxWAYS, such as 64x64x8, not '{bad}': a line size"
+                    in said,
+                ),
                 (2, True),
                 bad,
             )
         for words, told in (
-            (["--shape", "64x1x1", "--shape=64x1x1"], "the shape 64x1x1 stands twice"),
-            (["--html", self.trace], "the same file is in use"),
+            (["--shape", "64x1x1", "--shape=64x1x1"], "'--shape 64x1x1' is given twice"),
+            (["--html", self.trace], "is used twice: outputs must differ"),
             (
                 ["--json", "j"],
-                "'--json' isn't for `view caches`, which takes --html, --shape, --top",
+                "`view caches` has no option '--json'; it takes --html, --shape, --top",
             ),
-            (["--size", "64"], "'--size' is no option of view caches"),
-            (["--top", "all"], "'--top' is a number"),
+            (["--size", "64"], "view caches has no option '--size'"),
+            (["--top", "all"], "'--top' takes a number, not 'all'"),
         ):
             status, _, said = self.call(*words)
             self.assertEqual((status, told in said), (2, True), said)
         status, _, said = view(
             "sweep", self.trace, "--size", "64", "--shape", "64x1x1", program=self.program
         )
-        self.assertEqual((status, "'--shape' is for `predator view caches`" in said), (2, True))
+        self.assertEqual((status, "'--shape' applies to `view caches` only" in said), (2, True))
         status, _, said = view("caches", __file__, program=self.program)
-        self.assertEqual((status, "`predator caches` was refused" in said), (2, True))
+        self.assertEqual((status, "`predator caches` failed: " in said), (2, True))
 
 
 @unittest.skipUnless(has(PROGRAM, "caches"), "the program isn't built, or has no caches")
@@ -254,7 +260,10 @@ class Texts(unittest.TestCase):
         own = Caches(TEXT.format(1, line, 1, 3), Shape(64, 1, 1), 9)
         self.assertEqual(own.lines, {0x1000: (1, 3, 0)})
         # (one time, of one line)
-        self.assertIn("1 line of 64 bytes is taken 3 times", Sized([own], {}).told())
+        self.assertIn(
+            "64-byte lines: 3 invalidations on 1 line in infinite caches, 1 in caches of 64 bytes",
+            Sized([own], {}).told(),
+        )
         for bad in (
             "",
             TEXT.format(2, line, 1, 3),
@@ -274,7 +283,7 @@ class Texts(unittest.TestCase):
         )
         text = TEXT.format(1_000_000, lines, 999_999, 1_500_000_500_000)
         own = Sized([Caches(text, shape_of("64x1x1"), LINES)], {0: "n" * 300})
-        self.assertEqual(len(list(rows(own))), LINES + 5)
+        self.assertEqual(len(list(rows(own))), LINES + 6)
         drawn = page([own], "t")
         self.assertIn("999960 more lines", drawn)
         self.assertLess(len(drawn.encode()), 100_000)

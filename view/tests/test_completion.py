@@ -8,16 +8,20 @@ from calling import HERE, TOP, built
 
 sys.path.insert(0, TOP)
 
-from view.reading.calls import FLAGS, LISTS, MARKS, RECORDS, VALUES, Call  # noqa: E402
+from view.reading.calls import FLAGS, FORMER, LISTS, MARKS, RECORDS, VALUES, Call  # noqa: E402
 from view.faults import Fault  # noqa: E402
 from view.reading.settings import OPTIONS  # noqa: E402
 
 # What each way to look takes besides an option.
 WAYS = {"run": (), "replay": (), "native": (), "sweep": ("--size", "64"), "caches": ()}
 # Values with which an option is no fault.
-GOOD = {"--type": "a.c:7=node", "--by": "count", "--sources": HERE}
+GOOD = {"--type": "a.c:7=node", "--by": "invalidations", "--sources": HERE}
 # Options that need another one, or something that a call names.
-BESIDE = {"--by": ("--fail-above", "1"), "--type": ("--back", "table")}
+BESIDE = {
+    "--by": ("--fail-above", "1"),
+    "--json-version": ("--json", "f"),
+    "--type": ("--map", "map"),
+}
 
 
 def takes(way, option, has_value):
@@ -53,7 +57,7 @@ class Completion(unittest.TestCase):
             *(f"--{it}" for it in (*VALUES, *LISTS)),
             *RECORDS,
             *(it for own in OPTIONS.values() for it in own),
-        } - bare
+        } - {*bare, *(f"--{it}" for it in FORMER)}
         for way in WAYS:
             taken = {
                 it

@@ -12,7 +12,7 @@ import tempfile
 import unittest
 import warnings
 
-from calling import HERE, PROGRAM, built, has, view
+from calling import HERE, PROGRAM, built, has, joined, view
 
 with warnings.catch_warnings():
     warnings.simplefilter("ignore")
@@ -73,10 +73,64 @@ class Files(unittest.TestCase):
         jsonschema.validate(found, schema(), cls=jsonschema.Draft202012Validator)
         self.assertEqual([it["kind"] for it in found["objects"]], ["symbol", "stack", "symbol"])
         self.assertEqual(found["objects"][0]["declared"], {"file": "odd.c", "line": 22})
-        self.assertEqual(sum(it["useless"] for it in found["objects"]), found["total"]["useless"])
+        self.assertEqual(
+            sum(it["false_sharing"] for it in found["objects"]), found["total"]["false_sharing"]
+        )
         found["more"] = 1
         with self.assertRaises(jsonschema.ValidationError):
             jsonschema.validate(found, schema(), cls=jsonschema.Draft202012Validator)
+
+    def test_the_former_version_of_json(self):
+        former = schema("..", "schema-1.json")
+        jsonschema.Draft202012Validator.check_schema(former)
+        with tempfile.TemporaryDirectory() as folder:
+            path = os.path.join(folder, "json")
+            # (with what is null in the first record: explained lines, repairs, predicted lines, the run at quantum 1)
+            for name, more in (("odd", {}), ("apart", {}), ("ring", {"STAND_IN_HAS": "move"})):
+                words = ("--set", "quantum=3", "--latency", "140", "--predicted", "--json", path)
+                found = []
+                for version in ("1", "2"):
+                    view("run", built(f"{name}.elf"), *words, "--json-version", version, **more)
+                    with open(path, encoding="utf-8") as file:
+                        found.append(json.load(file))
+                one, two = found
+                jsonschema.validate(one, former, cls=jsonschema.Draft202012Validator)
+                jsonschema.validate(two, schema(), cls=jsonschema.Draft202012Validator)
+                self.assertEqual(list(one), former["required"])
+                for it in one["objects"]:
+                    self.assertEqual(
+                        sorted(it), sorted([*former["$defs"]["object"]["required"], "repaired"])
+                    )
+                numbers = [
+                    (it["useless"], it["useful"], it["count"], it["beside"], len(it["fights"]))
+                    for it in one["objects"]
+                ]
+                wanted = [
+                    (
+                        it["false_sharing"],
+                        it["true_sharing"],
+                        it["reported_invalidations"],
+                        it["neighbours"],
+                        len(it["conflicts"]),
+                    )
+                    for it in two["objects"]
+                ]
+                self.assertEqual(numbers, wanted)
+            self.assertEqual(
+                one["objects"][0]["repaired"], {"useless": 44, "useful": 314, "count": 359}
+            )
+            self.assertEqual(
+                two["objects"][0]["tried"],
+                {
+                    "before": {"false_sharing": 342, "true_sharing": 314, "invalidations": 658},
+                    "after": {"false_sharing": 44, "true_sharing": 314, "invalidations": 359},
+                    "accesses": 2108,
+                },
+            )
+            self.assertEqual(one["time"]["by"], "steps")
+            self.assertEqual(
+                one["time"]["alternating"]["useless"], two["time"]["quantum_1"]["false_sharing"]
+            )
 
     def test_sarif(self):
         jsonschema.Draft202012Validator.check_schema(schema("sarif.json"))
@@ -96,7 +150,7 @@ class Files(unittest.TestCase):
         self.assertNotRegex(text, r"""(src|href)=(?!["']#)""")
         self.assertNotIn("http:", text)
         self.assertIn("parts&lt;script&gt;alert(1)&lt;/script&gt;", text)
-        self.assertIn("The run didn't end by exit 0: trap", text)
+        self.assertIn("The run did not end with exit 0: trap", text)
         self.assertIn("parts.high++;", text)
 
     def test_names_that_are_no_text(self):
@@ -135,7 +189,7 @@ class Files(unittest.TestCase):
         tree = subprocess.run(
             [*browser, "--dump-dom", page], capture_output=True, encoding="utf-8", timeout=50
         ).stdout
-        cells = re.findall(r'<div class="who"[^>]*>(.)</div>', tree)
+        cells = re.findall(r'<div class="who"[^>]*>(.)(?:<small>\w+</small>)?</div>', tree)
         self.assertEqual("".join(cells), "ABBBAABAB")
         self.assertIn('<div class="field">.low, .middle, .high</div>', tree)
         subprocess.run(
@@ -167,10 +221,15 @@ class Predicted(unittest.TestCase):
                 found = json.load(file)["predicted"]
             self.assertTrue(found)
             for it in found:
-                self.assertEqual(it["shown"], it["useless"] > it["inside"] and not it["why"])
+                more = it["false_sharing"] > it["observed_false_sharing"]
+                self.assertEqual(it["shown"], more and not it["reason"])
             self.assertEqual({it["kind"] for it in found if it["shown"]}, {"doubled"})
-            self.assertTrue(any("can't come to lie so" in it["why"] for it in found))
-            self.assertIn("with lines of 128 bytes", text)
+            self.assertTrue(
+                any("the data's alignment rules it out" in it["reason"] for it in found)
+            )
+            self.assertIn(
+                "with 128-byte lines at 0x00011000, 1,189 false-sharing misses instead of 0", text
+            )
             told = [
                 it
                 for it in sarif(f"{path}.sarif")["results"]
@@ -246,8 +305,10 @@ class Large(unittest.TestCase):
             for _ in range(2):
                 read, shown = Ran(READS, path), Ran(SHOWS, os.path.join(HERE, "..", ".."), path)
                 self.assertEqual(read.text, f"{2 * lines}\n")
-                self.assertIn(f"{7 * lines // 8}  table", shown.text)
-                self.assertIn("block made in work < begin, by 0x00010408 (25000 lives)", shown.text)
+                self.assertIn(f"{7 * lines // 8:,}  table", shown.text)
+                self.assertIn(
+                    "block made in work < begin, by 0x00010408 (25,000 blocks)", joined(shown.text)
+                )
                 self.assertLess(shown.memory, 1 << 20)
                 if shown.seconds < TIMES * read.seconds:
                     break
@@ -288,18 +349,19 @@ class Program(unittest.TestCase):
                     if not is_tried and has(PROGRAM, "move")
                     else ()
                 ):
-                    it["todo"] = it["repaired"] = None
+                    it["fix"] = it["tried"] = it["who"] = None
                 if is_tried:
                     self.assertEqual(text, told)
                     self.assertIn(
-                        "counted so: useless 2147 before, 0 after", " ".join(told.split())
+                        "tried misses false 2,147 → 0, true 0 → 0, invalidations 1,833 → 0",
+                        " ".join(told.split()),
                     )
                 by_name = [
                     sorted(it.pop("objects"), key=lambda it: it["key"]) for it in (found, wanted)
                 ]
                 self.assertEqual(*by_name, name)
                 notes = [
-                    [row for row in it.pop("notes") if not row.startswith("all that is to do")]
+                    [row for row in it.pop("notes") if not row.startswith("all fixes together")]
                     for it in (found, wanted)
                 ]
                 self.assertEqual((one, found, notes[0]), (other, wanted, notes[1]), name)

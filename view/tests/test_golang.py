@@ -565,12 +565,12 @@ class Names(OfBytes):
             self.assertEqual(NativeProgram.has_go_table(native), wanted)
 
     def test_what_is_lacking(self):
-        package = ", or install its package of debug information (Debian: NAME-dbgsym)"
-        go = "Go's table of functions and lines, but no types, so fields are unknown"
+        package = ", or install its debug package (Debian: NAME-dbgsym)"
+        go = "Go's function table but no types, so fields are unknown"
         none = "no debug information, so fields and source lines are unknown: build it with -g"
-        near = "; `near a panic at` is no place of the code itself, but one where its function may panic"
+        near = "; `near a panic at` names a panic of the same function, not the instruction itself"
         self.assertEqual(lacking(None), none)
-        refers = "; `near` and `in a method of` tell what the function that code is in refers to, and not the place itself"
+        refers = "; `near` and `in a method of` name something that the function refers to, not the instruction itself"
         for has_table, has_panics, has_landmarks, wanted in (
             (False, False, False, none + package),
             (False, True, True, none + package + near),
@@ -579,7 +579,7 @@ class Names(OfBytes):
                 True,
                 False,
                 True,
-                f"{go}: leave it unstripped, without -s and -w in -ldflags{package}",
+                f"{go}: link it without -s and -w in -ldflags{package}",
             ),
         ):
             asked = {

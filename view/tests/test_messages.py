@@ -1,4 +1,4 @@
-"""What a user is told that does a usual thing the wrong way, each as a whole, with the next step in it."""
+"""The messages for common mistakes, each as a whole, with the next step in it."""
 
 import os
 import re
@@ -111,13 +111,11 @@ class Messages(unittest.TestCase):
         )
         self.assertEqual(
             heard[len(said) :],
-            "predator: own: an ELF file for x86-64: guest/build.sh builds for RV32IMA\n",
+            "predator: own: the file is an ELF file for x86-64: build it for RV32IMA with guest/build.sh\n",
         )
+        self.is_refused("./own is a native program: use `predator view ./own`", "run", "./own")
         self.is_refused(
-            "./own is a program of this machine: `predator view ./own` records it", "run", "./own"
-        )
-        self.is_refused(
-            "./ring.elf is a program: `predator view ./ring.elf` runs it",
+            "./ring.elf is a program for RV32: use `predator view ./ring.elf`",
             "native",
             "--",
             "./ring.elf",
@@ -128,37 +126,39 @@ class Messages(unittest.TestCase):
 
     def test_a_program_for_a_trace(self):
         self.is_refused(
-            "ring.elf is a program: `predator view ring.elf` runs it", "replay", "ring.elf"
+            "ring.elf is a program for RV32: use `predator view ring.elf`", "replay", "ring.elf"
         )
         self.is_refused(
-            "ring.trace is a trace: `predator view ring.trace` replays it", "run", "ring.trace"
+            "ring.trace is a trace: use `predator view ring.trace`", "run", "ring.trace"
         )
 
     def test_a_trace_that_was_cut(self):
         said = "predator: cut.trace: where a kill or Ctrl-C cut it, `predator native --mend cut.trace` gives it an end\n"
-        said += "predator: cut.trace: it ends after 3000 bytes, before the trace does: write or copy it again\n"
-        said += "predator view: `predator replay` was refused: trace Truncated 3000\n"
+        said += (
+            "predator: cut.trace: the trace is cut off after 3000 bytes: record or copy it again\n"
+        )
+        said += "predator view: `predator replay` failed: trace Truncated 3000\n"
         self.assertEqual(self.view("cut.trace"), (2, "", said))
 
     def test_slips_in_words(self):
         keys = "harts, memory, stack, tracking, prediction, report, quantum, budget, line, seed"
-        said = f"'quantom=3' in --set names no key of the settings; did you mean `quantum`? the keys are: {keys}"
+        said = f"'--set quantom=3': there is no setting 'quantom'; did you mean `quantum`? the settings are {keys}"
         self.is_refused(said, "run", "ring.elf", "--set", "quantom=3")
         status, out, heard = self.predator("run", "ring.elf", "--set", "quantom=3")
         said = f"predator: did you mean `quantum`? The keys are: {keys.replace(',', '')}\n"
         self.assertEqual(
             (status, out, heard),
-            (1, "", f"{said}predator: 'quantom=3' in --set names no key of the settings\n"),
+            (1, "", f"{said}predator: 'quantom=3' in --set names an unknown key\n"),
         )
         # (before the program runs, which would put something out)
         status, out, heard = self.view("run", "ring.elf", "--html-page", "x")
-        said = "predator view: '--html-page' is no option of view run; did you mean `--html`?"
+        said = "predator view: view run has no option '--html-page'; did you mean `--html`?"
         self.assertEqual((status, out, heard.split("\nusage: ")[0]), (2, "", said))
         self.is_refused(
-            "'nosuch' is no variable of ring.elf", "run", "ring.elf", "--object", "nosuch"
+            "ring.elf has no variable 'nosuch'", "run", "ring.elf", "--object", "nosuch"
         )
         self.is_refused(
-            "'ring.elf' is no type of ring.elf, and no variable that points to one",
+            "ring.elf has no type 'ring.elf', and no pointer variable of that name",
             "run",
             "ring.elf",
             "--type",
@@ -166,7 +166,8 @@ class Messages(unittest.TestCase):
         )
 
     def test_an_object_that_is_not_there(self):
-        said = "predator: no object symbol of the trace has this name, nor was exactly one block made at that address\n"
+        said = "predator: no object symbol of the trace has this name, "
+        said += "and not exactly one block was allocated at that address: name another object\n"
         said += "predator: objects on lines that are taken: ring, stats\n"
         self.assertEqual(
             self.predator("place", "ring.trace", "nosuch"), (13, "predator: place NoObject\n", said)
@@ -186,9 +187,9 @@ class Messages(unittest.TestCase):
         status, text, _ = self.view("run", "arena.elf", *words)
         self.assertEqual(status, 0)
         text = joined(text)
-        said = "note: `--type arena.c:18=..` matches nothing: blocks that are fought over are made at arena.c:17 "
+        said = "note: `--type arena.c:18=..` matches no contended block: contended blocks are made at arena.c:17 "
         self.assertIn(
-            f"{said}note: `--sources empty` has none of the program's sources: start.S and arena.c useless useful count",
+            f"{said}note: `--sources empty` has none of the program's sources (start.S and arena.c) false true inval",
             text,
         )
 
@@ -198,15 +199,16 @@ class Messages(unittest.TestCase):
         status, text, _ = self.view(
             "run", "deep.elf", "--set", "memory=1048576", "--explain", "0", "--no-predicted"
         )
-        first, second, _ = text.split("\n", 2)
+        first, second, third, _ = text.split("\n", 3)
         self.assertEqual(status, 0)
         self.assertRegex(
             first,
-            r"^!! THE RUN DIDN'T END BY EXIT 0: trap hart 1 pc 0x\w{8} store-outside, at deep\.c:\d \(deep\)$",
+            r"^!! THE RUN DID NOT END WITH EXIT 0: trap hart 1 pc 0x\w{8} store-outside, at deep\.c:\d \(deep\)$",
         )
-        said = "!! hart 1 ran out of its stack of 65536 bytes, and wrote N bytes below its top: `--set stack=1048576` gives it more, "
+        said = "!! hart 1 overflowed its stack of 65,536 bytes: it wrote N bytes below the top; use `--set "
         self.assertEqual(
-            re.sub(r"wrote \d+", "wrote N", second), f"{said}unless it calls itself without end"
+            re.sub(r"wrote [\d,]+", "wrote N", joined(second + third)),
+            f"{said}stack=1048576`, unless it recurses without end",
         )
 
     @unittest.skipIf(LACKS, f"{' '.join(LACKS)} missing")
@@ -218,9 +220,11 @@ class Messages(unittest.TestCase):
         said = re.sub(
             r"pthread\.c:\d+",
             "pthread.c:N",
-            joined(text).partition("note: ")[2].partition(" no line is fought over")[0],
+            joined(text).partition("note: ")[2].partition(" no line is contended")[0],
         )
-        wanted = "where each hart waits: hart 0 at pthread.c:N (unlock < claim), after waits.c:13 (main); "
+        wanted = (
+            "waiting at the end: hart 0 at pthread.c:N (unlock < claim), after waits.c:13 (main); "
+        )
         self.assertEqual(
             said,
             f"{wanted}hart 1 at pthread.c:N (lock < pthread_mutex_lock), after waits.c:4 (work)",

@@ -63,10 +63,10 @@ def made(useless, *lines, functions=("malloc", "make", "main"), useful=0):
     return {
         "key": key,
         "name": f"block made at ring.c:{lines[0]}",
-        "useless": useless,
-        "useful": useful,
-        "count": 0,
-        "beside": [],
+        "false_sharing": useless,
+        "true_sharing": useful,
+        "reported_invalidations": 0,
+        "neighbours": [],
     } | {
         "words": [],
         "sites": sites,
@@ -74,10 +74,14 @@ def made(useless, *lines, functions=("malloc", "make", "main"), useful=0):
     }
 
 
+def field(name):
+    return {"field": name, "own": True, "writes": 3}
+
+
 class Compared(unittest.TestCase):
     def pairs(self, old, new):
         return sorted(
-            (a and a["useless"] or 0, b and b["useless"] or 0)
+            (a and a["false_sharing"] or 0, b and b["false_sharing"] or 0)
             for a, b in comparison.pairs(old, new)
         )
 
@@ -108,35 +112,45 @@ class Compared(unittest.TestCase):
         )
 
     def test_rows(self):
-        self.assertEqual(comparison.row(made(3, 9), made(3, 9), "useless"), "the same")
-        self.assertEqual(comparison.row(made(3, 9), None, "useless"), "gone: 3 before")
+        def row(before, after):
+            return tuple(comparison.row(before, after, comparison.MISSES))
+
+        name = "block made at ring.c:9"
+        self.assertEqual(row(made(3, 9), made(3, 9)), ([(3, 3), (0, 0)], name))
+        self.assertEqual(row(made(3, 9), None), ([(3, None), (0, None)], f"{name} (gone)"))
+        new = row(None, made(3, 9, useful=2))
+        self.assertEqual(new, ([(None, 3), (None, 2)], f"{name} (new)"))
         self.assertEqual(
-            comparison.row(None, made(3, 9, useful=2), "useless"), "new: 3 useless and 2 useful"
+            row(made(300, 9, useful=1), made(0, 9, useful=900)), ([(300, 0), (1, 900)], name)
         )
-        self.assertEqual(comparison.row(None, made(0, 9, useful=2), "useless"), "new: 2 useful")
-        told = "less: 300 before, 0 now; useful more: 1 before, 900 now"
-        self.assertEqual(
-            comparison.row(made(300, 9, useful=1), made(0, 9, useful=900), "useless"), told
-        )
+        old, new = ({**made(1, 9), "words": [field(it)]} for it in ("a", "b"))
+        self.assertEqual(row(old, new)[1], f"{name} (new fields b; gone fields a)")
 
     def test_what_was_saved_and_costs_more(self):
         view = view_of(
             [], "misses 64 0\naccesses 900\nlines 0\ntotal cold 4 useful 901 useless 0\nend\n"
         )
-        before = comparison.Before(
-            [made(300, 9, useful=1)], "exit 0", {"cold": 2, "useful": 1, "useless": 300}
-        )
-        rows = list(comparison.compared(view, before, "old"))
-        self.assertEqual(rows[1], "  all misses but cold ones: worse: 301 before, 901 now")
+        total = {"true_sharing": 1, "false_sharing": 300}
+        before = comparison.Before([made(300, 9, useful=1)], "exit 0", total)
         self.assertEqual(
-            rows[2:4],
-            ["    useless: less: 300 before, 0 now", "    useful: more: 1 before, 901 now"],
+            list(comparison.compared(view, before, "old")),
+            [
+                "",
+                "against old:",
+                "  false before  now  true before  now  object",
+                "           300    0            1  901  all: worse",
+                "           300    -            1    -  block made at ring.c:9 (gone)",
+            ],
         )
+        nothing = comparison.Before([made(0, 9)], "budget", {"true_sharing": 0, "false_sharing": 0})
         self.assertEqual(
-            rows[4:], ["  block made at ring.c:9: gone: 300 useless and 1 useful before"]
+            list(comparison.compared(view, nothing, "old"))[2:],
+            [
+                "the outcome was budget and is exit 0",
+                "  false before  now  true before  now  object",
+                "             0    0            0  901  all: worse",
+            ],
         )
-        nothing = comparison.Before([made(0, 9)], "exit 0", {"cold": 2, "useful": 0, "useless": 0})
-        self.assertEqual(list(comparison.compared(view, nothing, "old"))[4:], [])
 
 
 LOCK = OfSymbol("symbol", "lock", 0x1000)
@@ -144,8 +158,10 @@ ALIGNED = "`__attribute__((aligned(64)))`"
 
 
 def used(name, at, useful, kind=WordKind(True, False), hart="many"):
-    """A word of the object `lock` that harts use."""
-    return Told(0x1000 + at, 0x1000, name, "", name, LOCK, 0x1000, 100, 100, hart, useful, kind)
+    """A word of the object `lock` that threads use."""
+    owner = "several threads" if hart == "many" else f"hart {hart}"
+    own = (name, "", name, LOCK, 0x1000, 100, 100, hart, useful, kind, owner)
+    return Told(0x1000 + at, 0x1000, *own)
 
 
 class Advised(unittest.TestCase):
@@ -167,15 +183,17 @@ class Advised(unittest.TestCase):
         for turns in (1, 3, 100):
             for useless, useful in ((0, 300), (100, 300), (300, 20)):
                 told = self.todo(state, flags, useless=useless, useful=useful, turns=turns)
-                self.assertIn("several fields or elements lie in a word of lock.ready, .done", told)
+                self.assertIn(
+                    "several fields or elements lie in one word of lock.ready, .done", told
+                )
                 self.assertNotIn("padding", told)
             self.assertIn(
-                "several fields or elements lie in one word there", self.todo(flags, turns=turns)
+                "several fields or elements lie in one word: where", self.todo(flags, turns=turns)
             )
         self.assertIn("padding doesn't help", self.todo(state))
         # (what isn't known of memory without a type)
         self.assertIn(
-            "padding helps only where harts use different bytes",
+            "padding helps only where threads use different bytes of a word",
             self.todo(used("lock+8", 8, 200, WordKind(False, False))),
         )
 
@@ -187,13 +205,17 @@ class Advised(unittest.TestCase):
             used("lock.own+4", 12, 0, hart="1"),
         ]
         told = self.todo(*words, useless=200, useful=90)
-        self.assertIn("behind the first of each: lock.sum (shared); lock.own (hart 1)", told)
-        self.assertNotIn("+4", told)
-        self.assertIn("the sharing of lock.sum is true", self.todo(*words[:2]))
-        # (each load brings both of its words)
-        self.assertNotIn("times more", self.todo(*words[:2], useful=90))
         self.assertIn(
-            "a line for each of its words would miss 90 times more",
+            "after the first field of each: lock.sum (several threads); lock.own (hart 1)", told
+        )
+        self.assertNotIn("+4", told)
+        self.assertIn(
+            "lock.sum: true sharing (300 of 300 misses): write less", self.todo(*words[:2])
+        )
+        # (each load brings both of its words)
+        self.assertNotIn("misses more", self.todo(*words[:2], useful=90))
+        self.assertIn(
+            "its own line for each word would cost 90 misses more",
             self.todo(words[0], used("lock.other", 8, 90), useful=90),
         )
 
@@ -234,9 +256,10 @@ class Advised(unittest.TestCase):
             view = view_of(rows, memory=Memory((0xF90000, 0x1010000), 8), program=program)
             (told,) = view.seen(view.things[0]).words
             self.assertEqual(
-                (told.name, told.kind), ("0x0100ffc0, 64 below its top", WordKind(False, False))
+                (told.name, told.kind),
+                ("0x0100ffc0, 64 bytes below its top", WordKind(False, False)),
             )
-            self.assertNotIn("several fields", view.seen(view.things[0]).todo)
+            self.assertNotIn("several fields", view.seen(view.things[0]).fix)
 
     def test_all_groups_are_told(self):
         shared = [used(f"lock.{it}", 4 * at, 90) for at, it in enumerate("abcdefg")]
@@ -245,17 +268,22 @@ class Advised(unittest.TestCase):
             for name, at, writes in (("lock.room", 28, 0), ("lock.size", 32, 3))
         ]
         told = self.todo(*shared, *read, useless=200, useful=90)
-        self.assertIn("lock.f (shared); lock.g (shared); lock.size and lock.room (only read)", told)
+        self.assertIn(
+            "lock.f (several threads); lock.g (several threads); lock.size and lock.room (read-only)",
+            told,
+        )
         self.assertNotIn(" more;", told)
-        # (what is only read fights with nobody)
-        self.assertIn("begin lock on a line of its own", self.todo(*read, useless=200))
+        # (read-only words conflict with nothing)
+        self.assertIn(
+            f"start lock on its own line: {ALIGNED} after its name", self.todo(*read, useless=200)
+        )
 
     def test_words_without_names_are_not_all_told(self):
         told = self.todo(
             *[used(f"0x{4096 + 4 * at:08x}", 4 * at, 90) for at in range(9)], useless=200, useful=90
         )
-        self.assertIn("0x0000100c (shared); and 5 more groups", told)
-        self.assertNotIn("0x00001010", told.partition("belong apart")[2])
+        self.assertIn("0x0000100c (several threads); and 5 more groups", told)
+        self.assertNotIn("0x00001010", told.partition("separate these groups")[2])
 
     def test_an_object_that_fights_with_itself_and_others(self):
         words = [
@@ -266,12 +294,12 @@ class Advised(unittest.TestCase):
         thing = self.thing(200, 90)
         told = advice.sentence(thing, words, {words[2].key: "near"}, 64, True, lambda _: "")
         self.assertIn(
-            f"lock and near share lines: put {ALIGNED} behind the name of each; and these belong apart",
+            f"lock and near share lines: put {ALIGNED} after each name, and separate these groups",
             told,
         )
-        self.assertIn("lock.a (shared); lock.b (shared)", told)
+        self.assertIn("lock.a (several threads); lock.b (several threads)", told)
         self.assertNotIn(
-            "belong apart",
+            "separate these groups",
             advice.sentence(thing, words[1:], {words[2].key: "near"}, 64, True, lambda _: ""),
         )
 
@@ -290,8 +318,8 @@ class Objects(unittest.TestCase):
             ("tail", 200, ["head"]),
         )
         self.assertEqual(
-            view.seen(thing).todo,
-            f"tail and head share lines: put {ALIGNED} behind the name of each",
+            view.seen(thing).fix,
+            f"tail and head share lines: put {ALIGNED} after each name",
         )
         self.assertIn("head", view.names_of(thing))
 
@@ -344,7 +372,7 @@ class Objects(unittest.TestCase):
         self.assertEqual([it.name for it in view.listed()], ["_mine", "queue"])
         (shown,) = [it for it in screen(view, Paint(io.StringIO())) if "library" in it]
         self.assertEqual(
-            shown.split(), "- - 602 2 2 objects of the C library: --library shows them".split()
+            shown.split(), "602 2 2 objects of the C library (--library shows them)".split()
         )
         for option in ({"library": ""}, {"object": "__malloc_lock"}):
             view.call.options.update(option)
@@ -366,10 +394,10 @@ class Objects(unittest.TestCase):
 
     def test_the_pair_that_takes_most_for_nothing_is_first(self):
         pairs = [Pair(1, 2, 90, 90), Pair(3, 4, 50, 10), Pair(5, 6, 45, 4), Pair(7, 8, 40, 10)]
-        seen = Seen(None, [], SimpleNamespace(pairs=pairs), "", None)
+        seen = Seen(None, [], SimpleNamespace(pairs=pairs), "", "", None)
         self.assertEqual([it.victim for it in seen.fights()], [5, 3, 7, 1])
         self.assertEqual(seen.fight().victim, 5)
-        self.assertIsNone(Seen(None, [], None, "", None).fight())
+        self.assertIsNone(Seen(None, [], None, "", "", None).fight())
 
     def test_words_of_lines_that_are_not_listed(self):
         counted = "misses 64 0\naccesses 900\nlines 1\nline 0x00001000 cold 2 useful 1 useless 500\nobject symbol a 0x00001000 8\n"
@@ -389,8 +417,9 @@ class Objects(unittest.TestCase):
             [(it.name, it.reads, it.writes, it.hart) for it in view.seen(thing).words],
             [("a", 9, 1, "0"), ("b", 30, 40, "1")],
         )
-        told = f"b and a share lines: put {ALIGNED} behind the name of each; this saves up to 500 of 501 misses"
-        self.assertEqual(view.seen(thing).todo, told)
+        told = f"b and a share lines: put {ALIGNED} after each name; saves up to 500 of 501 misses"
+        self.assertEqual(view.seen(thing).fix, told)
+        self.assertEqual((view.invalidations(thing), thing.count), (40, 0))
 
     def test_one_row_for_a_call_site_that_makes_and_frees(self):
         rows = []
@@ -411,8 +440,8 @@ class Objects(unittest.TestCase):
             (thing.name, len(thing.spots), len(thing.lives), thing.count),
             ("block made in make", 40, 1200, 40 * 300 - 780),
         )
-        (shown,) = [it for it in screen(view, Paint(io.StringIO())) if "lives)" in it]
-        self.assertEqual(shown.split(), "1 - - 11220 40 block made in make (1200 lives)".split())
+        (shown,) = [it for it in screen(view, Paint(io.StringIO())) if "blocks)" in it]
+        self.assertEqual(shown.split(), "1 11,220 40 block made in make (1,200 blocks)".split())
 
     def test_objects_of_one_name_are_told_apart(self):
         rows = []
@@ -523,7 +552,7 @@ class Objects(unittest.TestCase):
         four = 9000 * 4 - 0x1000 * 4 - 0x40 * 6
         self.assertTrue(
             told(0, 0, 0, four + 1)[0].startswith(
-                f"{four + 1} of the {2 * four + 1} misses that aren't cold are true sharing"
+                f"{four + 1:,} of all {2 * four + 1:,} sharing misses are true sharing of one object"
             )
         )
         self.assertIn("in row 4: v10c0", told(0, 0, 0, four + 1)[0])
@@ -547,11 +576,12 @@ class Objects(unittest.TestCase):
             )
             view.arrange()
             self.assertEqual(
-                "nothing here is worth doing" in "\n".join(screen(view, Paint(io.StringIO()))),
+                "no change is worth it: fewer than one in 10,000 accesses is a sharing miss"
+                in "\n".join(screen(view, Paint(io.StringIO()))),
                 is_clean,
             )
             self.assertEqual(
-                view.seen(view.things[0]).todo.startswith("leave it: it has 9 of the 9 misses"),
+                view.seen(view.things[0]).fix == "not worth a change: 9 of all 9 sharing misses",
                 is_clean,
             )
 
@@ -561,7 +591,7 @@ class Objects(unittest.TestCase):
             "object symbol lock 0x00001000 4",
             word(0x1000, 5, 50, "many"),
         ]
-        self.assertIn(" 123456789012 ", "\n".join(screen(view_of(rows), Paint(io.StringIO()))))
+        self.assertIn(" 123,456,789,012 ", "\n".join(screen(view_of(rows), Paint(io.StringIO()))))
 
     def test_blocks_of_one_call_site_are_one_object(self):
         rows = ["line observed 0x00002000 64 start 0 count 300 verdict false"]
@@ -597,7 +627,7 @@ class Objects(unittest.TestCase):
         self.assertEqual(
             view.notes,
             [
-                "`--type pool::take=..` matches nothing: blocks that are fought over are made at pool::give"
+                "`--type pool::take=..` matches no contended block: contended blocks are made at pool::give"
             ],
         )
 
@@ -633,7 +663,7 @@ class Objects(unittest.TestCase):
         for cause, told in (
             ("load-misaligned", "`memcpy`"),
             ("store-misaligned", "`memcpy`"),
-            ("load-outside", "until then"),
+            ("load-outside", "the report covers the run up to that point"),
         ):
             view.report.outcome = f"trap hart 0 pc 0x00010000 {cause}"
             self.assertIn(told, "\n".join(screen(view, Paint(io.StringIO()))))
@@ -647,8 +677,8 @@ class Objects(unittest.TestCase):
             frames=lambda _: [],
         )
         for pc, told in (
-            (0, "to where no code is"),
-            (0x10FF0, "until then"),
+            (0, "the program jumped to an address without code"),
+            (0x10FF0, "the report covers the run up to that point"),
             (0x11000, "`--set stack=1048576`"),
         ):
             view.report.outcome = f"trap hart 0 pc {pc:#010x} illegal"
@@ -673,13 +703,15 @@ class Objects(unittest.TestCase):
     def test_a_stack_that_is_too_small(self):
         down = [(1, True, at) for at in range(0xFFFFF0, 0xFFFFF0 - 0x18000, -32)]
         self.assertIn(
-            "hart 1 ran out of its stack of 65536 bytes, and wrote 98288 bytes below its top",
+            "hart 1 overflowed its stack of 65,536 bytes: it wrote 98,288 bytes below the top",
             self.overflow(*down),
         )
-        self.assertIn("`--set stack=131072` gives it more", self.overflow(*down))
+        self.assertIn(
+            "use `--set stack=131072`, unless it recurses without end", self.overflow(*down)
+        )
         deep = [(7, True, at) for at in range(0xF9FFF0, 0xF9FFF0 - 0x200000, -1024)]
-        self.assertIn("hart 7 ran out of its stack of 65536 bytes", self.overflow(*deep))
-        self.assertIn("it calls itself without end", self.overflow(*deep))
+        self.assertIn("hart 7 overflowed its stack of 65,536 bytes", self.overflow(*deep))
+        self.assertIn("exceed the largest stack, 1,048,576 bytes", self.overflow(*deep))
         # What a hart reads there, or writes far from its stack, is data of others.
         self.assertIsNone(self.overflow(*((hart, False, at) for hart, _, at in down)))
         self.assertIsNone(self.overflow(*((1, True, at) for at in range(0xF80000, 0xF90000, 32))))
@@ -733,7 +765,7 @@ class Objects(unittest.TestCase):
         self.assertEqual(len(together(found)), 2)
         view.misses, view.all = native, {it: SimpleNamespace(name=f"o{it}") for it in range(5)}
         self.assertIn(
-            "o0, o1, o2 and 2 more: with lines",
+            "o0, o1, o2 and 2 more: with lines starting at 0x00001020, 10 false-sharing misses instead of 9; ",
             prediction(view, [found[0]._replace(keys=tuple(range(5)))]),
         )
 
@@ -753,7 +785,7 @@ class Objects(unittest.TestCase):
         return found.is_shown, found.why
 
     def test_what_says_nothing_new_is_folded(self):
-        no_more = (False, "it has no more useless misses than the observed lines there")
+        no_more = (False, "it adds no false sharing to that of the observed lines")
         ring = ["object symbol ring 0x00001000 256"]
         # A pad that was cleared once, beside words that are fought over anyway; a doubled line around one that is observed.
         self.assertEqual(self.judge("shifted", 0x1020, ring, [(0x1000, 300)], 300), no_more)
@@ -766,7 +798,7 @@ class Objects(unittest.TestCase):
         self.assertEqual(self.judge("shifted", 0x1020, ring, [], 1), (True, ""))
 
     def test_what_no_placement_reaches_is_folded(self):
-        unreachable = (False, "data aligned as it is can't come to lie so")
+        unreachable = (False, "the data's alignment rules it out")
         for alignment, base, wanted in (
             (8, 0x1024, unreachable),
             (8, 0x1028, (True, "")),

@@ -1,6 +1,7 @@
-"""What `place` answers of an object, and what the screen says to do then: over the stand-in, and over the program where it is built."""
+"""The answers of `place` for an object, and the fix on the screen: over the stand-in, and over the program where it is built."""
 
 import os
+import re
 import sys
 import tempfile
 import unittest
@@ -26,7 +27,7 @@ class Places(unittest.TestCase):
     program = STAND_IN
 
     def todo(self, accesses, *records, shows=1, options=()):
-        """What the screen says to do about the first object of a trace, or more of them."""
+        """The fix on the screen for the first object of a trace, or more of them."""
         with tempfile.TemporaryDirectory() as folder:
             trace = os.path.join(folder, "t")
             with open(trace, "wb") as file:
@@ -47,30 +48,28 @@ class Places(unittest.TestCase):
                 )
             status, text, said = view("replay", trace, *options, program=self.program)
         self.assertEqual((status, said), (0, ""))
-        told = [it.partition("  worst field")[0] for it in text.split("to do ")[1:]]
-        return [
-            joined(it.partition("Predicted:")[0].partition(" predicted line")[0]) for it in told
-        ][:shows]
+        told = [joined(it) for it in text.partition("predicted")[0].split("   fix     ")[1:]]
+        return [re.split(r" \d+ [\d,]+ \d+ | \d+ predicted", it)[0] for it in told][:shows]
 
     def test_apart_by_harts(self):
         (told,) = self.todo(fight(0x1000, 0x1004), named(b"queue", 0x1000, 8))
         self.assertIn(
-            "this saves up to 238 of 238 misses; `place` puts its words apart by their harts, queue (hart 0); queue+4 (hart 1): then",
+            "saves up to 238 of 238 misses; grouped by thread (queue (hart 0); queue+4 (hart 1)), invalidations ",
             told,
         )
-        self.assertIn("then lines are taken 0 times in all, and not 239", told)
+        self.assertIn("), invalidations 239 → 0 (place)", told)
 
     def test_words_of_many_harts(self):
         (told,) = self.todo(fight(0x1000, 0x1000), named(b"lock", 0x1000, 4))
         self.assertIn(
-            "`place` gains nothing: with its words put apart by their harts, lines are taken 239 times in all, and 239 as they lie",
+            "; grouping its words by thread gains nothing: invalidations 239 → 239 (place)",
             told,
         )
         (told,) = self.todo(
             [*fight(0x1000, 0x1004), *fight(0x1008, 0x1008)], named(b"both", 0x1000, 12)
         )
         self.assertIn(
-            "both (hart 0); both+4 (hart 1); both+8 (many harts): then lines are taken 239 times in all, and not 479",
+            "(both (hart 0); both+4 (hart 1); both+8 (several threads)), invalidations 479 → 239 (place)",
             told,
         )
 
@@ -79,7 +78,7 @@ class Places(unittest.TestCase):
             fight(0x1000, 0x1044), named(b"wide", 0x1000, 72), options=("--size", "128")
         )
         self.assertIn(
-            "wide (hart 0); wide+68 (hart 1): then lines are taken 0 times in all, and not 239",
+            "(wide (hart 0); wide+68 (hart 1)), invalidations 239 → 0 (place)",
             told,
         )
 
@@ -90,10 +89,10 @@ class Places(unittest.TestCase):
             (b"\xc3\xa9\x1b[31m", "\\xc3\\xa9\\x1b[31m"),
         ):
             (told,) = self.todo(fight(0x1000, 0x1004), named(name, 0x1000, 8))
-            self.assertIn(f"{printed} (hart 0); {printed}+4 (hart 1): then", told)
+            self.assertIn(f"({printed} (hart 0); {printed}+4 (hart 1)), invalidations ", told)
         # (no word of a call may be so)
         (told,) = self.todo(fight(0x1000, 0x1004), named(b"\xff", 0x1000, 8))
-        self.assertNotIn("`place`", told)
+        self.assertNotIn("(place)", told)
 
     def test_too_large_and_no_room(self):
         for symbol, words in (
@@ -102,7 +101,8 @@ class Places(unittest.TestCase):
         ):
             (told,) = self.todo(fight(*words), symbol)
             self.assertRegex(
-                told, "^(harts have|these belong|begin) .*this saves up to 238 of 238 misses$"
+                told,
+                "^(give each thread|separate these groups|start) .*saves up to 238 of 238 misses$",
             )
 
     def test_the_first_of_one_name(self):
@@ -112,20 +112,20 @@ class Places(unittest.TestCase):
             named(b"own", 0x2000, 8),
             shows=2,
         )
-        self.assertIn("`place` puts its words apart", first)
+        self.assertIn("; grouped by thread (", first)
         self.assertNotIn("place", second)
 
     def test_a_block_by_its_address(self):
         made = (0, Alloc(0x2000, 16, (0x104, 0, 0, 0)))
         (told,) = self.todo(fight(0x2000, 0x2004), made)
         self.assertIn(
-            "`place` puts its words apart by their harts, +0 (hart 0); +4 (hart 1): then lines are taken 0 times in all",
+            "; grouped by thread (+0 (hart 0); +4 (hart 1)), invalidations 239 → 0 (place)",
             told,
         )
         # (of several that were made there none is meant)
         earlier = [(0, Alloc(0x2000, 16, (0x200, 0, 0, 0))), (0, Free(0x2000))]
         (told,) = self.todo(fight(0x2000, 0x2004), *earlier, made)
-        self.assertNotIn("`place`", told)
+        self.assertNotIn("(place)", told)
 
 
 @unittest.skipUnless(has(PROGRAM, "misses", "place"), "the program isn't built, or has no place")
@@ -134,7 +134,7 @@ class PlacesOfTheProgram(Places):
 
     def test_the_largest(self):
         (told,) = self.todo(fight(0x1000, 0x1004), named(b"table", 0x1000, 2**24))
-        self.assertIn("then lines are taken 0 times in all", told)
+        self.assertIn("), invalidations 239 → 0 (place)", told)
 
 
 if __name__ == "__main__":

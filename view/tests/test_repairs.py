@@ -1,4 +1,4 @@
-"""Programs with known sharing: what is advised is done, and comes to what was foretold."""
+"""Programs with known sharing: each fix is made, and comes to what was counted of its trial."""
 
 import json
 import os
@@ -8,18 +8,19 @@ import subprocess
 import tempfile
 import unittest
 
-from calling import HERE, PROGRAM, TOP, has, view
+from calling import HERE, PROGRAM, TOP, has, joined, view
 
 KNOWN = os.path.join(HERE, "programs", "known")
 LACKS = [it for it in ("clang", "ld.lld", "patch") if shutil.which(it) is None]
-COUNTED = re.compile(r"useless (\d+) before, (\d+) after; useful (\d+), (\d+)")
-OTHERWISE = re.compile(
-    r"; or give neighbouring elements to one thread, which leaves (\d+) useless and (\d+) useful"
-)
+COUNTED = re.compile(r"misses false ([\d,]+) → ([\d,]+), true ([\d,]+) → ([\d,]+)")
+OTHERWISE = re.compile(r"; or assign neighbouring elements to one thread: " + COUNTED.pattern)
+
+
+SHARING = ("false_sharing", "true_sharing")
 
 
 class Following(unittest.TestCase):
-    """How a program is built and looked at, and how its repairs are followed."""
+    """How a program is built and viewed, and how its fixes are made."""
 
     suffix = ".elf"
     # (what shares one word)
@@ -44,26 +45,37 @@ class Following(unittest.TestCase):
         return out
 
     def look(self, program, *words, turns=None):
-        """What view finds of a run."""
-        call = [*self.call(program, turns), "--explain", "0", *words, "--json", "-"]
+        """The record of a run; the screen is kept beside it."""
+        path = os.path.join(self.folder, "json")
+        call = [*self.call(program, turns), "--explain", "0", *words, "--json", path]
         status, text, said = view(*call, program=PROGRAM, cwd=self.folder)
         self.assertEqual((status, said), (0, ""), program)
-        return json.loads(text)
+        with open(path, encoding="utf-8") as file:
+            return {**json.load(file), "screen": joined(text)}
 
     def missed(self, found):
-        return found["total"]["useless"] + found["total"]["useful"]
+        return found["total"]["false_sharing"] + found["total"]["true_sharing"]
 
-    def todo(self, found):
-        return " ".join(it["todo"] for it in found["objects"])
+    def fixes(self, found):
+        return " ".join(it["fix"] for it in found["objects"])
+
+    def trials(self, found):
+        return [it["tried"] for it in found["objects"] if it["tried"]]
 
     def foretold(self, found):
-        """What the misses come to once all is done that is to do."""
-        together = [it for it in found["notes"] if it.startswith("all that is to do")]
-        (told,) = COUNTED.findall(together[0] if together else self.todo(found))
-        self.assertEqual(
-            (int(told[0]), int(told[2])), (found["total"]["useless"], found["total"]["useful"])
-        )
-        return int(told[1]) + int(told[3])
+        """The misses with all fixes."""
+        together = [it for it in found["notes"] if it.startswith("all fixes together")]
+        if not together:
+            (trial,) = self.trials(found)
+            self.assertEqual(
+                {it: trial["before"][it] for it in SHARING},
+                {it: found["total"][it] for it in SHARING},
+            )
+            return sum(trial["after"][it] for it in SHARING)
+        (told,) = COUNTED.findall(together[0])
+        before, after, true_before, true_after = (int(it.replace(",", "")) for it in told)
+        self.assertEqual([before, true_before], [found["total"][it] for it in SHARING])
+        return after + true_after
 
     def comes_to(self, name, found, after):
         self.is_near(name, found, self.foretold(found), after)
@@ -89,7 +101,7 @@ class Following(unittest.TestCase):
         """Follows a patch."""
         found = self.start(name, turns)
         for it in parts:
-            self.assertIn(it, self.todo(found))
+            self.assertIn(it, self.fixes(found))
         ran = subprocess.run(
             ["patch", "-p1"], cwd=self.folder, input=self.text(), capture_output=True, text=True
         )
@@ -97,41 +109,47 @@ class Following(unittest.TestCase):
         self.comes_to(name, found, self.missed(self.look(self.build(name), turns=turns)))
 
     def told(self, name, *parts):
-        """Follows what the sentences say, as the source has it under -DREPAIRED."""
+        """Makes the fixes, as the source has them under -DREPAIRED."""
         found = self.start(name)
         for it in parts:
-            self.assertIn(it, self.todo(found))
-        self.assertIn("changes more than declarations", " ".join(found["notes"]))
+            self.assertIn(it, self.fixes(found))
+        self.assertIn("its fix changes more than declarations", " ".join(found["notes"]))
         self.comes_to(name, found, self.missed(self.look(self.build(name, "-DREPAIRED"))))
         return found
 
     def rows(self):
-        """Follows both of what is said of the rows of a grid."""
-        found = self.told("grid", "own_line { int32_t value[21]; };`")
-        ((useless, useful),) = OTHERWISE.findall(self.todo(found))
+        """Makes both fixes for the rows of a grid."""
+        found = self.told(
+            "grid",
+            "wrap it in `struct __attribute__((aligned(64))) own_line { int32_t value[21]; };`",
+        )
+        ((_, useless, _, useful),) = OTHERWISE.findall(found["screen"])
         self.is_near(
             "neighbouring rows",
             found,
-            int(useless) + int(useful),
+            int(useless.replace(",", "")) + int(useful.replace(",", "")),
             self.missed(self.look(self.build("grid", "-DNEIGHBOURS"))),
         )
 
     def bytes(self, *turns):
-        """Follows what is said of bytes, of which nothing is foretold."""
+        """Makes the fix for bytes, of which no trial is counted."""
         found = self.start("bytes")
-        self.assertNotIn("counted so", self.todo(found))
+        self.assertEqual(self.trials(found), [])
         after = self.look(self.build("bytes", "-DREPAIRED"))
         self.assertLess(self.missed(after), self.missed(found) / 10)
         self.build("bytes")
         for it in turns:
             found = self.look(f"bytes{self.suffix}", turns=it) if it else found
-            (todo,) = [it["todo"] for it in found["objects"] if it["name"] == "marks"]
-            self.assertRegex(todo, f"words can't tell: harts use different bytes of {self.marks}")
-            self.assertIn(
-                "struct __attribute__((aligned(64))) own_line { unsigned char value; };`, and look again",
-                todo,
+            (fix,) = [it["fix"] for it in found["objects"] if it["name"] == "marks"]
+            self.assertRegex(
+                fix,
+                f", then run again, because threads use different bytes of {self.marks} and misses are counted per 4-byte word",
             )
-            self.assertNotIn("padding", todo)
+            self.assertIn(
+                "wrap it in `struct __attribute__((aligned(64))) own_line { unsigned char value; };`, then",
+                fix,
+            )
+            self.assertNotIn("padding", fix)
 
 
 @unittest.skipIf(LACKS, f"{' '.join(LACKS)} missing")
@@ -140,11 +158,13 @@ class Known(Following):
     def test_statistics_of_workers(self):
         self.patched(
             "workers",
-            "`struct __attribute__((aligned(64))) worker` (workers.c:7): 12 bytes become 64 each, and 48 become 256",
+            "its own line: `struct __attribute__((aligned(64))) worker` (workers.c:7), 12 → 64 bytes each, 48 → 256 bytes in all",
         )
 
     def test_a_deque_of_work(self):
-        self.patched("deque", "put the fields of `struct deque` (deque.c:9) in this order")
+        self.patched(
+            "deque", "group the fields of `struct deque` (deque.c:9), each group on its own lines: "
+        )
 
     def test_a_ring_with_cached_indices(self):
         self.patched(
@@ -154,19 +174,19 @@ class Known(Following):
 
     def test_a_setting_beside_a_counter(self):
         self.patched(
-            "setting", "give setting (setting.c:7) and counter (setting.c:8) lines of their own"
+            "setting", "give setting (setting.c:7) and counter (setting.c:8) each its own line: "
         )
 
     def test_a_flag_beside_an_array(self):
         self.patched(
             "stop",
-            "give each element of done lines of its own by `struct __attribute__((aligned(64))) done`",
+            "give each element of done its own line: `struct __attribute__((aligned(64))) done`",
         )
 
     def test_a_slab(self):
         self.told(
             "slab",
-            "give each thread an arena of its own",
+            "give each thread its own arena, with start and size rounded up to multiples of 64",
             "`struct __attribute__((aligned(64))) list` (slab.c:15)",
         )
 
@@ -188,7 +208,7 @@ class Known(Following):
             "sums",
             "each element of table.counts",
             "each element of table.sums",
-            "each, and 64 become 576 in all",
+            " bytes each, 64 → 576 bytes in all",
         )
 
     def test_bytes_of_a_word(self):
@@ -198,14 +218,18 @@ class Known(Following):
     def test_a_trace_that_has_its_instructions(self):
         found = self.start("workers")
         kept = self.look("workers.elf", "--trace", "trace", "--pcs")
-        self.assertIn("counted so: ", self.todo(found))
-        self.assertEqual(self.todo(kept), self.todo(found))
+        self.assertNotEqual(self.trials(found), [])
+        self.assertEqual(self.trials(kept), self.trials(found))
+        self.assertEqual(self.fixes(kept), self.fixes(found))
 
     def test_true_sharing(self):
         for name in ("adders", "handover"):
             found = self.start(name)
-            self.assertIn("nothing by putting words elsewhere: ", self.todo(found))
-            self.assertNotIn("aligned", self.todo(found))
+            self.assertIn(
+                "none: no layout change helps at this interleaving (quantum 3); write shared data less often",
+                self.fixes(found),
+            )
+            self.assertNotIn("aligned", self.fixes(found))
             self.assertEqual(self.text(), "")
 
 
@@ -230,17 +254,21 @@ class OfThisMachine(Following):
     def test_patches(self):
         self.patched(
             "workers",
-            "`struct __attribute__((aligned(64))) worker` (workers.c:7): 16 bytes become 64 each, and 64 become 256",
+            "its own line: `struct __attribute__((aligned(64))) worker` (workers.c:7), 16 → 64 bytes each, 64 → 256 bytes in all",
         )
         for name in ("cached", "setting", "stop"):
             self.patched(name)
         # (in longer turns thieves find the deque empty, and harts only hand it to each other)
-        self.patched("deque", "put the fields of `struct deque` (deque.c:9) in this order", turns=1)
+        self.patched(
+            "deque",
+            "group the fields of `struct deque` (deque.c:9), each group on its own lines: ",
+            turns=1,
+        )
 
     def test_sentences(self):
         self.told(
             "mutexes",
-            "own_line { pthread_mutex_t value; };`: 40 bytes become 64 each, and 160 become 256 in all",
+            "own_line { pthread_mutex_t value; };`, 40 → 64 bytes each, 160 → 256 bytes in all",
         )
         for name in ("slab", "table", "sums"):
             self.told(name)
@@ -253,7 +281,7 @@ class OfThisMachine(Following):
 
     def test_nothing_to_do(self):
         for name in ("adders", "handover"):
-            self.assertNotIn("counted so", self.todo(self.start(name)))
+            self.assertEqual(self.trials(self.start(name)), [])
             self.assertEqual(self.text(), "")
 
 

@@ -1,4 +1,4 @@
-"""The first screen, as a user of each kind of program meets it, and what calls end with."""
+"""The first screen of each kind of program, and the statuses of calls."""
 
 import json
 import os
@@ -11,8 +11,8 @@ from calling import PROGRAM, STAND_IN, TOP, TURNS, built, has, joined, view
 
 # A call that takes so many seconds reads a pipe that nobody writes: a busy machine takes a minute or two.
 HANGS = 900
-# What to do about a stack that harts fight over.
-OF_STACK = "other harts use variables of this stack: `__attribute__((aligned(64)))` on these, or a place of their own"
+# The fix for a contended stack.
+OF_STACK = "other threads use variables on this stack: put __attribute__((aligned(64))) on these, or move them off the stack"
 
 
 class Shown(unittest.TestCase):
@@ -25,16 +25,39 @@ class Screens(Shown):
     def test_ring_with_statistics(self):
         status, text, said = view("run", built("ring.elf"), *TURNS)
         self.assertEqual((status, said), (0, ""))
-        self.shows(text, "1 298 0 284 1 stats", "worst field stats[2].seen[0].high")
+        self.shows(text, "1 298 0 299 1 stats: struct stats[4], ring.c:29 where ")
         self.shows(
             text,
-            "give each element of stats lines of its own by `struct __attribute__((aligned(64))) stats` (ring.c:24)",
+            "fix give each element of stats its own line: struct __attribute__((aligned(64))) stats (ring.c:24)",
         )
         self.shows(
             text,
-            "ring.c:34 (note < consumer) takes the line from ring.c:34 (note < producer), 142 times, never for the same word",
+            "where ring.c:34 (note < consumer) invalidates ring.c:34 (note < producer): 142 times, always different words "
+            "(write after write); in all 284 write → write; the line is hardly read, so store buffers hide most of them",
         )
-        self.shows(text, "2 44 314 331 2 ring", "314 of 358 misses bring what another hart wrote")
+        self.shows(
+            text,
+            "who each thread writes its own element: hart 1: [1]; hart 2: [2] (72 writes) fix",
+        )
+        self.shows(
+            text,
+            "2 44 314 359 2 ring: struct ring, ring.c:28",
+            "write ring.head, ring.tail and ring.slots[..] less often (314 of 358 misses are true sharing)",
+        )
+
+    def test_the_first_lines(self):
+        _, text, _ = view("run", built("ring.elf"), "--explain", "0", "--no-predicted")
+        self.assertEqual(
+            text.split("\n")[:6],
+            [
+                "ring.elf: exit 0, 6,107 instructions, 2,111 accesses; 64-byte lines, quantum 100",
+                "61 false-sharing misses, 68 true-sharing, 9 cold: 9.99 false per 1,000 instructions (severe: padding",
+                "  typically makes such programs 1.8 to 2.6 times faster)",
+                "",
+                "   false    true   inval   lines  object",
+                "1     60       0      61       1  stats: struct stats[4], ring.c:29",
+            ],
+        )
 
     def test_options_that_match_nothing(self):
         with tempfile.TemporaryDirectory() as folder:
@@ -44,20 +67,21 @@ class Screens(Shown):
             first, second = json.loads(text)["notes"]
             self.assertEqual(
                 first,
-                "`--type arena.c:18=..` matches nothing: blocks that are fought over are made at arena.c:17",
+                "`--type arena.c:18=..` matches no contended block: contended blocks are made at arena.c:17",
             )
-            self.assertIn(f"`--sources {folder}` has none of the program's sources: ", second)
+            self.assertIn(f"`--sources {folder}` has none of the program's sources (", second)
             self.assertIn("arena.c", second)
 
     def test_arena(self):
         _, text, _ = view("run", built("arena.elf"), *TURNS, "--type", "arena.c:17=node", "--words")
         self.shows(
             text,
-            "1 1187 1 794 1 block made at arena.c:17 < main (4 lives)",
-            "64 bytes more for each, and its start rounded up",
+            "1 1,187 1 797 1 block made at arena.c:17 < main: struct node (4 blocks) where",
+            "fix allocate each of these blocks on its own lines: aligned_alloc(64, ..) with sizes rounded up to multiples of 64",
         )
-        self.shows(text, "let no two of these blocks share a line: `aligned_alloc(64, ..)`")
-        self.shows(text, "0x00011014 199 200 0 2 .count")
+        self.shows(
+            text, "address reads writes alone thread field", "0x00011014 199 200 0 hart 2 .count"
+        )
 
     def test_a_trap_is_loud(self):
         _, text, _ = view(
@@ -65,9 +89,9 @@ class Screens(Shown):
         )
         self.shows(
             text,
-            "!! THE RUN DIDN'T END BY EXIT 0: trap hart 0",
+            "!! THE RUN DID NOT END WITH EXIT 0: trap hart 0",
             "store-outside, at odd.c:48 (main)",
-            "1 77 0 0 1 stack of hart 0",
+            "1 77 0 78 1 stack of hart 0",
         )
         self.assertNotIn("flags", text)
 
@@ -79,22 +103,21 @@ class Screens(Shown):
             self.assertEqual(status, 0)
             self.shows(
                 text,
-                f"to do {OF_STACK}; this saves up to 77 of 77 misses word ",
-                "60 61 0 many 0x0100fff8, 8 below its top",
+                f"fix {OF_STACK}; saves up to 77 of 77 misses address ",
+                "60 61 0 threads 0x0100fff8, 8 bytes below its top",
             )
             for it in (
                 "several fields",
-                "apart",
+                "separate these",
                 "padding",
-                "behind",
-                "in this order",
+                "group the fields",
                 "memory at",
             ):
                 self.assertNotIn(it, joined(text), program)
             # (what is said of a variable whose words are fields)
             self.assertRegex(
                 joined(view(*words, "flags", program=program)[1]),
-                "to do give each element of flags lines of its own",
+                "fix give each element of flags its own line",
             )
 
     def test_statuses(self):
@@ -102,7 +125,8 @@ class Screens(Shown):
         self.assertEqual(view(*words, "298")[0], 0)
         status, _, said = view(*words, "297")
         self.assertEqual(
-            (status, said), (1, "predator view: stats has 298 useless misses, more than 297\n")
+            (status, said),
+            (1, "predator view: stats has 298 false-sharing misses, more than 297\n"),
         )
         self.assertEqual(view(*words, "297", "--object", "ring")[0], 0)
         self.assertEqual(
@@ -110,28 +134,29 @@ class Screens(Shown):
         )
 
     def test_a_thread_for_which_no_hart_was_free(self):
-        says = "predator: no hart was free for the last thread that was to start: `harts` is 8, and in the settings it may be up to 256\n"
+        says = "predator: the last thread could not start: all 8 harts are in use (setting `harts`, at most 256)\n"
         words = ("run", built("ring.elf"), *TURNS, "--explain", "0")
         for lacks in ("", "pipes"):
             status, text, _ = view(*words, STAND_IN_SAYS=says, lacks=lacks)
             self.assertEqual(status, 0)
             self.shows(
                 text,
-                "note: no hart was free for the last thread that was to start, and what that shares isn't seen",
+                "note: the last thread never ran, because all 8 harts were in use: use `--set harts=16`",
             )
-            self.shows(text, "`--set harts=16` gives more")
             status, _, said = view(*words, "--fail-above", "9999", STAND_IN_SAYS=says, lacks=lacks)
-            self.assertEqual((status, "predator view: no hart was free" in said), (3, True))
+            self.assertEqual(
+                (status, "predator view: the last thread never ran" in said), (3, True)
+            )
 
     def test_all_that_fight(self):
         _, text, _ = view("run", built("ring.elf"), *TURNS, "--explain", "1", "--words")
         self.shows(
             text,
-            "fighting ring.c:34 (note < consumer) takes the line from ring.c:34 (note < producer), 142 times",
+            "where ring.c:34 (note < consumer) invalidates ring.c:34 (note < producer): 142 times, always different words",
         )
         self.shows(
             text,
-            "fighting ring.c:34 (note < producer) takes the line from ring.c:34 (note < consumer), 142 times",
+            "where ring.c:34 (note < producer) invalidates ring.c:34 (note < consumer): 142 times, always different words",
         )
 
     def test_without_misses_and_explain(self):
@@ -139,13 +164,17 @@ class Screens(Shown):
         self.assertEqual(status, 0)
         self.shows(
             text,
-            "note: this program has no command `misses`",
-            "note: this program has no command `explain`",
-            "1 - - 331 1 ring",
+            "note: this predator has no command `misses`, so misses are unknown",
+            "note: this predator has no command `explain`, so the conflicting instructions are unknown",
+            "inval lines object 1 331 1 ring",
         )
         words = ("run", built("ring.elf"), *TURNS, "--fail-above", "300")
         self.assertEqual(view(*words, lacks="misses explain")[0], 2)
-        self.assertEqual(view(*words, "--by", "count", lacks="misses explain")[0], 1)
+        for by in ("count", "invalidations"):
+            status, _, said = view(*words, "--by", by, lacks="misses explain")
+            self.assertEqual(
+                (status, said), (1, "predator view: ring has 331 invalidations, more than 300\n")
+            )
 
     def test_what_the_program_puts_out_is_shown_once(self):
         for lacks in ("", "pipes"):
@@ -168,14 +197,16 @@ class Screens(Shown):
             )
             _, text, said = view("replay", trace, "--program", built("ring.elf"), *TURNS)
             self.shows(
-                text, "1 298 0 284 1 stats", "stats[2].seen[0].high", "ring.c:34 (note < consumer)"
+                text, "1 298 0 299 1 stats", "[2].seen[0].high", "ring.c:34 (note < consumer)"
             )
             self.shows(
                 text,
-                "`place` puts its words apart by their harts, stats[1].seen[0].high and stats[1].seen[1].high (hart 1);",
+                "grouped by thread (stats[1].seen[0].high and stats[1].seen[1].high (hart 1); ",
             )
             self.shows(
-                text, "then lines are taken 359 times in all, and not 658", "`place` gains nothing"
+                text,
+                "), invalidations 658 → 359 (place)",
+                "grouping its words by thread gains nothing: invalidations 658 → ",
             )
             self.assertEqual(said, "")
             _, text, said = view(
@@ -189,14 +220,16 @@ class Screens(Shown):
             )
             self.assertEqual(("place" in text, said), (False, ""))
             _, text, _ = view("replay", trace, "--program", built("ring.elf"))
-            self.shows(text, "doesn't make this trace, so `explain` says nothing of 0x00011200")
+            self.shows(text, "makes another trace, so line 0x00011200 isn't explained")
             _, text, said = view("replay", trace, "--program", built("odd.elf"))
             self.shows(
                 said,
-                "odd.elf isn't the program of this report: it has no symbol",
-                "it is left aside",
+                "odd.elf isn't the program of this report and isn't used: it has no symbol ring of 72 bytes at ",
             )
-            self.shows(text, "1 298 0 284 1 stats worst field stats+")
+            self.shows(
+                text,
+                "1 298 0 299 1 stats who each thread writes its own words: hart 1: +20 and +28; hart 2: +36",
+            )
             with open(report, "wb") as file:
                 file.write(
                     subprocess.run(
@@ -204,16 +237,22 @@ class Screens(Shown):
                     ).stdout
                 )
             _, text, _ = view(report, "--program", built("ring.elf"), "--object", "sum")
-            self.shows(text, "nothing is fought over on sum")
+            self.shows(text, "sum is not contended")
             status, _, said = view(report, "--program", built("ring.elf"), "--object", "stat")
             self.assertEqual(status, 2)
-            self.assertIn("'stat' is no variable of", said)
+            self.assertIn("ring.elf has no variable 'stat'; did you mean `stats`?", said)
             status, _, said = view(report, "--object", "stat", "--by", "count", "--fail-above", "0")
-            self.assertEqual((status, "nothing is seen of 'stat'" in said), (2, True))
+            self.assertEqual(
+                (status, "'stat' isn't in the report: add '--program'" in said), (2, True)
+            )
             _, text, _ = view(report)
-            self.shows(text, "note: a report alone doesn't tell misses", "1 - - 331 1 ring")
+            self.shows(
+                text,
+                "note: a report has no misses: use `predator view run` or `predator view replay` to count them",
+                "inval lines object 1 331 1 ring",
+            )
             _, text, _ = view(report, "--program", built("ring.elf"), "--words")
-            self.shows(text, "0x00011004 579 145 many ring.tail")
+            self.shows(text, "0x00011004 579 145 threads ring.tail")
 
     def test_what_has_few_misses_is_left(self):
         rows = 120 * ["0 W 1000 4", "1 W 1004 4"] + ["0 W 5000 4", "1 W 5004 4", "0 W 5000 4"]
@@ -226,11 +265,12 @@ class Screens(Shown):
             _, text, _ = view("replay", trace)
             self.shows(
                 text,
-                "2 1 0 0 1 memory at 0x00012000",
-                "leave it: it has 1 of the 239 misses that aren't cold",
+                "not worth a change: memory at 0x00012000 (1 miss)",
             )
+            self.assertNotIn("2 1 0", joined(text))
             _, text, _ = view("replay", trace, "--object", "memory at 0x00012000")
-            self.assertNotIn("leave it", text)
+            self.shows(text, "1 1 0 2 1 memory at 0x00012000")
+            self.assertNotIn("not worth a change", text)
 
     def test_a_report_with_its_lines_behind_it(self):
         rows = "line observed 0x00001000 64 start 0 count 200 verdict false\nobject block 0x00001000 24 born 0 live\nsite 0x000100b0 work\n"
@@ -244,42 +284,47 @@ class Screens(Shown):
             _, text, _ = view(report, "--object", "kinds.c:59")
             self.shows(
                 text,
-                "1 - - 200 1 block made at kinds.c:59 (work)",
-                "worst field +8: 9 writes and 1 read by hart 3",
+                "1 200 1 block made at kinds.c:59 (work) who hart 3: +8 (9 writes, 1 read)",
             )
 
     def test_refusals(self):
         for words, said in (
             (("missing",), "missing: No such file or directory"),
             (("run", "missing.elf"), "missing.elf: No such file or directory"),
-            (("replay", __file__), "`predator replay` was refused"),
-            (("replay", built("ring.elf")), "ring.elf is a program: `predator view"),
-            (("run", built("ring.elf"), "--object", "stat"), "ring.elf; did you mean `stats`?"),
-            (("run", built("ring.elf"), "--json", "-", "--html", "-"), "can be one output alone"),
-            ((__file__,), "it is no report"),
+            (("replay", __file__), "`predator replay` failed: "),
+            (("replay", built("ring.elf")), "ring.elf is a program for RV32: use `predator view"),
+            (
+                ("run", built("ring.elf"), "--object", "stat"),
+                "ring.elf has no variable 'stat'; did you mean `stats`?",
+            ),
+            (
+                ("run", built("ring.elf"), "--json", "-", "--html", "-"),
+                "only one output can be `-`, standard output",
+            ),
+            ((__file__,), "isn't a report: the first line isn't"),
             (
                 ("run", built("ring.elf"), "--html", "/no/where"),
                 "/no/where: No such file or directory",
             ),
             (
                 ("run", built("ring.elf"), "--html", built("../programs/ring.elf")),
-                "the same file is in use under another name",
+                "is used twice: outputs must differ from each other and from inputs",
             ),
             (
                 ("run", built("ring.elf"), "--html", "/tmp/a", "--json", "/tmp/a"),
-                "the same file is in use under another name",
+                "is used twice: outputs must differ from each other and from inputs",
             ),
             (
                 ("run", built("ring.elf"), "--settings=/etc/hosts", "--sarif", "/etc/hosts"),
-                "the same file is in use under another name",
+                "is used twice: outputs must differ from each other and from inputs",
             ),
             (
                 ("run", built("ring.elf"), "--trace", "/tmp/none", "--sarif", "/tmp/../tmp/none"),
-                "the same file is in use under another name",
+                "is used twice: outputs must differ from each other and from inputs",
             ),
             (
                 ("run", built("ring.elf"), "--against", "/etc/hosts", "--html", "/etc/hosts"),
-                "the same file is in use under another name",
+                "is used twice: outputs must differ from each other and from inputs",
             ),
         ):
             status, _, told = view(*words, *(TURNS if words[0] == "run" else ()))
@@ -324,8 +369,8 @@ class Screens(Shown):
             self.assertEqual(status, 0)
             self.shows(
                 text,
-                "outcome exit 0, 0 steps, 0 accesses, lines of 64 bytes note: a report alone",
-                "no line is fought over",
+                "r: exit 0, 0 accesses; 64-byte lines note: a report has no misses",
+                "no line is contended",
             )
             self.assertEqual(
                 view(report, "--html", os.path.join(folder, "h"), PYTHONPATH=folder)[0], 127
@@ -424,11 +469,11 @@ class Pipes(Shown):
             self.assertEqual(len(texts), 1)
             self.shows(
                 texts.pop(),
-                "note: a trace from a pipe can be read once, so its misses, and places",
-                "1 - - 331 1 ring",
+                "note: a pipe can be read only once, so misses and fixes are unknown: write the trace to a file",
+                "1 331 1 ring",
             )
             _, whole, _ = view("replay", trace, program=self.program)
-            self.shows(whole, "1 298 0 284 1 stats")
+            self.shows(whole, "1 298 0 299 1 stats")
             # (settings and schedules that are pipes serve each run)
             text = self.call(
                 f"$view run {built('ring.elf')} --settings <(echo quantum = 3) --explain 1 --latency=0",
@@ -467,11 +512,13 @@ class OfThisMachine(Shown):
                 self.assertEqual((status, said), (0, "sum 80000\n"))
                 self.shows(
                     text,
-                    "outcome exit 0, 0 steps",
-                    "counters worst field counters[1].count",
-                    "each element of counters",
+                    "counters: exit 0, ",
+                    "counters: struct own[4], counters.c:",
+                    "give each element of counters its own line: struct __attribute__((aligned(64))) own",
+                    "each thread writes its own element: thread 1: [0]",
                 )
-                self.assertRegex(text, r"[1-9] objects? of the C library: --library shows them")
+                self.assertNotIn("instructions,", text)
+                self.assertRegex(text, r"[1-9] objects? of the C library \(--library shows")
             status, _, said = view(
                 "native", "./counters", "--quantum", "0", program=PROGRAM, cwd=folder
             )
@@ -483,61 +530,61 @@ class Repairs(Shown):
         _, text, _ = view("run", built("shards.elf"), *TURNS, "--explain", "0")
         self.shows(
             text,
-            "give each element of shards lines of its own by `struct __attribute__((aligned(64))) shard` (shards.c:13)",
-            "this saves up to 2147 of 2147 misses",
+            "give each element of shards its own line: struct __attribute__((aligned(64))) shard (shards.c:13)",
+            "saves up to 2,147 of 2,147 misses",
         )
         _, text, _ = view("run", built("anderson.elf"), *TURNS, "--explain", "0")
         self.shows(
             text,
-            "1 478 98 184 1 lock",
-            "give each element of lock.slots lines of its own",
-            "the sharing of guarded is true",
+            "1 478 98 198 1 lock: struct, anderson.c:19",
+            "give each element of lock.slots its own line",
+            "guarded: true sharing (97 of 97 misses): write less often, or give each thread its own copy",
         )
         # (a line that the report doesn't list)
         self.shows(
-            text, "2 0 97 0 1 guarded worst field guarded: 100 writes and 100 reads by many harts"
+            text,
+            "2 0 97 99 1 guarded: uint32_t, anderson.c:21 who used by several threads: +0 (100 writes, 100 reads)",
         )
 
     def test_a_byte_for_each_slot(self):
         _, text, _ = view("run", built("flags.elf"), *TURNS, "--explain", "0")
         self.shows(
             text,
-            "1 408 458 284 1 lock",
-            "worst field lock.slots[4..7].is_free",
-            "each element of lock.slots (shared; by `struct __attribute__((aligned(64))) slot`",
+            "1 408 458 297 1 lock: struct, flags.c:21",
+            "used by several threads: .slots[4..7].is_free (97 writes, 648 reads)",
+            "each element of lock.slots (several threads; struct __attribute__((aligned(64))) slot (flags.c:14))",
         )
         self.shows(
             text,
-            "this saves up to 408 of 866 misses, or more: several fields or elements lie in a word of lock.slots[4..7].is_free",
+            "saves up to 408 of 866 misses, or more: several fields or elements lie in one word of lock.slots[4..7].is_free",
         )
         _, text, _ = view("run", built("flags.elf"), "--explain", "0")
         self.shows(
             text,
             "1 0 98",
-            "as far as whole words tell, and several fields or elements lie in one word there",
-            "give each a line of its own and look again",
+            "by whole 4-byte words, and several fields or elements lie in one word: "
+            "where threads use different ones, give each its own line and run again",
         )
         self.shows(
             text,
-            "harts took turns of 100 steps, which hides what they do at the same time: look with `quantum = 1` in the settings too",
+            "quantum 100 may hide false sharing here: try --set quantum=1 too",
         )
 
     def test_pieces_of_one_block(self):
         _, text, _ = view("run", built("pieces.elf"), *TURNS, "--explain", "1")
         self.shows(
             text,
-            "1 872 1 591 1 block made at pieces.c:41 < main",
-            "in an array by `__attribute__((aligned(64)))` on the type of its elements and `aligned_alloc(64, ..)`",
+            "1 872 1 598 1 block made at pieces.c:41 < main",
+            "in an array put __attribute__((aligned(64))) on the element's type and aligned_alloc(64, ..)",
         )
         self.shows(
             text,
-            "in an arena by rounding up where its pieces begin, and their sizes, to multiples of 64 "
-            "(`--type pieces.c:41=TYPE` names its fields)",
+            "in an arena round the start and the size of each piece up to multiples of 64 (--type pieces.c:41=TYPE names its fields)",
         )
         # (an instruction that the compiler made of two lines)
         self.shows(
             text,
-            "near pieces.c:28 (work) takes the line from near pieces.c:28 (work), 380 times, never for the same word",
+            "near pieces.c:28 (work) invalidates near pieces.c:28 (work): 380 times, always different words",
         )
 
     def test_what_a_guest_says_is_handed_on_once(self):
@@ -554,7 +601,7 @@ class Repairs(Shown):
         status, _, said = view(*words, "--fail-above", "297", STAND_IN_SAYS=says + "\n")
         self.assertEqual(
             (status, said),
-            (1, says + "\npredator view: stats has 298 useless misses, more than 297\n"),
+            (1, says + "\npredator view: stats has 298 false-sharing misses, more than 297\n"),
         )
 
     def test_what_the_screen_says_mends_it(self):
@@ -571,7 +618,7 @@ class Repairs(Shown):
                 view("run", built(f"{name}-repaired.elf"), *TURNS, "--explain", "0", "--json", path)
                 with open(path, encoding="utf-8") as file:
                     left = [
-                        it["useless"]
+                        it["false_sharing"]
                         for it in json.load(file)["objects"]
                         if it["name"].startswith(thing)
                     ]
@@ -581,26 +628,37 @@ class Repairs(Shown):
 class Against(unittest.TestCase):
     def test_better_and_worse(self):
         with tempfile.TemporaryDirectory() as folder:
-            old = os.path.join(folder, "old.json")
-            view("run", built("ring.elf"), "--set", "quantum=7", "--explain", "0", "--json", old)
-            _, text, _ = view("run", built("ring.elf"), *TURNS, "--explain", "0", "--against", old)
+            old, former = os.path.join(folder, "old.json"), os.path.join(folder, "former.json")
+            for path, version in ((old, "2"), (former, "1")):
+                words = ("--set", "quantum=7", "--explain", "0", "--json", path)
+                view("run", built("ring.elf"), *words, "--json-version", version)
+            words = ("run", built("ring.elf"), *TURNS, "--explain", "0", "--against")
+            _, text, _ = view(*words, old)
+            self.assertEqual(text.replace(old, former), view(*words, former)[1])
             with open(old, encoding="utf-8") as file:
-                before = {it["name"]: it["useless"] for it in json.load(file)["objects"]}
-            told = joined(text.partition("by useless misses:")[2])
-            self.assertRegex(
-                told,
-                "^all misses but cold ones: better: [0-9]+ before, 656 now useless: less: [0-9]+ before, 342 now",
+                found = json.load(file)
+            total, objects = found["total"], {it["name"]: it for it in found["objects"]}
+            rows = [it.split() for it in text.partition(f"against {old}:\n")[2].splitlines()]
+            self.assertEqual(rows[0], "false before now true before now object".split())
+            self.assertEqual(
+                rows[1],
+                [str(total["false_sharing"]), "342", str(total["true_sharing"]), "314"]
+                + ["all:", "better"],
             )
-            self.assertIn("stats: the same", told)
-            self.assertIn(f"ring: less: {before['ring']} before, 44 now", told)
+            ring = objects["ring"]
+            self.assertIn(
+                [str(ring["false_sharing"]), "44", str(ring["true_sharing"]), "314", "ring"], rows
+            )
+            self.assertIn("298 298 0 0 stats".split(), rows)
             _, text, _ = view(
                 "run", built("shards.elf"), *TURNS, "--explain", "0", "--against", old
             )
-            told = joined(text.partition("by useless misses:")[2])
-            self.assertRegex(told, "^all misses but cold ones: worse: [0-9]+ before, 2147 now")
-            self.assertNotIn(": 0", told)
-            self.assertIn("shards: new: 2147", told)
-            self.assertIn(f"stats: gone: {before['stats']} before", told)
+            told = joined(text.partition(f"against {old}:")[2])
+            self.assertIn(
+                f"{total['false_sharing']} 2,147 {total['true_sharing']} 0 all: worse", told
+            )
+            self.assertIn("- 2,147 - 0 shards (new)", told)
+            self.assertIn(f"{objects['stats']['false_sharing']} - 0 - stats (gone)", told)
             status, text, _ = view(
                 "run",
                 built("shards.elf"),
@@ -612,7 +670,7 @@ class Against(unittest.TestCase):
                 "--json",
                 old,
             )
-            self.assertEqual((status, "stats: gone" in text), (0, True))
+            self.assertEqual((status, "stats (gone)" in text), (0, True))
             head = '{"format": "predator view 1", "outcome": "exit 0", "total": null, "objects": '
             things = (
                 "3",
@@ -625,6 +683,8 @@ class Against(unittest.TestCase):
                 "[",
                 "{" * 99999,
                 '{"format": "predator view 2"}',
+                '{"format": "predator view 3"}',
+                head.replace("view 1", "view 2") + "3}",
                 '{"a":' * 99999,
                 *(f"{head}{it}}}" for it in things),
             ):

@@ -18,10 +18,7 @@ from judge_report import Access, Case, Ending, trace_bytes  # noqa: E402
 from view.output.sweep import Sweep, page  # noqa: E402
 from traces import Symbol  # noqa: E402
 
-TITLE = (
-    "lines of 8 bytes are taken 39 times as data lies, and 0 times, the least, with the shift 4; "
-    "most of the difference is in memory at 0x00001000"
-)
+TITLE = "8-byte lines: 39 invalidations as placed; the least are 0 at shift 4; most of the difference is in memory at 0x00001000"
 TEXT = "sweep 8\naccesses 9\nshift 0 total {} lines 1\nshift 4 total {} lines 1\nleast {} total {}\nend\n"
 
 
@@ -77,15 +74,16 @@ class Sweeps(unittest.TestCase):
         rows = text.split("\n")
         self.assertEqual(rows[0], f"{TITLE} (40 accesses)")
         self.assertEqual(
-            rows[2:4],
+            rows[3:5],
             [
-                "       0       39      1  as data lies, the most",
-                "       4        0      0  the least",
+                "       0       39      1  as placed, most",
+                "       4        0      0  least",
             ],
         )
-        self.assertEqual(rows[4].split("  ")[-1], "object, and its worst line with the shift 0")
+        self.assertEqual(rows[1:3], ["", "   shift    inval  lines"])
+        self.assertEqual(rows[6].split("  ")[-1], "object (and its worst line at shift 0)")
         self.assertEqual(
-            rows[5:], ["         39          0  memory at 0x00001000 (0x00001000)", ""]
+            rows[7:], ["         39          0  memory at 0x00001000 (0x00001000)", ""]
         )
 
     def test_the_page(self):
@@ -98,7 +96,7 @@ class Sweeps(unittest.TestCase):
             self.assertNotRegex(text, it)
         self.assertIn(f"<h1>&lt;i&gt;t: {TITLE}</h1>", text)
         told = re.findall(r"<rect .*?</svg> (.*?); <svg .*?<circle .*?</svg> (.*?)</p>", text)
-        self.assertEqual(told, [("as data lies: 39", "least, shift 4: 0")])
+        self.assertEqual(told, [("as placed: 39", "least, shift 4: 0")])
         # Each mark is beside its text, and in the picture on the line.
         self.assertEqual(re.findall(r'<rect x="(\S+)" y="(\S+)"', text), [("-5", "-5"), ("7", "7")])
         self.assertEqual(
@@ -107,7 +105,7 @@ class Sweeps(unittest.TestCase):
         self.assertIn('points="12,12 628,188"', text)
         self.assertEqual(cells_of(text)[0], ["memory at 0x00001000", "39", "0", "0x00001000"])
         self.assertIn(
-            '<th class="n">shift 0 (as data lies, the most)</th><th class="n">shift 4 (the least)</th>',
+            '<th class="n">shift 0 (as placed, most)</th><th class="n">shift 4 (least)</th>',
             text,
         )
         # Each shift has a tick with its name, and a row with what `sweep` prints of it.
@@ -150,14 +148,14 @@ class Sweeps(unittest.TestCase):
         rows = self.told().split("\n")
         self.assertTrue(
             rows[0].endswith(
-                "the most, with the shift 4; most of the difference is in <b>near (80 accesses)"
+                "the most are 78 at shift 4; most of the difference is in <b>near (80 accesses)"
             ),
             rows[0],
         )
         self.assertEqual(
-            [it.split()[:3] for it in rows[5:7]], [["0", "39", "<b>near"], ["39", "39", "far"]]
+            [it.split()[:3] for it in rows[7:9]], [["0", "39", "<b>near"], ["39", "39", "far"]]
         )
-        self.assertIn("<b>near (0x00001004: bytes 4 to 11 of <b>near)", rows[5])
+        self.assertIn("<b>near (0x00001004: bytes 4 to 11 of <b>near)", rows[7])
         page = self.told("--html", "-")
         near = ["&lt;b&gt;near", "0", "39", "0x00001004: bytes 4 to 11 of &lt;b&gt;near"]
         self.assertEqual(
@@ -185,7 +183,7 @@ class Sweeps(unittest.TestCase):
                 sorted(counts),
                 sorted(int(it[1 + at]) for it in cells_of(page) if it[1 + at] != "0"),
             )
-        self.assertIn("1 more object: --top 2 shows all", self.told("--top", "1"))
+        self.assertIn("1 more object (--top 2 shows all)", self.told("--top", "1"))
         self.assertIn(
             "1 more object isn&#39;t shown: --top 2 shows all",
             self.told("--top", "1", "--html", "-"),
@@ -193,7 +191,7 @@ class Sweeps(unittest.TestCase):
 
     def test_nothing_is_taken(self):
         self.write(in_turn(0x1000))
-        told = "lines of 8 bytes are taken 0 times as data lies, and as often under every shift (20 accesses)\n"
+        told = "8-byte lines: 0 invalidations as placed, and under every shift (20 accesses)\n"
         self.assertTrue(self.told().startswith(told))
         page = self.told("--html", "-")
         self.assertEqual((page.count("<h2>"), cells_of(page)), (0, []))
@@ -210,13 +208,13 @@ class Sweeps(unittest.TestCase):
             [(f"many{it}", 0x1000 + 16 * it, 8) for it in range(4)],
         )
         self.assertEqual(len(cells_of(self.told("--html", "-"))), 4)
-        self.assertIn("2 more objects: --top 4 shows all", self.told("--top=2"))
+        self.assertIn("2 more objects (--top 4 shows all)", self.told("--top=2"))
 
     def test_refused(self):
         status, _, said = view(
             "sweep", self.trace, "--size", "8", "--html", self.trace, program=self.program
         )
-        self.assertEqual((status, "the same file is in use" in said), (2, True))
+        self.assertEqual((status, "is used twice: outputs must differ" in said), (2, True))
         for path, why in (
             (os.path.dirname(self.trace), "Is a directory"),
             ("/dev/full", "No space left on device"),
@@ -226,7 +224,7 @@ class Sweeps(unittest.TestCase):
             )
             self.assertEqual((status, said), (2, f"predator view: {path}: {why}\n"))
         status, _, said = view("sweep", __file__, "--size", "8", program=self.program)
-        self.assertEqual((status, "`predator sweep` was refused" in said), (2, True))
+        self.assertEqual((status, "`predator sweep` failed: " in said), (2, True))
 
 
 @unittest.skipUnless(has(PROGRAM, "sweep"), "the program isn't built, or has no sweep")
@@ -239,7 +237,7 @@ class Texts(unittest.TestCase):
         told = Sweep(TEXT.format(7, 9, 0, 7)).title()
         self.assertTrue(
             told.endswith(
-                "7 times as data lies, and under no shift less often; 9 times, the most, with the shift 4"
+                "8-byte lines: 7 invalidations as placed, the least; the most are 9 at shift 4"
             ),
             told,
         )
@@ -247,12 +245,12 @@ class Texts(unittest.TestCase):
         self.assertEqual(
             (own.count("<rect"), own.count("<circle"), own.count("l-6 -11z")), (2, 0, 2)
         )
-        self.assertIn("as data lies, the least", own)
+        self.assertIn("as placed, least", own)
         same = page(Sweep(TEXT.format(7, 7, 0, 7)), "t")
         self.assertEqual(
             (same.count("<rect"), same.count("<circle"), same.count("l-6 -11z")), (2, 0, 0)
         )
-        self.assertIn("7 times as data lies, and as often under every shift", same)
+        self.assertIn("8-byte lines: 7 invalidations as placed, and under every shift", same)
         for bad in (
             "",
             TEXT,

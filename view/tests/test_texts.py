@@ -1,4 +1,4 @@
-"""What is read: reports, counts of misses, what explains a line, the words of a call, and what is said of bad ones."""
+"""The texts that view reads: reports, counts of misses, explained lines, the arguments of a call, and the messages for bad ones."""
 
 import functools
 import os
@@ -82,22 +82,39 @@ class Texts(unittest.TestCase):
         self.assertEqual(Report(HEAD + "lines 0\nend\n").lines, [])
 
     def test_bad_reports(self):
-        self.fault("", "empty")
-        self.fault("\n", "empty")
-        self.fault("predator report 2\nend\n", "another version")
-        self.fault("\x7fELF", "no report")
-        self.fault("PRDTRC01\1", "no report, but a trace: `predator view replay -`")
-        self.fault('{"format": 1}', "no report, but what --json wrote")
-        self.fault("PRDSTA01", "no report, but a saved state")
-        self.fault("predator: trace BadMagic\n", "no report")
+        self.fault("", "r is empty")
+        self.fault("\n", "r is empty")
+        self.fault(
+            "predator report 2\nend\n", "r has an unknown report version: the first line isn't"
+        )
+        self.fault("\x7fELF", "r isn't a report: the first line isn't `predator report 1`")
+        self.fault(
+            "PRDTRC01\1", "r isn't a report but a trace: use `predator view replay -` to read one"
+        )
+        self.fault(
+            '{"format": 1}', "r isn't a report but JSON of `predator view --json`: use `--against`"
+        )
+        self.fault("PRDSTA01", "r isn't a report but a saved state: use `predator replay --resume`")
+        self.fault("predator: trace BadMagic\n", "r isn't a report: ")
         for cut in range(30, len(WHOLE) - 4, 11):
-            self.fault(WHOLE[:cut], "r: ")
-        self.fault(HEAD + "lines 3\n" + ROWS + "end\n", "tells of 3 lines and has 2")
-        self.fault(WHOLE.replace("exit 0", "exit well"), "no outcome")
-        self.fault(WHOLE.replace("layout 64 0", "layout 64"), "no layout")
-        self.fault(WHOLE.replace("layout 64 0", "layout 63 0"), "no layout")
-        self.fault(WHOLE.replace("layout 64 0", "layout 64 64"), "no layout")
-        self.fault(WHOLE.replace("steps 3", "steps \xb2"), "no line `steps N`")
+            self.fault(WHOLE[:cut], "r is cut short: the last line `end` is missing")
+        self.fault(
+            HEAD + "lines 3\n" + ROWS + "end\n", "r: the header says 3 lines, the file has 2"
+        )
+        self.fault(WHOLE.replace("exit 0", "exit well"), "r has no valid line `outcome`")
+        self.fault(
+            WHOLE.replace("layout 64 0", "layout 64"),
+            "r has no valid line `layout` or `thresholds`",
+        )
+        self.fault(
+            WHOLE.replace("layout 64 0", "layout 63 0"),
+            "r has no valid line `layout` or `thresholds`",
+        )
+        self.fault(
+            WHOLE.replace("layout 64 0", "layout 64 64"),
+            "r has no valid line `layout` or `thresholds`",
+        )
+        self.fault(WHOLE.replace("steps 3", "steps \xb2"), "r has no line `steps N` in its head")
         self.fault(
             WHOLE.replace("0x00001000 64 start", "0x00001000 32 start"), "lines of another size"
         )
@@ -109,8 +126,10 @@ class Texts(unittest.TestCase):
         ):
             rows = WHOLE.split("\n")
             rows[row - 1] = bad
-            self.fault("\n".join(rows), f"its row {row} is none that it may have: `{bad}`")
-        self.fault(WHOLE.replace("count 2", f"count {'9' * 5000}"), "r: ")
+            self.fault("\n".join(rows), f"r, line {row}: unexpected `{bad}`")
+        self.fault(
+            WHOLE.replace("count 2", f"count {'9' * 5000}"), "r, line 8: unexpected `line observed"
+        )
 
     def test_where_rows_end(self):
         for row, wanted in (
@@ -211,13 +230,15 @@ class Words(unittest.TestCase):
         self.assertEqual(
             (call.how, call.subject, call.words), ("sweep", "t", ["t", "--size", "64"])
         )
-        self.assertIn("a sweep is of lines of a size", self.refused("sweep", "t"))
+        self.assertEqual(
+            "`view sweep` needs a line size, such as '--size 64'", self.refused("sweep", "t")
+        )
         self.assertIn(
-            "'--json' isn't for `view sweep`, which takes --html",
+            "`view sweep` has no option '--json'; it takes --html, --top",
             self.refused("sweep", "t", "--size=64", "--json=f"),
         )
         self.assertIn(
-            "'--shift' is no option of view sweep",
+            "view sweep has no option '--shift'",
             self.refused("sweep", "t", "--size=64", "--shift", "4"),
         )
 
@@ -247,55 +268,73 @@ class Words(unittest.TestCase):
             )
             strange = (
                 ("run", "trace", "a trace"),
-                ("run", "own", "a program of this machine"),
-                ("replay", "guest", "a program"),
+                ("run", "own", "a native program"),
+                ("replay", "guest", "a program for RV32"),
             )
             for how, name, said in strange:
                 self.assertIn(
-                    f"{at(name)} is {said}: `predator view {at(name)}`", self.refused(how, at(name))
+                    f"{at(name)} is {said}: use `predator view {at(name)}`",
+                    self.refused(how, at(name)),
                 )
             self.assertIn(
-                "'--quantum' is no option of view run", self.refused(at("guest"), "--quantum", "10")
+                "view run has no option '--quantum'", self.refused(at("guest"), "--quantum", "10")
             )
             self.assertIn(
-                "'--all' is for a program of this machine", self.refused(at("guest"), "--all")
+                "'--all' applies to native programs only", self.refused(at("guest"), "--all")
             )
             self.assertIn(
-                "'--sources' is a folder", self.refused(at("guest"), "--sources", at("trace"))
+                "'--sources' takes a folder, and ",
+                self.refused(at("guest"), "--sources", at("trace")),
             )
 
     def test_refusals(self):
         self.assertIn(
-            "'--saves=1' is no option of view replay; did you mean `--save`?",
+            "view replay has no option '--saves=1'; did you mean `--save`?",
             self.refused("replay", "t", "--saves=1"),
         )
-        near = "names no key of the settings; did you mean `quantum`? the keys are: harts"
+        near = "'--set quantom=3': there is no setting 'quantom'; did you mean `quantum`? the settings are harts, "
         self.assertIn(near, self.refused("run", "p", "--set=quantom=3"))
         self.assertIn(
-            "'x=3' in --set names no key of the settings; the keys are",
+            "'--set x=3': there is no setting 'x'; the settings are harts, ",
             self.refused("run", "p", "--set", "quantum=1,x=3"),
         )
-        self.assertIn("a report is wanted", self.refused())
-        self.assertIn("a program is wanted", self.refused("run", "--top", "3"))
-        self.assertIn("'b' is one word more", self.refused("a", "b"))
-        self.assertIn("'--top' is a number", self.refused("a", "--top", "many"))
-        self.assertIn("stands twice", self.refused("a", "--top=1", "--top=2"))
-        self.assertIn("a value is required", self.refused("a", "--top"))
-        self.assertIn("'--fast=1' is no option", self.refused("a", "--fast=1"))
-        self.assertIn("`useless` or `count`", self.refused("a", "--by", "size"))
-        self.assertIn("SITE=TYPE", self.refused("a", "--type", "node"))
-        self.assertIn("wants the types of a program", self.refused("a", "--type", "a.c:7=node"))
-        self.assertIn("'--fail-above' is a number", self.refused("a", "--fail-above", "9" * 5000))
-        self.assertIn("'--fail-above' is a number", self.refused("a", "--fail-above", "\u0663"))
-        self.assertIn("is for '--fail-above'", self.refused("a", "--by", "count"))
-        self.assertIn("named already", self.refused("run", "p", "--program", "q"))
+        self.assertIn("missing argument: a report\n", self.refused())
+        self.assertIn("missing argument: a program\n", self.refused("run", "--top", "3"))
+        self.assertIn("unexpected argument 'b'\n", self.refused("a", "b"))
+        self.assertIn("'--top' takes a number, not 'many'", self.refused("a", "--top", "many"))
+        self.assertIn("'--top' is given twice", self.refused("a", "--top=1", "--top=2"))
+        self.assertIn("'--map' is given twice", self.refused("a", "--map=1", "--back=2"))
+        self.assertIn("'--top' needs a value", self.refused("a", "--top"))
+        self.assertIn("view has no option '--fast=1'", self.refused("a", "--fast=1"))
+        self.assertIn(
+            "'--by' takes false-sharing or invalidations, not 'size'",
+            self.refused("a", "--by", "size"),
+        )
+        self.assertIn(
+            "'--json-version' takes 1 or 2, not '3'", self.refused("a", "--json-version", "3")
+        )
+        self.assertIn("'--json-version' needs '--json'", self.refused("a", "--json-version", "1"))
+        self.assertIn("'--type' takes SITE=TYPE, such as", self.refused("a", "--type", "node"))
+        self.assertIn(
+            "'--type' needs a program's types: name the program with '--program'",
+            self.refused("a", "--type", "a.c:7=node"),
+        )
+        self.assertIn(
+            "'--fail-above' takes a number", self.refused("a", "--fail-above", "9" * 5000)
+        )
+        self.assertIn("'--fail-above' takes a number", self.refused("a", "--fail-above", "\u0663"))
+        self.assertIn("'--by' needs '--fail-above'", self.refused("a", "--by", "count"))
+        self.assertIn(
+            "'--program' applies to a trace or a report, not to `view run`",
+            self.refused("run", "p", "--program", "q"),
+        )
 
     def test_what_pages_are_given(self):
         self.assertEqual(visible("a\tb\n\x1b[1m\u202e\x00é"), "a\tb\n\\x1b[1m\\u202e\\x00é")
         self.assertEqual([visible(it) for it in (None, 3, ["\x00"])], [None, 3, ["\x00"]])
         # (a cell says where a word of a stack is without its address)
         for name, told in (
-            ("0x006479c8, 1592 below its top", "1592 below its top"),
+            ("0x006479c8, 1,592 bytes below its top", "1,592 bytes below its top"),
             ("0x00001000", "0x00001000"),
             ("a, b", "a, b"),
         ):

@@ -1,4 +1,4 @@
-"""Repairs that are tried before they are named: whose words are, where they would lie, and what is said of it."""
+"""Repairs that are tried before they are named: whose words are, where they would lie, and the fix as a sentence."""
 
 import contextlib
 import io
@@ -107,7 +107,7 @@ class Used(Folder):
 
     def test_the_front_of_a_long_trace(self):
         accesses = [(0, W, 0x2000, 4)] * 9 + [(1, W, 0x1000, 4), (2, W, 0x1004, 4)] * 200
-        with mock.patch.multiple("spelled", PART=16, FEW=4, MANY=4):
+        with mock.patch.multiple("view.reading.trace_files", PART=16, FEW=4, MANY=4):
             front = self.uses(*accesses).front
             self.assertEqual(self.uses(*accesses[:40]).front, b"")
         self.assertEqual(self.uses(*accesses).front, b"")
@@ -194,18 +194,18 @@ class Cut(Folder):
                 self.assertEqual(main.main(words), 0)
         shown = joined(text.getvalue())
         found = re.search(
-            r"counted so in the first (\d+(?:,\d+)?) accesses: useless (\d+) before, (\d+) after; useful (\d+), \d+;",
+            r"tried misses false (\d+) → (\d+), true (\d+) → \d+, invalidations \d+ → \d+ \(first (\d+(?:,\d+)?) accesses\)",
             shown,
         )
-        accesses, useless, after, useful = (int(it.replace(",", "")) for it in found.groups())
+        useless, after, useful, accesses = (int(it.replace(",", "")) for it in found.groups())
         self.assertEqual(cut(trace, accesses, part), accesses)
         total = subprocess.run(
             [PROGRAM, "misses", part], capture_output=True, text=True, check=True
         ).stdout
         self.assertIn(f" useful {useful} useless {useless}\n", total)
         self.assertTrue(1000 < accesses < 2111 and after < useless / 5, shown)
-        said = "note: of a long trace repairs are counted in its first part, and predicted lines left out, unless `--words` asks for all "
-        said += "note: of a long trace without pcs the instructions that fight are unknown, unless `--explain N` asks: each takes a run "
+        said = "note: the trace is long: fixes were tried on its first part, predicted lines weren't counted; --words does both in full "
+        said += "note: the trace is long and has no program counters: --explain N finds the instructions of N objects, with a run each "
         self.assertIn(said, shown)
 
 
@@ -427,7 +427,7 @@ class Patched(Folder):
 
 
 class Sentences(unittest.TestCase):
-    def tried(self, useless, useful, accesses, after=None, many=1, own_there=None):
+    def tried(self, useless, useful, accesses, after=None, many=1, own_there=None, quantum=0):
         before = Counted({"useless": useless, "useful": useful}, 9)
         found = Tried(
             SimpleNamespace(useless=useless, useful=useful), before, accesses, own_there=own_there
@@ -435,33 +435,60 @@ class Sentences(unittest.TestCase):
         if after:
             found.repair, found.many = Repair(["do it"], [], 64, None), many
             found.after = Counted(dict(zip(("useless", "useful"), after)), 2)
-        return found.sentence("queue", []) if found.knows() else None
+        return (found.fix([], quantum), found.outcome(False)) if found.knows() else None
 
     def test_what_was_counted(self):
-        told = "do it; counted so: useless 2188 before, 23 after; useful 2457, 2458; by the report's rule 9, 2"
-        self.assertEqual(self.tried(2188, 2457, 90000, (23, 2458)), told)
+        told = "misses false 2,188 → 23, true 2,457 → 2,458, invalidations 9 → 2"
+        self.assertEqual(self.tried(2188, 2457, 90000, (23, 2458)), ("do it", told))
 
     def test_what_was_counted_of_a_part(self):
-        told = "do it; counted so in the first 90,000 accesses: useless 2188 before, 23 after; useful 2457, 2458; by the report's rule 9, 2"
-        self.assertEqual(self.tried(2188, 2457, 90000, (23, 2458), own_there=4645), told)
-        told = "the one repair that was counted saves 3 of 4000 misses in the first 90,000 accesses"
-        self.assertIn(told, self.tried(2188, 2457, 90000, (2185, 2457), own_there=4000))
+        told = "misses false 2,188 → 23, true 2,457 → 2,458, invalidations 9 → 2 (first 90,000 accesses)"
+        self.assertEqual(self.tried(2188, 2457, 90000, (23, 2458), own_there=4645), ("do it", told))
+        none = "none: no layout change helps on this trace; write shared data less often"
+        told = "one layout, which saves 3 of 4,000 misses (first 90,000 accesses)"
+        self.assertEqual(self.tried(2188, 2457, 90000, (2185, 2457), own_there=4000), (none, told))
+
+    def test_the_other_way(self):
+        before = Counted({"useless": 900, "useful": 10}, 9)
+        found = Tried(SimpleNamespace(useless=900, useful=10), before, 9000)
+        other = Repair(["do that"], [], 64, None)
+        found.repair = Repair(["do it"], [], 64, None, None, (), (16, 1024), other)
+        found.after = Counted({"useless": 0, "useful": 10}, 2)
+        told = "misses false 900 → 0, true 10 → 10, invalidations 9 → 2"
+        self.assertEqual(found.fix([]), "do it, 16 → 1,024 bytes in all")
+        self.assertEqual(found.outcome(False), told)
+        found.other = Counted({"useless": 3, "useful": 10}, 2)
+        other = "misses false 900 → 3, true 10 → 10, invalidations 9 → 2"
+        self.assertEqual(found.outcome(False), f"{told}; or do that: {other}")
+
+    def test_bytes_of_words(self):
+        before = Counted({"useless": 0, "useful": 900}, 9)
+        found = Tried(SimpleNamespace(useless=0, useful=900), before, 9000)
+        found.instead = "pad it"
+        told = "pad it, then run again, because threads use different bytes of a, b and misses are counted per 4-byte word"
+        self.assertEqual((found.fix(["a", "b"]), found.outcome(True)), (told, ""))
+        found.repair = Repair(["do it"], [], 64, None)
+        found.after = Counted({"useless": 0, "useful": 10}, 2)
+        self.assertEqual(found.fix(["a", "b"]), f"do it; for the rest {told}")
 
     def test_nothing_to_do(self):
         self.assertEqual(
-            self.tried(100, 41, 22_900_000), "nothing to do: 141 of 22,900,000 accesses miss"
+            self.tried(100, 41, 22_900_000), ("none needed: 141 of 22,900,000 accesses miss", "")
         )
-        self.assertIn(
-            "the one repair that was counted saves 3 of 4645 misses",
-            self.tried(2188, 2457, 90000, (2185, 2457)),
+        none = "none: no layout change helps"
+        self.assertEqual(
+            self.tried(2188, 2187, 90000, (2185, 2187), quantum=100),
+            (
+                f"{none} at this interleaving (quantum 100)",
+                "one layout, which saves 3 of 4,375 misses",
+            ),
         )
-        told = self.tried(0, 900, 9000, (0, 990), 4)
-        self.assertIn(
-            "nothing by putting words elsewhere: the best of 4 repairs that were counted saves 0 of 900 misses",
-            told,
-        )
-        self.assertIn(
-            "what harts hand to each other in queue costs less where it is written less often", told
+        self.assertEqual(
+            self.tried(0, 900, 9000, (0, 990), 4),
+            (
+                f"{none} on this trace; write shared data less often",
+                "4 layouts, the best saves 0 of 900 misses",
+            ),
         )
         self.assertIsNone(self.tried(900, 0, 9000))
 
@@ -483,25 +510,29 @@ class Screens(unittest.TestCase):
             self.assertEqual((status, said), (0, ""))
             text = joined(text)
             self.assertIn(
-                "give each element of stats lines of its own by `struct __attribute__((aligned(64))) stats` (ring.c:24)",
+                "fix give each element of stats its own line: struct __attribute__((aligned(64))) stats (ring.c:24), "
+                "16 → 64 bytes each, 64 → 256 bytes in all tried",
                 text,
             )
             self.assertIn(
-                "counted so: useless 342 before, 44 after; useful 314, 314; by the report's rule 658, 359",
+                "tried misses false 342 → 44, true 314 → 314, invalidations 658 → 359 2 44 314",
                 text,
             )
             # (what it says where nothing is moved is what it says else)
             self.assertNotIn("place", text)
-            self.assertNotIn("counted so", view(*words)[1])
+            self.assertNotIn("tried", view(*words)[1])
             status, _, said = view(*words, "--patch", patch)
             self.assertEqual((status, "a predator with `move`" in said), (2, True))
 
     def test_what_a_run_says_is_heard(self):
-        says = "predator: no hart was free for the last thread that was to start: `harts` is 8, and in the settings it may be up to 256\n"
+        says = "predator: the last thread could not start: all 8 harts are in use (setting `harts`, at most 256)\n"
         words = ("run", built("ring.elf"), *TURNS, "--explain", "0", "--fail-above", "9999")
         status, text, said = view(*words, STAND_IN_HAS="move", STAND_IN_SAYS=says)
         self.assertEqual((status, said.startswith(says), said.count(says)), (3, True, 1))
-        self.assertIn("note: no hart was free for the last thread that was to start", joined(text))
+        self.assertIn(
+            "note: the last thread never ran, because all 8 harts were in use: use `--set harts=16`",
+            joined(text),
+        )
         self.assertEqual(view(*words, STAND_IN_HAS="move", STAND_IN_PUTS="put out")[2], "put out\n")
 
     def test_a_trace_is_read_as_a_run_is(self):
@@ -517,9 +548,9 @@ class Screens(unittest.TestCase):
             _, replay, _ = view(
                 "replay", trace, "--program", built("shards.elf"), *words, STAND_IN_HAS="move"
             )
-            (one, other) = (re.search("to do .*", joined(it))[0] for it in (run, replay))
+            (one, other) = (re.search(" fix .*", joined(it))[0] for it in (run, replay))
             self.assertEqual(one, other)
-            self.assertIn("useless 2147 before, 0 after; useful 0, 0", one)
+            self.assertIn("tried misses false 2,147 → 0, true 0 → 0, invalidations 1,833 → 0", one)
 
 
 if __name__ == "__main__":

@@ -108,11 +108,15 @@ class Unnamed(unittest.TestCase):
         self.assertEqual(of_runtime([thing], SimpleNamespace(takings=taken.get), guest), set())
         for has_runtime, whose in (
             (False, "the C library"),
-            (True, "the C library or of Go's runtime"),
+            (True, "the C library or Go's runtime"),
         ):
             self.assertEqual(
-                foreign_objects.row_of([], False, has_runtime)[1],
-                f"0 objects of {whose}: --library shows them",
+                foreign_objects.row_of([thing] * 1200, has_runtime),
+                f"1,200 objects of {whose} (--library shows them)",
+            )
+            self.assertEqual(
+                foreign_objects.row_of([thing], has_runtime),
+                f"1 object of {whose} (--library shows it)",
             )
 
     def test_lines_near_an_instruction(self):

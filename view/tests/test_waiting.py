@@ -129,12 +129,12 @@ class Last(unittest.TestCase):
             self.assertEqual(status, 0)
             text = joined(text)
             said = (
-                f"note: where each hart {'waits' if outcome == 'deadlock' else 'was'}: hart 0 at "
+                f"note: {'waiting' if outcome == 'deadlock' else 'running'} at the end: hart 0 at "
             )
             self.assertIn(said, text)
             for it in wanted:
                 self.assertRegex(text, it)
-            self.assertNotIn("hart 1 ", text.partition(said)[2].partition(" useless ")[0])
+            self.assertNotIn("hart 1 ", text.partition(said)[2].partition(" false ")[0])
 
 
 if __name__ == "__main__":

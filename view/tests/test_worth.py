@@ -1,4 +1,4 @@
-"""What misses may be worth in time, and what kinds of instructions take a line."""
+"""The severity of misses, and the kinds of invalidations by their instructions."""
 
 import json
 import os
@@ -8,8 +8,9 @@ import sys
 import tempfile
 import unittest
 from types import SimpleNamespace
+from unittest import mock
 
-from calling import HERE, PROGRAM, STAND_IN, built, has, joined, view
+from calling import HERE, PROGRAM, STAND_IN, TOP, built, has, joined, view
 
 sys.path[:0] = [os.path.dirname(os.path.dirname(HERE))]
 
@@ -69,8 +70,11 @@ a:	file format elf64-x86-64
 """
 
 
+SEVERE = "severe: padding typically makes such programs 1.8 to 2.6 times faster"
+
+
 def misses_of(*lines):
-    """A count of lines, each by its place, useful and useless misses, and its object."""
+    """A count of lines, each by its place, true-sharing and false-sharing misses, and its object."""
     rows = "".join(
         LINE.format(at, useful, useless, name, at) for at, useful, useless, name in lines
     )
@@ -79,7 +83,7 @@ def misses_of(*lines):
 
 
 def view_of(*lines, steps=1000, words=("run", "p"), alternating=None):
-    """What is seen of a run with some misses, and of the same one in turns of one step."""
+    """A view of a run with some misses, and of the same one at quantum 1."""
     report = Report(REPORT.format(steps))
     made = View(SimpleNamespace(**vars_of(words)), report, Naming(report))
     made.misses = misses_of(*lines)
@@ -122,15 +126,24 @@ class InTime(unittest.TestCase):
             [0, 0, 1, 1, 2, 2, 3, 3],
         )
         self.assertEqual(BANDS[0].least, 0)
+        self.assertEqual([it.severity for it in BANDS], ["low", "moderate", "high", "severe"])
         self.assertEqual(len({it.told for it in BANDS}), len(BANDS))
+
+    def test_the_numbers_of_the_bands_are_those_of_the_studies(self):
+        with open(os.path.join(TOP, "docs", "STUDIES.md"), encoding="utf-8") as file:
+            table = file.read().partition("<!-- clock -->\n")[2].partition("\n\n| Study")[0]
+        rows = [[it.strip() for it in row.split("|")[1:-1]] for row in table.split("\n") if row]
+        middle = [at for at, it in enumerate(rows[0]) if it == "middle"]
+        for band, row in zip(BANDS[1:], rows[3:], strict=True):
+            medians = [float(row[at]) for at in middle]
+            told = f"{min(medians):.1f} to {max(medians):.1f} times faster"
+            self.assertTrue(band.told.endswith(told), (band.told, told))
+            self.assertIn(f"{band.least:g}", row[0])
+        self.assertTrue(all(float(rows[2][at]) <= 1 for at in middle))
 
     def test_bound(self):
         self.assertEqual(at_most(0, 140, 0.4), 0)
         self.assertAlmostEqual(at_most(10, 40, 0.4), 0.5)
-        self.assertEqual(
-            [miss_rates.percent(it) for it in (0, 0.001, 0.014, 0.5, 1)],
-            ["0%", "less than 1%", "1%", "50%", "100%"],
-        )
 
     def test_a_run(self):
         own = view_of(
@@ -138,42 +151,42 @@ class InTime(unittest.TestCase):
             ("1040", 5, 2, "few"),
             alternating=(4000, ("1000", 1, 100, "many")),
         )
-        self.assertEqual((own.worth.rate(9), own.worth.unit()), (9.0, "steps"))
-        most = at_most(100 / 4, 140, 0.4)
-        how = "by 140 ns for each in turns of one step, 0.4 ns for a step: a bound and no estimate"
-        bound = f"at most {100 * most:.0f}% of the time, {how}"
-        self.assertEqual(
-            own.worth.total(),
-            f"9.00 useless misses by 1000 steps: fought over in every turn; {bound}",
-        )
+        self.assertEqual((own.worth.rate(9), own.worth.unit()), (9.0, "instructions"))
+        self.assertEqual(own.worth.total(), f"9.00 false per 1,000 instructions ({SEVERE})")
+        self.assertEqual(own.worth.at_most(), at_most(100 / 4, 140, 0.4))
         many, few = own.things
+        self.assertEqual(
+            [own.worth.band(it.useless).severity for it in (many, few)], ["high", "moderate"]
+        )
+        # (this run has more than the one at quantum 1)
+        self.assertAlmostEqual(own.worth.at_most(few), at_most(2, 140, 0.4))
+        self.assertEqual(
+            own.worth.warning(few, []),
+            "; may not pay: most misses on its worst line are true sharing",
+        )
+        self.assertEqual(own.worth.warning(many, []), "")
         self.assertTrue(
-            own.worth.told(many).startswith(
-                "7.00 useless misses by 1000 steps: padding often pays: measure; at most 90%"
+            own.seen(few).fix.endswith(
+                "may not pay: most misses on its worst line are true sharing"
             )
         )
-        # (what is seen is more than in turns of one step)
-        self.assertAlmostEqual(own.worth.at_most(few), at_most(2, 140, 0.4))
-        self.assertIn(
-            "; most misses of its worst line are useful, so a pad may cost time",
-            own.worth.told(few),
-        )
-        self.assertNotIn("a pad may cost time", own.worth.told(many))
 
-    def test_turns_that_the_study_has_not(self):
+    def test_an_interleaving_that_the_studies_have_not(self):
         for words in (["--set", "quantum=3"], ["--set", "seed=2"], ["--schedule", "f"]):
             own = view_of(("1000", 1, 7, "many"), words=("run", "p", *words))
             self.assertIsNone(own.worth.band(7), words)
-            self.assertEqual(own.worth.total(), "7.00 useless misses by 1000 steps")
+            self.assertEqual(own.worth.total(), "7.00 false per 1,000 instructions")
         own = view_of(("1000", 1, 7, "many"), words=("replay", "t"))
         self.assertEqual(
             own.worth.total(),
-            "7.00 useless misses by 1000 steps: padding often pays: measure, if turns had 100 steps",
+            f"7.00 false per 1,000 instructions (high if recorded at quantum 100: {BANDS[2].told})",
         )
         own = view_of(("1000", 1, 7, "many"), steps=0, words=("replay", "t"))
-        self.assertEqual(own.worth.total(), "3.50 useless misses by 1000 accesses")
+        self.assertEqual(own.worth.total(), "3.50 false per 1,000 accesses")
+        own = view_of(("1000", 7, 0, "many"))
+        self.assertEqual(own.worth.total(), "")
         own.misses = None
-        self.assertEqual((own.worth.total(), own.worth.told(own.things[0])), ("", ""))
+        self.assertEqual(own.worth.total(), "")
 
     def test_the_words_of_a_run_in_turns_of_one_step(self):
         def words_of(*words):
@@ -216,9 +229,9 @@ class InTime(unittest.TestCase):
             file.write(REPORT.format(3))
             file.flush()
             status, _, said = view(file.name, "--latency", "100")
-        self.assertEqual((status, "'--latency' is for `view run`" in said), (2, True))
+        self.assertEqual((status, "'--latency' applies to `view run` only" in said), (2, True))
         status, _, said = view("run", built("ring.elf"), "--latency", "1.5")
-        self.assertEqual((status, "'--latency' is a number, and not '1.5'" in said), (2, True))
+        self.assertEqual((status, "'--latency' takes a number, not '1.5'" in said), (2, True))
 
 
 class OnTheScreen(unittest.TestCase):
@@ -234,19 +247,36 @@ class OnTheScreen(unittest.TestCase):
                 found = json.load(file)
         time, first = found["time"], found["objects"][0]
         self.assertEqual(
-            (time["by"], time["latency"], time["alternating"]["steps"]), ("steps", 70, 6107)
+            (time["per"], time["severity"], time["latency_ns"], time["quantum_1"]["instructions"]),
+            ("instructions", "severe", 70, 6107),
         )
         self.assertEqual(
-            time["most"], round(at_most(1000 * time["alternating"]["useless"] / 6107, 70, 0.4), 4)
+            time["upper_bound"],
+            round(at_most(1000 * time["quantum_1"]["false_sharing"] / 6107, 70, 0.4), 4),
         )
+        self.assertIn(f"{time['rate']:.2f} false per 1,000 instructions ({SEVERE})", joined(text))
+        kinds = {"atomic": 0, "read_write": 0, "write_write": 61, "unknown": 0}
+        self.assertEqual(first["invalidation_kinds"], kinds)
+        self.assertEqual({it["kind"] for it in first["conflicts"]}, {"write_write"})
         self.assertIn(
-            f"time: {time['rate']:.2f} useless misses by 1000 steps: fought over in every turn; at most",
+            "(write after write); in all 61 write → write; the line is hardly read, so store buffers hide most of them who",
             joined(text),
         )
-        self.assertEqual(first["takings"], {"atomic": 0, "load": 0, "store": 61, "unknown": 0})
-        self.assertEqual({it["kind"] for it in first["fights"]}, {"store"})
-        self.assertIn("takings 61 by stores over stores: the line is hardly read", joined(text))
-        self.assertIn("never for the same word; from a load takings", joined(text))
+        self.assertIn(
+            "(write after read); in all 31 read → write, 30 write → write who", joined(text)
+        )
+
+    def test_a_bound_is_counted_for_json_alone(self):
+        own = view_of(("1000", 1, 7, "many"))
+        for options, is_begun in (
+            ({}, False),
+            ({"json": "f"}, True),
+            ({"json": "f", "latency": "0"}, False),
+        ):
+            own.call.options.update(options)
+            with mock.patch("worth.counted", lambda *_: "a count"):
+                found = miss_rates.begin(own.call, SimpleNamespace(has=lambda _: True), (64, 0))
+            self.assertEqual(found is not None and found.result(), is_begun and "a count")
 
 
 @unittest.skipUnless(has(PROGRAM, "misses", "explain"), "the program isn't built")
@@ -297,8 +327,10 @@ class Kinds(unittest.TestCase):
             self.assertEqual(kind_of(Pair(victim, taker, 1, 0), known), kind, (victim, taker))
         own = kinds_of([Pair(store, store, 5, 0), Pair(load, store, 2, 0), Pair(0, 0, 1, 0)], known)
         self.assertEqual(own, {ATOMIC: 0, LOAD: 2, STORE: 5, UNKNOWN: 1})
-        self.assertEqual(told(own), "2 from loads, 5 by stores over stores, 1 by what isn't known")
-        self.assertIn("a store buffer hides most of that", told(own, is_read=False))
+        self.assertEqual(told(own), "2 read → write, 5 write → write, 1 by unknown instructions")
+        self.assertIn(
+            "; the line is hardly read, so store buffers hide most", told(own, is_read=False)
+        )
         self.assertEqual((told({}), told(kinds_of([Pair(0, 0, 1, 0)], known))), ("", ""))
         # (an instruction that loads and stores waits for the line itself)
         self.assertEqual(

@@ -16,15 +16,14 @@ use std::env;
 use std::io::ErrorKind;
 use std::rt::Env;
 
-const BUDGET: &str = "`budget` in the settings allows more steps, up to 68719476736";
+const BUDGET: &str = "the run used its whole budget: set a larger `budget`, at most 68719476736";
 
-const DEADLOCK: &str =
-    "each hart that is left waits, to be woken at a word or for the end of another hart";
+const DEADLOCK: &str = "every remaining hart waits for a wake-up or for the end of another hart";
 
 const TRAPPED: &str =
-    "`llvm-symbolizer --obj=PROGRAM PC` tells the source line of the pc of the outcome";
+    "find the source line of the outcome's pc with `llvm-symbolizer --obj=PROGRAM PC`";
 
-const NOT_TEXT: &str = "a word isn't UTF-8, as all words of a call are, names of files too";
+const NOT_TEXT: &str = "an argument is not UTF-8: arguments and file names must be UTF-8";
 
 /// What is wrong at such an end and what to do next, in one line, where there is something to say.
 /// `front` is the beginning of the file that is refused, as far as it is known.

@@ -45,21 +45,21 @@ fn field(front: &[u8], first: usize, second: usize) -> Option<u16> {
 // Which machine an ELF file is for, as its beginning says, by the bits and the machine's number.
 fn machine_of(front: &[u8]) -> &'static str {
     match (front.get(4), field(front, 18, 19)) {
-        (Some(&2), Some(62)) => "an ELF file for x86-64",
-        (Some(&2), Some(243)) => "an ELF file for RV64",
-        (_, Some(3)) => "an ELF file for x86",
-        (_, Some(40)) => "an ELF file for ARM",
-        (_, Some(183)) => "an ELF file for AArch64",
-        _ => "an ELF file for another machine",
+        (Some(&2), Some(62)) => "the file is an ELF file for x86-64",
+        (Some(&2), Some(243)) => "the file is an ELF file for RV64",
+        (_, Some(3)) => "the file is an ELF file for x86",
+        (_, Some(40)) => "the file is an ELF file for ARM",
+        (_, Some(183)) => "the file is an ELF file for AArch64",
+        _ => "the file is an ELF file for another machine",
     }
 }
 
 // What an ELF file is that is no executable with fixed addresses, as its beginning says.
 fn type_of(front: &[u8]) -> &'static str {
     match field(front, 16, 17) {
-        Some(1) => "an object file, which isn't linked yet",
-        Some(3) => "a shared object, or a program without fixed addresses",
-        _ => "not an executable with fixed addresses",
+        Some(1) => "the file is an object file, not linked yet",
+        Some(3) => "the file is a shared object or a position-independent program",
+        _ => "the file is not an executable with fixed addresses",
     }
 }
 
@@ -68,33 +68,33 @@ fn wrong(fault: ElfFault, front: &[u8]) -> &'static str {
     match fault {
         ElfFault::TooShort | ElfFault::BadMagic => {
             if front.starts_with(b"#!") {
-                "a script"
+                "the file is a script"
             } else {
-                "not an ELF file"
+                "the file is not an ELF file"
             }
         }
         ElfFault::BadClass | ElfFault::BadData | ElfFault::BadMachine => machine_of(front),
-        ElfFault::BadVersion => "an ELF file of an unknown version",
+        ElfFault::BadVersion => "the file has an unknown ELF version",
         ElfFault::BadType => type_of(front),
         ElfFault::BadFlags => {
-            "it has compressed instructions, floating-point registers or RV32E's registers"
+            "the program uses compressed instructions, floating-point registers or RV32E registers"
         }
-        ElfFault::BadHeaderSize => "its headers have another size than those of RV32",
-        ElfFault::HeadersOutside => "its headers don't lie in the file",
-        ElfFault::Dynamic => "it is linked dynamically",
-        ElfFault::SegmentOutsideFile => "a segment doesn't lie in the file",
+        ElfFault::BadHeaderSize => "the ELF headers have the wrong size for RV32",
+        ElfFault::HeadersOutside => "the ELF headers extend past the end of the file",
+        ElfFault::Dynamic => "the program is linked dynamically",
+        ElfFault::SegmentOutsideFile => "a segment extends past the end of the file",
         ElfFault::SegmentSizes => {
-            "a segment has more bytes in the file than in memory, or ends above 2^32"
+            "a segment is larger in the file than in memory, or ends above 2^32"
         }
-        ElfFault::SegmentOverlap => "two segments have an address in common",
+        ElfFault::SegmentOverlap => "two segments overlap",
         ElfFault::SegmentOutsideMemory => {
-            "its segments, the stacks and a heap have no room in the memory"
+            "the segments, the stacks and a heap do not fit in memory"
         }
-        ElfFault::EntryMisaligned => "its entry is no multiple of 4",
-        ElfFault::EntryNotExecutable => "its entry can't be executed",
-        ElfFault::BadSymbols => "its symbol table is damaged",
-        ElfFault::BadSymbolName => "the name of a symbol doesn't end",
-        ElfFault::TooLong => "a program has at most 16 MiB",
+        ElfFault::EntryMisaligned => "the entry address is not a multiple of 4",
+        ElfFault::EntryNotExecutable => "the entry address is not executable",
+        ElfFault::BadSymbols => "the symbol table is damaged",
+        ElfFault::BadSymbolName => "the name of a symbol has no end",
+        ElfFault::TooLong => "the file is larger than 16 MiB",
     }
 }
 
@@ -105,26 +105,27 @@ fn remedy(fault: ElfFault) -> &'static str {
         | ElfFault::BadMagic
         | ElfFault::BadClass
         | ElfFault::BadData
-        | ElfFault::BadMachine => "guest/build.sh builds for RV32IMA",
-        ElfFault::BadFlags => "compile for little-endian RV32, with -march=rv32ima -mabi=ilp32",
+        | ElfFault::BadMachine => "build it for RV32IMA with guest/build.sh",
+        ElfFault::BadFlags => "compile it for little-endian RV32 with -march=rv32ima -mabi=ilp32",
         ElfFault::BadType | ElfFault::Dynamic => {
-            "link it statically and at fixed addresses, as with -static -no-pie"
+            "link it statically at fixed addresses with -static -no-pie"
         }
         ElfFault::BadVersion
         | ElfFault::BadHeaderSize
         | ElfFault::HeadersOutside
-        | ElfFault::SegmentOutsideFile => "the file is damaged or cut off; link it again",
+        | ElfFault::SegmentOutsideFile =>
+            "link the program again, since the file is damaged or cut off",
         ElfFault::SegmentSizes | ElfFault::SegmentOverlap => {
-            "guest/link.ld is a linker script that works"
+            "link it with guest/link.ld, or a linker script like it"
         }
         ElfFault::SegmentOutsideMemory => {
-            "set more `memory`, fewer `harts` or less `stack` in the settings"
+            "set a larger `memory`, fewer `harts` or a smaller `stack` in the settings"
         }
         ElfFault::EntryMisaligned | ElfFault::EntryNotExecutable => {
-            "the entry is the address of an instruction; guest/start.S has one"
+            "set the entry to the address of an instruction, as guest/start.S does"
         }
-        ElfFault::BadSymbols | ElfFault::BadSymbolName => "llvm-strip takes the symbols away",
-        ElfFault::TooLong => "llvm-strip --strip-debug makes one shorter",
+        ElfFault::BadSymbols | ElfFault::BadSymbolName => "remove the symbols with llvm-strip",
+        ElfFault::TooLong => "make it smaller with llvm-strip --strip-debug",
     }
 }
 

@@ -1,4 +1,4 @@
-// Why no place is told for an object: what each reason is called, and what to do about it.
+// Why an object gets no place: what each reason is called, and what to do about it.
 ghost use Rattle.std.specs.Prelude.{◌≡◌};
 ghost use Rattle.command_files.specs.Faults.{place_text};
 
@@ -19,12 +19,13 @@ pub fn place_name(refusal: PlaceRefusal) -> &'static str
 pub fn place_advice(refusal: PlaceRefusal) -> &'static str {
     match refusal {
         PlaceRefusal::NoObject => {
-            "no object symbol of the trace has this name, nor was exactly one block made at that \
-             address"
+            "no object symbol of the trace has this name, and not exactly one block was allocated at \
+             that address: name another object"
         }
-        PlaceRefusal::TooLarge => "an object that is placed has at most 16 MiB",
+        PlaceRefusal::TooLarge => "the object is larger than 16 MiB: name a smaller one",
         PlaceRefusal::NoRoom => {
-            "the object's words have no room between the last access and the end of the addresses"
+            "the object's words do not fit between the last access and the end of the addresses: \
+             name a smaller object"
         }
     }
 }

@@ -6,7 +6,7 @@ use hart_scheduler::ScheduleFault;
 use std::alloc::{AllocError, Global};
 
 const HARTS: &str =
-    "harts are numbered from 0 on, and `harts` in the settings says how many, usually 8";
+    "number the harts from 0, and set how many there are with `harts` in the settings (usually 8)";
 
 // What a fault of the schedule is called.
 pub fn schedule_name(alloc: Global, fault: ScheduleFault) -> Result<String, AllocError>
@@ -25,15 +25,22 @@ pub fn schedule_name(alloc: Global, fault: ScheduleFault) -> Result<String, Allo
 pub fn schedule_advice(alloc: Global, fault: ScheduleFault) -> Result<String, AllocError> {
     match fault {
         ScheduleFault::BadLine(line) => {
-            format!(in alloc; "line {line} isn't a hart, one space and a count, as `0 500`")
+            format!(in alloc;
+                "line {line} is not a hart, one space and a count: write it like `0 500`"
+            )
         }
         ScheduleFault::HartOutOfRange(line) => {
-            format!(in alloc; "line {line} names a hart that there isn't: {HARTS}")
+            format!(in alloc; "line {line} names a hart that does not exist: {HARTS}")
         }
         ScheduleFault::ZeroCount(line) => {
-            format!(in alloc; "line {line} has a count of 0: it is at least 1; leave the line out")
+            format!(in alloc;
+                "line {line} has a count of 0: set it to 1 or more, or remove the line"
+            )
         }
-        ScheduleFault::TooLong => String::from_str(alloc, "a schedule has at most 1 MiB"),
+        ScheduleFault::TooLong => String::from_str(
+            alloc,
+            "the schedule is larger than 1 MiB: shorten it",
+        ),
         ScheduleFault::NoMemory => Err(AllocError),
     }
 }

@@ -6,7 +6,7 @@ use base::printed_name;
 use settings::{Key, SettingsFault};
 use std::alloc::{AllocError, Global};
 
-const LINES: &str = "a line is a key and a whole number, as `quantum = 1`";
+const LINES: &str = "write a key and a whole number on each line, like `quantum = 1`";
 
 const KEYS: &str = concat!(
     "the keys are harts, memory, stack, tracking, prediction, report, quantum, budget, line, ",
@@ -34,16 +34,16 @@ pub fn settings_name(alloc: Global, fault: &SettingsFault) -> Result<String, All
 
 fn range_of(key: Key) -> &'static str {
     match key {
-        Key::Harts => "`harts` is a whole number from 1 to 256",
-        Key::Memory => "`memory` is a multiple of 4096 from 65536 to 67108864",
-        Key::Stack => "`stack` is a multiple of 4096 from 4096 to 1048576",
-        Key::Tracking => "`tracking` is a whole number from 1 to 4294967296",
-        Key::Prediction => "`prediction` is a whole number from `tracking` to 4294967296",
-        Key::Report => "`report` is a whole number from 1 to 1099511627776",
-        Key::Quantum => "`quantum` is a whole number from 1 to 1048576",
-        Key::Budget => "`budget` is a whole number from 1 to 68719476736",
-        Key::Line => "`line` is 32, 64, 128 or 256",
-        Key::Seed => "`seed` is a whole number from 0 to 4294967295",
+        Key::Harts => "`harts` must be a whole number from 1 to 256",
+        Key::Memory => "`memory` must be a multiple of 4096 from 65536 to 67108864",
+        Key::Stack => "`stack` must be a multiple of 4096 from 4096 to 1048576",
+        Key::Tracking => "`tracking` must be a whole number from 1 to 4294967296",
+        Key::Prediction => "`prediction` must be a whole number from `tracking` to 4294967296",
+        Key::Report => "`report` must be a whole number from 1 to 1099511627776",
+        Key::Quantum => "`quantum` must be a whole number from 1 to 1048576",
+        Key::Budget => "`budget` must be a whole number from 1 to 68719476736",
+        Key::Line => "`line` must be 32, 64, 128 or 256",
+        Key::Seed => "`seed` must be a whole number from 0 to 4294967295",
     }
 }
 
@@ -67,8 +67,8 @@ fn place_in(alloc: Global, content: &[u8]) -> Result<Option<String>, AllocError>
 
 fn toml_advice(alloc: Global, content: &[u8]) -> Result<String, AllocError> {
     match place_in(alloc, content)? {
-        Some(place) => format!(in alloc; "{place}; {LINES}"),
-        None => format!(in alloc; "not TOML: {LINES}"),
+        Some(place) => format!(in alloc; "{place}: {LINES}"),
+        None => format!(in alloc; "the file is not TOML: {LINES}"),
     }
 }
 
@@ -80,11 +80,14 @@ pub fn settings_advice(
     content: &[u8],
 ) -> Result<String, AllocError> {
     match fault {
-        SettingsFault::TooLong => String::from_str(alloc, "a settings file has at most 64 KiB"),
+        SettingsFault::TooLong => String::from_str(
+            alloc,
+            "the settings file is larger than 64 KiB: shorten it",
+        ),
         SettingsFault::BadToml => toml_advice(alloc, content),
         SettingsFault::UnknownKey(name) => {
             let name = printed_name(alloc, name.bytes())?;
-            format!(in alloc; "`{name}` isn't a key: {KEYS}")
+            format!(in alloc; "`{name}` is not a key: {KEYS}")
         }
         SettingsFault::OutOfRange(key) | SettingsFault::ChangedOutOfRange(key) => {
             String::from_str(alloc, range_of(*key))

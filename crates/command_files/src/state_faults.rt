@@ -27,22 +27,26 @@ pub fn state_name(alloc: Global, fault: StateFault) -> Result<String, AllocError
 pub fn state_advice(alloc: Global, fault: StateFault) -> Result<String, AllocError> {
     match fault {
         StateFault::BadState(place) => {
-            format!(in alloc; "not a saved state, or only part of one: byte {place} is wrong")
+            format!(in alloc;
+                "byte {place} is wrong: the file is not a saved state, or it is cut off"
+            )
         }
         StateFault::TooLong => {
-            String::from_str(alloc, "a saved state has at most 1099511627776 bytes")
+            String::from_str(alloc, "the saved state is larger than 1099511627776 bytes")
         }
         StateFault::WrongSettings(HARTS) => {
             String::from_str(
                 alloc,
-                "it has another number of harts than what was counted",
+                "the trace and the saved state differ in their number of harts",
             )
         }
         StateFault::WrongSettings(place) => {
-            format!(in alloc; "saved with another layout or thresholds, as byte {place} shows")
+            format!(in alloc;
+                "the state was saved with another layout or thresholds, as byte {place} shows: use the same"
+            )
         }
         StateFault::WrongPosition { saved, first } => format!(in alloc;
-            "its first access is number {first}, not {saved}: count the parts before it first"
+            "the first access of the trace is number {first}, not {saved}: replay the parts before it first"
         ),
     }
 }

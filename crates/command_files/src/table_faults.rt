@@ -8,8 +8,8 @@ use trace_files::TableFault;
 
 /// What to do about an access in the way of those that are moved.
 pub const OCCUPIED_ADVICE: &str =
-    "an access at this address isn't moved, and others would be moved to where it is: give them \
-     another place, or give this address a line of its own";
+    "an access at this address stays, and other accesses would move to it: move them elsewhere, or \
+     add a line for this address";
 
 // What a fault of the table is called.
 pub fn table_name(alloc: Global, fault: TableFault) -> Result<String, AllocError>
@@ -35,18 +35,21 @@ pub fn occupied_name(alloc: Global, addr: u32) -> Result<String, AllocError>
 /// What is wrong with a table that is refused, and what to do about it.
 pub fn table_advice(alloc: Global, fault: TableFault) -> Result<String, AllocError> {
     match fault {
-        TableFault::TooLong => String::from_str(alloc, "a table has at most 1 MiB"),
+        TableFault::TooLong => String::from_str(
+            alloc,
+            "the table is larger than 1 MiB: shorten it",
+        ),
         TableFault::BadLine(line) => {
             format!(in alloc;
-                "line {line} isn't FROM SIZE TO, as `0x11004 4 0x11040`, with one \
-                space between each two: multiples of 4, SIZE at least 4, FROM + SIZE and TO + SIZE \
-                at most 2^32, and FROM at or above the end of the range before it"
+                "line {line} is not a valid FROM SIZE TO: write it like `0x11004 4 0x11040`, with \
+                single spaces, multiples of 4, SIZE at least 4, FROM + SIZE and TO + SIZE at most \
+                2^32, and FROM at or above the end of the previous range"
             )
         }
         TableFault::Overlap(line) => {
             format!(in alloc;
-                "the place that line {line} moves to and that of an earlier line \
-                have bytes in common: move it elsewhere"
+                "the target of line {line} overlaps the target of an earlier line: move it \
+                elsewhere"
             )
         }
         TableFault::NoMemory => Err(AllocError),

@@ -5,19 +5,19 @@ ghost use Rattle.command_files.specs.Faults.{trace_text};
 use std::alloc::{AllocError, Global};
 use trace_format::TraceFault;
 
-const DAMAGED: &str = "the file is damaged or cut off; docs/FORMATS.md says what stands where";
+const DAMAGED: &str = "the file is damaged or cut off (docs/FORMATS.md describes the format)";
 
 const NO_TRACE: &str =
-    "not a trace: `predator run PROGRAM --trace F` writes one, tools/to_trace.py too";
+    "the file is not a trace: write one with `predator run PROGRAM --trace F` or tools/to_trace.py";
 
-const CUT: &str = "write or copy it again";
+const CUT: &str = "record or copy it again";
 
 /// What to do about a trace without pcs, where a command needs them.
 pub const NO_PCS_ADVICE: &str =
-    "its accesses have no pcs: `predator run PROGRAM --pcs --trace F` writes them for a guest, \
-     `predator native --pcs --trace F -- PROGRAM` for a program of this machine";
+    "the trace has no pcs: record a guest with `predator run PROGRAM --pcs --trace F`, or a program \
+     of this machine with `predator native --pcs --trace F -- PROGRAM`";
 
-const TOO_LONG: &str = "a trace has at most 2^40 accesses, and less than 2^44 bytes";
+const TOO_LONG: &str = "the trace has more than 2^40 accesses, or 2^44 bytes or more";
 
 // What a fault of a trace is called, with its numbers.
 pub fn trace_name(alloc: Global, fault: TraceFault) -> Result<String, AllocError>
@@ -42,21 +42,25 @@ pub fn trace_name(alloc: Global, fault: TraceFault) -> Result<String, AllocError
 pub fn trace_advice(alloc: Global, fault: TraceFault) -> Result<String, AllocError> {
     match fault {
         TraceFault::BadMagic => String::from_str(alloc, NO_TRACE),
-        TraceFault::BadHarts => { format!(in alloc; "not a trace of 1 to 256 harts: {DAMAGED}") }
+        TraceFault::BadHarts => {
+            format!(in alloc; "the number of harts is not from 1 to 256: {DAMAGED}")
+        }
         TraceFault::BadTag(place) => {
-            format!(in alloc; "no record begins as byte {place} does: {DAMAGED}")
+            format!(in alloc; "byte {place} begins no record: {DAMAGED}")
         }
         TraceFault::BadField(place) => {
-            format!(in alloc; "the field at byte {place} breaks a rule: {DAMAGED}")
+            format!(in alloc; "the field at byte {place} is invalid: {DAMAGED}")
         }
         TraceFault::Truncated(size) => {
-            format!(in alloc; "it ends after {size} bytes, before the trace does: {CUT}")
+            format!(in alloc; "the trace is cut off after {size} bytes: {CUT}")
         }
         TraceFault::CountMismatch { told, counted } => {
-            format!(in alloc; "its end tells of {told} accesses, and it has {counted}: {DAMAGED}")
+            format!(in alloc;
+                "the end record says {told} accesses, the trace has {counted}: {DAMAGED}"
+            )
         }
         TraceFault::AfterEnd(place) => {
-            format!(in alloc; "byte {place} comes after the end of the trace: {DAMAGED}")
+            format!(in alloc; "byte {place} follows the end of the trace: {DAMAGED}")
         }
         TraceFault::TooLong => String::from_str(alloc, TOO_LONG),
         TraceFault::NoMemory => Err(AllocError),

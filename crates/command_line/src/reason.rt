@@ -5,23 +5,24 @@ use clap::Error;
 use std::alloc::{AllocError, Global};
 
 const ALLOWED: &str =
-    "--size is a power of two from 4 to 1024, --shift a multiple of 4 below the size";
+    "--size must be a power of two from 4 to 1024, --shift a multiple of 4 below the size";
 
 const LINES: &str = concat!(
-    "BASE is a multiple of 4 below 2^32, SIZE a power of two from 4 to 1024, ",
+    "BASE must be a multiple of 4 below 2^32, SIZE a power of two from 4 to 1024, ",
     "START a number below 2^40",
 );
 
-const SWEPT: &str = "it is a power of two from 4 to 256";
+const SWEPT: &str = "it must be a power of two from 4 to 256";
 
-const LINE_SIZE: &str = "it is a power of two from 4 to 1024";
+const LINE_SIZE: &str = "it must be a power of two from 4 to 1024";
 
-const COUNT: &str = "N is a whole number up to 1000000000";
+const COUNT: &str = "N must be a whole number up to 1000000000";
 
-const PLACE: &str = "K is a whole number up to 18446744073709551615";
+const PLACE: &str = "K must be a whole number up to 18446744073709551615";
 
 const SHAPES: &str = concat!(
-    "--size is a power of two from 4 to 1024, --sets one from 1 to 1024, --ways from 1 to 64, ",
+    "--size must be a power of two from 4 to 1024, --sets one from 1 to 1024, ",
+    "--ways from 1 to 64, ",
     "and sets times ways at most 4096"
 );
 
@@ -156,7 +157,7 @@ fn words_text(alloc: Global, error: &Error) -> Result<String, AllocError> {
         .strip_prefix("unexpected argument '-")
         .and_then(|rest| rest.bytes().next());
     if digit.is_some_and(|byte| byte.is_ascii_digit()) {
-        said.push_str(": no number is negative")?;
+        said.push_str(": numbers cannot be negative")?;
     }
     Ok(said)
 }
@@ -172,7 +173,7 @@ fn layout_text(
     }
     let size = size.unwrap_or("64");
     let shift = shift.unwrap_or("0");
-    format!(in alloc; "'--size {size} --shift {shift}' is no layout: {ALLOWED}")
+    format!(in alloc; "'--size {size} --shift {shift}' is not a layout: {ALLOWED}")
 }
 
 // What is wrong with a base, a size and a start.
@@ -188,7 +189,7 @@ fn line_text(
     let base = base.unwrap_or("");
     let size = size.unwrap_or("");
     let start = start.unwrap_or("");
-    format!(in alloc; "'{base} {size} {start}' is no line and start: {LINES}")
+    format!(in alloc; "'{base} {size} {start}' is not a line and a start: {LINES}")
 }
 
 // What is wrong with the shape of caches, or which part of it is missing.
@@ -206,7 +207,7 @@ fn shape_text(
         (_, None, _) => String::from_str(alloc, "--sets is missing"),
         (_, _, None) => String::from_str(alloc, "--ways is missing"),
         (Some(size), Some(sets), Some(ways)) => format!(in alloc;
-            "'--size {size} --sets {sets} --ways {ways}' is no shape of caches: {SHAPES}"
+            "'--size {size} --sets {sets} --ways {ways}' is not a cache shape: {SHAPES}"
         ),
     }
 }
@@ -226,11 +227,11 @@ fn number_text(
 // What is wrong with a part of `--set`.
 fn change_text(alloc: Global, part: &str, wrong: WrongChange) -> Result<String, AllocError> {
     let why = match wrong {
-        WrongChange::Form => "is no KEY=N",
-        WrongChange::Key => "names no key of the settings",
+        WrongChange::Form => "is not KEY=N",
+        WrongChange::Key => "names an unknown key",
         WrongChange::Number =>
-            "gives no whole number below 2^64, in decimal digits without leading zeros",
-        WrongChange::Again => "names a key that stands before it",
+            "needs a whole number below 2^64, in decimal digits without leading zeros",
+        WrongChange::Again => "repeats a key",
     };
     format!(in alloc; "'{part}' in --set {why}")
 }
@@ -241,10 +242,10 @@ impl Reason<'_> {
         match self {
             Reason::NoCommand => String::from_str(
                 alloc,
-                "the command is missing; see predator --help",
+                "the command is missing: see predator --help",
             ),
             Reason::UnknownCommand(word) => {
-                format!(in alloc; "'{word}' is no command; see predator --help")
+                format!(in alloc; "'{word}' is not a command: see predator --help")
             }
             Reason::Words(error) => words_text(alloc, error),
             Reason::Missing(name) => format!(in alloc; "{name} is missing"),
@@ -253,25 +254,29 @@ impl Reason<'_> {
             Reason::Shape { size, sets, ways } => shape_text(alloc, *size, *sets, *ways),
             Reason::Change { part, wrong } => change_text(alloc, *part, *wrong),
             Reason::Count(word) => {
-                number_text(alloc, "", word.unwrap_or(""), "is no count", COUNT)
+                number_text(alloc, "", word.unwrap_or(""), "is not a count", COUNT)
             }
             Reason::SweptSize(Some(size)) => {
-                number_text(alloc, "--size ", size, "is no size to sweep", SWEPT)
+                number_text(
+                    alloc,
+                    "--size ",
+                    size,
+                    "is not a size that sweep takes",
+                    SWEPT,
+                )
             }
             Reason::SweptSize(None) => format!(in alloc; "--size is missing: {SWEPT}"),
             Reason::LineSize(size) => {
                 let size = size.unwrap_or("64");
-                number_text(alloc, "--size ", size, "is no size of a line", LINE_SIZE)
+                number_text(alloc, "--size ", size, "is not a line size", LINE_SIZE)
             }
             Reason::Place(word) => {
-                number_text(alloc, "", word.unwrap_or(""), "is no place", PLACE)
+                number_text(alloc, "", word.unwrap_or(""), "is not a position", PLACE)
             }
-            Reason::NoTrace => {
-                String::from_str(alloc, "--pcs is for a trace, and --trace is missing")
-            }
+            Reason::NoTrace => { String::from_str(alloc, "--pcs needs --trace") }
             Reason::SameName(name) => {
                 format!(in alloc;
-                    "'{name}' stands twice; each file that is written wants its own name"
+                    "'{name}' is named twice: an output file must differ from all other files"
                 )
             }
         }

@@ -42,7 +42,7 @@ const INPUT: &str = "-";
 const LONGEST_FRONT: usize = 1 << 16;
 
 // Why a file isn't begun that is read or written under another name.
-const IN_USE: &str = "the same file is in use under another name, and stays as it is";
+const IN_USE: &str = "the file is in use under another name and stays unchanged: name another file";
 
 /// Contents of files that one thinks of. No code reads them: a shelf of the system's files tells
 /// them as long as all that it has read is theirs. So what is proved of the files that it tells,

@@ -6,10 +6,10 @@ use std::fs::OpenFile;
 use std::io::{self, ErrorKind, Read, Seek, SeekFrom, Write};
 
 // Why a file isn't read a second time.
-const READ_ONCE: &str = "a pipe or a terminal can be read once; write it to a file first";
+const READ_ONCE: &str = "a pipe or a terminal can be read only once: write it to a file first";
 
 // Why an output isn't made empty.
-const WRITTEN_ONCE: &str = "a pipe or a terminal is written from its front to its end, once";
+const WRITTEN_ONCE: &str = "a pipe or a terminal cannot be written again: name a file";
 
 /// How many bytes a call has read, and how many the file had when it was opened: 0 where that
 /// can't be told.

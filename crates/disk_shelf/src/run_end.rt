@@ -34,14 +34,14 @@ impl RunEnd {
         match self.taken_harts {
             Some(harts) if harts < MOST_HARTS => {
                 let _ = eprintln!(runtime;
-                    "predator: no hart was free for the last thread that was to start: `harts` is \
-                    {harts}, and in the settings it may be up to {MOST_HARTS}"
+                    "predator: the last thread could not start: all {harts} harts are in use (setting \
+                    `harts`, at most {MOST_HARTS})"
                 );
             }
             Some(harts) => {
                 let _ = eprintln!(runtime;
-                    "predator: no hart was free for the last thread that was to start: `harts` is \
-                    {harts}, and there are never more"
+                    "predator: the last thread could not start: all {harts} harts are in use, and \
+                    there are never more"
                 );
             }
             None => {}

@@ -26,16 +26,16 @@ fn is_wrong(alloc: Global, line: &str, wanted: &str) -> Result<bool, AllocError>
     Ok(reason.as_str() == wanted)
 }
 
-const LAYOUT_48: &str = "'--size 48 --shift 0' is no layout: --size is a power of two from 4 to \
-    1024, --shift a multiple of 4 below the size";
+const LAYOUT_48: &str = "'--size 48 --shift 0' is not a layout: --size must be a power of two \
+    from 4 to 1024, --shift a multiple of 4 below the size";
 
-const SHAPE_3: &str = "'--size 64 --sets 3 --ways 8' is no shape of caches: --size is a power of \
-    two from 4 to 1024, --sets one from 1 to 1024, --ways from 1 to 64, and sets times ways at \
+const SHAPE_3: &str = "'--size 64 --sets 3 --ways 8' is not a cache shape: --size must be a power \
+    of two from 4 to 1024, --sets one from 1 to 1024, --ways from 1 to 64, and sets times ways at \
     most 4096";
 
 const WRONG_WORDS: [(&str, &str); 45] = [
-    ("", "the command is missing; see predator --help"),
-    ("reply t", "'reply' is no command; see predator --help"),
+    ("", "the command is missing: see predator --help"),
+    ("reply t", "'reply' is not a command: see predator --help"),
     ("run p --fast=1", "unexpected argument '--fast' found"),
     ("run p -x", "unexpected argument '-x' found"),
     (
@@ -54,10 +54,7 @@ const WRONG_WORDS: [(&str, &str); 45] = [
         "run p --trace t --pcs --pcs",
         "the argument '--pcs' cannot be used multiple times",
     ),
-    (
-        "run p --pcs --output o",
-        "--pcs is for a trace, and --trace is missing",
-    ),
+    ("run p --pcs --output o", "--pcs needs --trace"),
     ("check p q", "unexpected argument 'q' found"),
     ("gen 3 f g", "unexpected argument 'g' found"),
     ("split t 4 a b c", "unexpected argument 'c' found"),
@@ -87,36 +84,36 @@ const WRONG_WORDS: [(&str, &str); 45] = [
     ),
     (
         "gen 03 f",
-        "'03' has a leading zero: N is a whole number up to 1000000000",
+        "'03' has a leading zero: N must be a whole number up to 1000000000",
     ),
     (
         "gen 1000000001 f",
-        "'1000000001' is no count: N is a whole number up to 1000000000",
+        "'1000000001' is not a count: N must be a whole number up to 1000000000",
     ),
     (
         "split -- t 04 a b",
-        "'04' has a leading zero: K is a whole number up to 18446744073709551615",
+        "'04' has a leading zero: K must be a whole number up to 18446744073709551615",
     ),
     (
         "split t x a b",
-        "'x' is no place: K is a whole number up to 18446744073709551615",
+        "'x' is not a position: K must be a whole number up to 18446744073709551615",
     ),
     (
         "split t 4 a t",
-        "'t' stands twice; each file that is written wants its own name",
+        "'t' is named twice: an output file must differ from all other files",
     ),
     (
         "convert t t",
-        "'t' stands twice; each file that is written wants its own name",
+        "'t' is named twice: an output file must differ from all other files",
     ),
     (
         "move t m m",
-        "'m' stands twice; each file that is written wants its own name",
+        "'m' is named twice: an output file must differ from all other files",
     ),
     (
         "explain p 2 64 0",
         concat!(
-            "'2 64 0' is no line and start: BASE is a multiple of 4 below 2^32, ",
+            "'2 64 0' is not a line and a start: BASE must be a multiple of 4 below 2^32, ",
             "SIZE a power of two from 4 to 1024, START a number below 2^40",
         ),
     ),
@@ -124,64 +121,64 @@ const WRONG_WORDS: [(&str, &str); 45] = [
     ("replay t --size 48 --save t", LAYOUT_48),
     (
         "sweep t --size -1",
-        "unexpected argument '-1' found: no number is negative",
+        "unexpected argument '-1' found: numbers cannot be negative",
     ),
     (
         "sweep t --size=-1",
-        "'--size -1' is negative: it is a power of two from 4 to 256",
+        "'--size -1' is negative: it must be a power of two from 4 to 256",
     ),
     (
         "misses t --shift 04",
         concat!(
-            "'04' has a leading zero: --size is a power of two from 4 to 1024, ",
+            "'04' has a leading zero: --size must be a power of two from 4 to 1024, ",
             "--shift a multiple of 4 below the size",
         ),
     ),
     (
         "blame t --size 48 --shift 16",
         concat!(
-            "'--size 48 --shift 16' is no layout: --size is a power of two from 4 to 1024, ",
+            "'--size 48 --shift 16' is not a layout: --size must be a power of two from 4 to 1024, ",
             "--shift a multiple of 4 below the size",
         ),
     ),
-    ("run p --set quantum", "'quantum' in --set is no KEY=N"),
+    ("run p --set quantum", "'quantum' in --set is not KEY=N"),
     (
         "run p --set quantum=1,turns=1",
-        "'turns=1' in --set names no key of the settings",
+        "'turns=1' in --set names an unknown key",
     ),
     (
         "check p --set quantum=01",
         concat!(
-            "'quantum=01' in --set gives no whole number below 2^64, in decimal digits ",
+            "'quantum=01' in --set needs a whole number below 2^64, in decimal digits ",
             "without leading zeros",
         ),
     ),
     (
         "explain p 0 64 0 --set harts=1,harts=2",
-        "'harts=2' in --set names a key that stands before it",
+        "'harts=2' in --set repeats a key",
     ),
-    ("replay t --set ,", "'' in --set is no KEY=N"),
+    ("replay t --set ,", "'' in --set is not KEY=N"),
     ("caches t --size 64 --sets 4", "--ways is missing"),
     ("caches t --size 64 --sets 3 --ways 8", SHAPE_3),
     (
         "place t x --size 48",
-        "'--size 48' is no size of a line: it is a power of two from 4 to 1024",
+        "'--size 48' is not a line size: it must be a power of two from 4 to 1024",
     ),
     (
         "run p --trace p",
-        "'p' stands twice; each file that is written wants its own name",
+        "'p' is named twice: an output file must differ from all other files",
     ),
     (
         "run p --trace o --output o",
-        "'o' stands twice; each file that is written wants its own name",
+        "'o' is named twice: an output file must differ from all other files",
     ),
     (
         "replay t --save t",
-        "'t' stands twice; each file that is written wants its own name",
+        "'t' is named twice: an output file must differ from all other files",
     ),
     (
         "replay t --size 64 --save s --resume s",
-        "'s' stands twice; each file that is written wants its own name",
+        "'s' is named twice: an output file must differ from all other files",
     ),
     ("replay t --size 64 --save s", ""),
 ];
@@ -197,66 +194,65 @@ fn the_wrong_word_is_named(rt: HostRuntime) -> Result<(), Fail> {
 const ADVICE: [(Status, &str); 13] = [
     (
         Status::Elf(ElfFault::BadFlags),
-        "it has compressed instructions, floating-point registers or RV32E's registers: compile \
-            for little-endian RV32, with -march=rv32ima -mabi=ilp32",
+        "the program uses compressed instructions, floating-point registers or RV32E registers: \
+            compile it for little-endian RV32 with -march=rv32ima -mabi=ilp32",
     ),
     (
         Status::Elf(ElfFault::BadMachine),
-        "an ELF file for another machine: guest/build.sh builds for RV32IMA",
+        "the file is an ELF file for another machine: build it for RV32IMA with guest/build.sh",
     ),
     (
         Status::Schedule(ScheduleFault::BadLine(1)),
-        "line 1 isn't a hart, one space and a count, as `0 500`",
+        "line 1 is not a hart, one space and a count: write it like `0 500`",
     ),
     (
         Status::Settings(SettingsFault::OutOfRange(Key::Stack)),
-        "`stack` is a multiple of 4096 from 4096 to 1048576",
+        "`stack` must be a multiple of 4096 from 4096 to 1048576",
     ),
     (
         Status::Settings(SettingsFault::BadToml),
-        "not TOML: a line is a key and a whole number, as `quantum = 1`",
+        "the file is not TOML: write a key and a whole number on each line, like `quantum = 1`",
     ),
     (
         Status::Trace(TraceFault::Truncated(9)),
-        "it ends after 9 bytes, before the trace does: write or copy it again",
+        "the trace is cut off after 9 bytes: record or copy it again",
     ),
     (
         Status::Trace(TraceFault::CountMismatch {
             told: 3,
             counted: 0,
         }),
-        "its end tells of 3 accesses, and it has 0: the file is damaged or cut off; \
-            docs/FORMATS.md says what stands where",
+        "the end record says 3 accesses, the trace has 0: the file is damaged or cut off \
+            (docs/FORMATS.md describes the format)",
     ),
     (
         Status::NoPcs,
-        "its accesses have no pcs: `predator run PROGRAM --pcs --trace F` writes them for a guest, \
-            `predator native --pcs --trace F -- PROGRAM` for a program of this machine",
+        "the trace has no pcs: record a guest with `predator run PROGRAM --pcs --trace F`, or a \
+            program of this machine with `predator native --pcs --trace F -- PROGRAM`",
     ),
     (
         Status::State(StateFault::WrongPosition {
             saved: 0,
             first: 6000,
         }),
-        "its first access is number 6000, not 0: count the parts before it first",
+        "the first access of the trace is number 6000, not 0: replay the parts before it first",
     ),
     (
         Status::State(StateFault::WrongSettings(32)),
-        "it has another number of harts than what was counted",
+        "the trace and the saved state differ in their number of harts",
     ),
     (
         Status::Place(PlaceRefusal::TooLarge),
-        "an object that is placed has at most 16 MiB",
+        "the object is larger than 16 MiB: name a smaller one",
     ),
     (
         Status::Table(TableFault::Overlap(3)),
-        "the place that line 3 moves to and that of an earlier line have bytes in common: move it \
-            elsewhere",
+        "the target of line 3 overlaps the target of an earlier line: move it elsewhere",
     ),
     (
         Status::Occupied(0x1000),
-        "an access at this address isn't moved, and others would be moved to where it is: give \
-            them another place, or give this address a line of its own",
+        "an access at this address stays, and other accesses would move to it: move them \
+            elsewhere, or add a line for this address",
     ),
 ];
 
@@ -281,28 +277,28 @@ const SEEN: [(Status, &[u8], &str); 5] = [
     (
         Status::Elf(ElfFault::BadClass),
         b"\x7fELF\x02\x01\x01\0\0\0\0\0\0\0\0\0\x03\0\x3e\0",
-        "an ELF file for x86-64: guest/build.sh builds for RV32IMA",
+        "the file is an ELF file for x86-64: build it for RV32IMA with guest/build.sh",
     ),
     (
         Status::Elf(ElfFault::BadClass),
         b"\x7fELF\x02\x01\x01\0\0\0\0\0\0\0\0\0\x02\0\xf3\0",
-        "an ELF file for RV64: guest/build.sh builds for RV32IMA",
+        "the file is an ELF file for RV64: build it for RV32IMA with guest/build.sh",
     ),
     (
         Status::Elf(ElfFault::BadType),
         b"\x7fELF\x01\x01\x01\0\0\0\0\0\0\0\0\0\x01\0\xf3\0",
-        "an object file, which isn't linked yet: link it statically and at fixed addresses, as \
-            with -static -no-pie",
+        "the file is an object file, not linked yet: link it statically at fixed addresses with \
+            -static -no-pie",
     ),
     (
         Status::Elf(ElfFault::TooShort),
         b"#!/bin/sh\n",
-        "a script: guest/build.sh builds for RV32IMA",
+        "the file is a script: build it for RV32IMA with guest/build.sh",
     ),
     (
         Status::Settings(SettingsFault::BadToml),
         b"quantum = 1\n\nquantum = 2\n",
-        "line 3: duplicate key; a line is a key and a whole number, as `quantum = 1`",
+        "line 3: duplicate key: write a key and a whole number on each line, like `quantum = 1`",
     ),
 ];
 

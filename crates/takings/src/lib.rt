@@ -1,8 +1,8 @@
 //! What the commands `explain` and `blame` print: which instructions take lines from each other.
 //!
-//! A taking is an invalidation of one line at a position above a start. Its victim is the latest
-//! access in the line by another hart than its own, so a taking has two instructions, that of its
-//! victim and its own, and two harts.
+//! Counted are the takings of one line at positions above a start. The victim of a taking is the
+//! latest access in the line by another hart than its own, so each has two instructions, that of
+//! its victim and its own, and two harts.
 //!
 //! The definitions stand in `specs/Takings.antt`, over whole lists of accesses with their pcs, and
 //! the laws in `specs/Laws/`: each taking has a victim, whose hart holds the line, and two accesses

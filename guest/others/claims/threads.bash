@@ -9,12 +9,12 @@ claim_harts() {
     built "harts: kt_for with nine threads is built" "$cc" $lines -DTHREADS=9 -I "$fetched/minimap2" "$fetched/minimap2/kthread.c" \
         "$here/kt_for.c" -o kt_for-9.elf
     ran "harts: kt_for says at once what would help" kt_for-9.elf 0 "$told"
-    said "harts: and so does the line behind its report" "predator: no hart was free for the last thread .*\`harts\` is 8, .*"
+    said "harts: and so does the line behind its report" "predator: the last thread could not start: all 8 harts are in use .*"
     MORE="harts = 16" ran "harts: kt_for with that" kt_for-9.elf 0 ""
     ! grep -q pthread_create put
     told "harts: nothing is told then" $?
     ran "harts: liburcu's qsbr says at once what would help" "$studies/urcu_qsbr.elf" 1 "$told" -- 8 1 1
-    said "harts: and so does the line behind liburcu's report" "predator: no hart was free for the last thread .*\`harts\` is 8, .*"
+    said "harts: and so does the line behind liburcu's report" "predator: the last thread could not start: all 8 harts are in use .*"
     MORE="harts = 16" ran "harts: liburcu's qsbr with that" "$studies/urcu_qsbr.elf" 0 "nr_readers   8" -- 8 1 1
 }
 

@@ -1,0 +1,70 @@
+# The parts of all that isn't proved, which bin/try and bin/test run. Who reads this in has set `top`, `program` and, for the long forms, `is_long`.
+# shellcheck disable=SC2154,SC2034 # (so these come from there, and go there)
+
+# The Debian packages that all parts together want. bin/test names those that are missing.
+packages=(clang lld llvm picolibc-riscv64-unknown-elf gcc libc6-dev valgrind libc6-dbg python3 python3-pyelftools python3-jinja2 python3-jsonschema
+    chromium snakemake slurmctld slurmd slurm-client munge git shellcheck python3-flake8 mypy black clang-format clang-tidy)
+# What the long forms want too.
+long_packages=(mmdebstrap)
+
+part_names=()
+declare -A part_runs part_processors part_tries part_seconds part_needs part_commands
+
+# part NAME RUN PROCESSORS TRIES SECONDS NEEDS COMMAND ..
+#   RUN         the shortest run of bin/test that has the part: quick, daily or long
+#   PROCESSORS  how many it uses; `all` says that nothing else runs beside it, since it measures time or starts servers
+#   TRIES       2 if what fails is tried once more, alone, since a busy machine may keep it waiting
+#   SECONDS     what it takes alone on four quiet processors: those that take longest begin first
+#   NEEDS       commands, files (words with a `/`), modules of Debian's python3 (`python3:NAME`), and `program`; without one of them the part is
+#               skipped
+part() {
+    local name=$1
+    part_names+=("$name")
+    part_runs[$name]=$2 part_processors[$name]=$3 part_tries[$name]=$4 part_seconds[$name]=$5 part_needs[$name]=$6
+    shift 6
+    part_commands[$name]=$(printf '%q ' "$@")
+}
+
+declare_parts() {
+    local kit="program clang ld.lld llvm-readelf llvm-objcopy" picolibc=/usr/lib/picolibc/riscv64-unknown-elf
+    # The forms of some parts: the everyday ones, and those of the long run.
+    local long=() all=() reports=300 judges=200 seeds=3 studies=(histogram bounded_queue)
+    if [ -n "${is_long:-}" ]; then long=(--long) all=(--all) reports=2000 judges=1000 seeds=20 studies=(); fi
+    part shell daily 1 1 9 shellcheck tools/lint.sh shell
+    part python daily 1 1 5 python3 tools/lint.sh python
+    part types daily 1 1 14 "mypy python3:jinja2 python3:elftools" tools/lint.sh types
+    part c daily 1 1 10 gcc tools/lint.sh c
+    part sanitizers daily 1 1 30 "gcc python3" native/sanitize.sh
+    part imports daily 1 1 3 python3 tools/imports.py
+    part edits quick 1 1 2 python3 tools/edits.py --check --planted
+    part test_command daily 1 2 20 "gzip setpriv" tools/try_test.sh
+    part names quick 1 1 2 python3 tools/documents.py
+    part usage daily 1 1 2 python3 tools/commands.py
+    part program daily 1 1 12 "program python3" guest/try.sh program
+    part install daily 1 1 2 program guest/try.sh install
+    part cases quick 1 1 6 "program python3" guest/cases/on_disk.py
+    part examples quick 2 2 20 program tools/examples.sh
+    part documents daily 1 2 18 "program python3" guest/check_docs.py
+    part meter daily all 2 14 "program python3" python3 tools/meter.py "$program"
+    part memory daily 1 1 20 "program python3 cc" guest/refuse_memory.py
+    part sizes daily 2 1 20 "program python3" tools/sizes.py "$program" "${long[@]}"
+    part edges daily 1 2 60 "program python3 cc" python3 tools/edges/main.py "$program" --planted "${long[@]}"
+    part messages quick 1 1 4 "program python3" tools/messages.py "$program" --planted
+    part costs daily 2 2 14 "program python3 valgrind" tools/costs.py "$program"
+    part reports daily 1 1 20 "program python3" tools/judge_report.py "$program" "$reports"
+    part judges daily 1 1 60 "program python3" tools/judge_traces.py "$program" "$judges"
+    part growth daily 3 2 60 "program python3 valgrind" python3 tools/growth.py "$program" "${all[@]}"
+    part kit daily 1 1 30 "$kit" guest/try.sh kit
+    part builds daily 1 1 60 "python3 clang ld.lld llvm-readelf llvm-objcopy $picolibc" env PREDATOR="$program" guest/kit.sh
+    part c_library daily 1 1 30 "$kit cc $picolibc" guest/try.sh c_library
+    part threads daily 1 1 60 "$kit $picolibc" guest/threads.sh --seeds "$seeds"
+    part studies daily 1 1 30 "program python3 guest/built/studies" guest/studies/run.py "${studies[@]}"
+    part clock daily 1 1 30 "python3 gcc" bench/clock/run.py --check
+    part campaign daily all 2 60 "" campaign/try.sh
+    part dist daily 1 2 20 "" dist/try.sh
+    part native daily 1 2 120 "gcc python3 /usr/bin/valgrind.bin" native/try.sh
+    part view daily all 2 120 "" view/try.sh
+    # (this one fetches its packages)
+    part bare long all 1 600 "mmdebstrap git dpkg-deb" dist/bare.sh
+    part all_edits long all 1 1800 "python3 rt" tools/edits.py
+}

@@ -1,0 +1,148 @@
+"""Which threads use which words of an object's worst line: the row `who` of the screen."""
+
+import re
+from collections import Counter
+from typing import Iterable, NamedTuple, Sequence
+
+from view.repairs import advice
+from view.model.view import View
+from view.model.objects import Thing, Told
+
+# So many groups of words are named, so many fields of a group, and so many neighbours.
+GROUPS, FIELDS, BESIDE = 3, 3, 3
+ELEMENT = re.compile(r"\[\d+\]")
+MANY, ONE = "several threads", "one thread"
+
+
+class Owner(NamedTuple):
+    """The threads of some words: what they do, and their names where these are known."""
+
+    does: str
+    names: str
+
+
+def joined(names: Sequence[str]) -> str:
+    """The names of threads as one: `harts 1 and 2`."""
+    parts = [it.partition(" ")[::2] for it in names]
+    kinds = {kind for kind, _ in parts}
+    if len(names) < 2 or len(kinds) > 1 or not all(number.isdigit() for _, number in parts):
+        return advice.all_of(names)
+    return f"{kinds.pop()}s {advice.all_of([number for _, number in parts])}"
+
+
+def owner_of(view: View, thing: Thing, word: Told) -> Owner:
+    """The threads that use a word: while threads run where the trace was read, and else in the whole run."""
+    tried = (view.tried or {}).get(thing.key)
+    if tried is not None and tried.uses is not None and word.key == thing.key:
+        from view.repairs.subjects import whose
+
+        found = whose(tried.uses, word.addr, 4)
+        names = [view.naming.memory.owner(it) for it in sorted(found.harts)]
+        if found.kind == "own":
+            return Owner("own", names[0])
+        if found.kind == "shared":
+            return Owner("shared", joined(names) if len(names) <= BESIDE else MANY)
+        if found.kind == "read":
+            return Owner("read", "")
+    if word.hart != "many":
+        return Owner("own", word.owner)
+    if word.writes == 0:
+        return Owner("read", "")
+    return Owner("used", MANY if advice.is_shared(word) else ONE)
+
+
+def grouped(view: View, thing: Thing, words: Iterable[Told]) -> dict[Owner, list[Told]]:
+    """Words by their threads, in the order of their addresses."""
+    found: dict[Owner, list[Told]] = {}
+    for word in sorted(words, key=lambda word: word.addr):
+        found.setdefault(owner_of(view, thing, word), []).append(word)
+    return found
+
+
+def field_in(thing: Thing, word: Told) -> str:
+    """A word's field without the object's name, which the row has: `+4`, `[2].high`."""
+    name = word.whole()
+    rest = name.removeprefix(thing.name)
+    return (rest if rest != name else name) or "+0"
+
+
+def accesses(word: Told) -> str:
+    """How often a word is written and read."""
+    parts = [
+        f"{count:,} {what}{'' if count == 1 else 's'}"
+        for count, what in ((word.writes, "write"), (word.reads, "read"))
+        if count
+    ]
+    return f" ({', '.join(parts)})" if parts else ""
+
+
+def own_elements(thing: Thing, groups: Iterable[Sequence[Told]]) -> list[str]:
+    """For each group the element of an array that all its words lie in, where no word of another group does; else nothing."""
+    found = []
+    for own in groups:
+        elements = {ELEMENT.match(field_in(thing, it)) for it in own}
+        found.append({it[0] if it else "" for it in elements})
+    times = Counter(it for own in found for it in own)
+    return [next(iter(own)) if len(own) == 1 and times[min(own)] == 1 else "" for own in found]
+
+
+def names_of(thing: Thing, words: Sequence[Told], element: str, worst: Told) -> str:
+    """The fields of a group, the most written word with its numbers."""
+    numbers = accesses(worst) if any(it is worst for it in words) else ""
+    if element:
+        return element + numbers
+    names = advice.patterns(field_in(thing, it) for it in words)
+    most = field_in(thing, worst)
+    if numbers:
+        # (it may be one of a pattern)
+        at = names.index(most) if most in names else 0
+        names = [names[at] + numbers, *names[:at], *names[at + 1 :]]
+    more = len(names) - FIELDS
+    return f"{', '.join(names[:FIELDS])} and {more} more" if more > 0 else advice.all_of(names)
+
+
+def group_text(owner: Owner, names: str) -> str:
+    """A group of words and its threads."""
+    if owner.does == "own":
+        return f"{owner.names}: {names}"
+    if owner.does == "read":
+        return f"read-only: {names}"
+    does = "written" if owner.does == "shared" else "used mostly" if owner.names == ONE else "used"
+    return f"{does} by {owner.names}: {names}"
+
+
+def who(view: View, thing: Thing) -> str:
+    """Which threads use which words of an object's worst line, and its neighbours there; or nothing."""
+    seen = view.seen(thing)
+    base = thing.worst().base
+    own = [it for it in seen.words if it.key == thing.key and it.base == base]
+    return "; ".join(filter(None, (own_words(view, thing, own), neighbours(view, thing))))
+
+
+def own_words(view: View, thing: Thing, own: Sequence[Told]) -> str:
+    """The threads of an object's own words on a line."""
+    if not own:
+        return ""
+    groups, worst = grouped(view, thing, own), max(own, key=lambda word: word.writes)
+    elements = dict(zip(groups, own_elements(thing, groups.values())))
+    # (the group of the most written word is always named)
+    first = sorted(groups, key=lambda owner: not any(one is worst for one in groups[owner]))
+    named = [it for it in groups if len(groups) <= GROUPS + 1 or it in first[:GROUPS]]
+    parts = [group_text(it, names_of(thing, groups[it], elements[it], worst)) for it in named]
+    more = len(groups) - len(named)
+    text = "; ".join(parts) + (f"; and {more} more" if more else "")
+    if len(groups) < 2 or any(it.does != "own" for it in groups):
+        return text
+    does = "writes" if all(any(it.writes for it in words) for words in groups.values()) else "uses"
+    what = "element" if all(elements.values()) else "words"
+    return f"each thread {does} its own {what}: {text}"
+
+
+def neighbours(view: View, thing: Thing) -> str:
+    """The objects that share a line with another one, or nothing."""
+    names = [view.label(view.all[it]) for it in thing.beside]
+    if not names:
+        return ""
+    more = len(names) - BESIDE
+    listed = advice.all_of(names) if more < 1 else f"{', '.join(names[:BESIDE])} and {more} more"
+    return f"on the same line{'' if len(thing.spots) == 1 else 's'}: {listed}"
