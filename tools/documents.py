@@ -22,6 +22,7 @@ It ends with 1 where there are any."""
 import os
 import re
 import sys
+from typing import Iterator
 
 import promises
 
@@ -34,7 +35,7 @@ def read(path: str) -> str:
         return file.read()
 
 
-def find_documents():
+def find_documents() -> Iterator[str]:
     for folder, folders, files in os.walk(TOP):
         folders[:] = [
             it for it in folders if it not in ("out", "fetched", ".git", "crates", "__pycache__")
@@ -75,7 +76,7 @@ def has_path(path: str) -> bool:
     return any(os.path.exists(full + it) for it in ("", ".rt", ".antt"))
 
 
-def source_words():
+def source_words() -> set[str]:
     """Every word of the files that aren't documents."""
     found = set()
     for folder, folders, files in os.walk(TOP):
@@ -107,7 +108,7 @@ def source_words():
     return found
 
 
-def heading_anchors(text):
+def heading_anchors(text: str) -> set[str]:
     """The names that a link may end with: those of headings, and older ones that a line `<a id="NAME"></a>`
     keeps."""
     return {
@@ -119,7 +120,7 @@ def heading_anchors(text):
     }
 
 
-def broken_links(name, line):
+def broken_links(name: str, line: str) -> Iterator[str]:
     for to in re.findall(r"\]\(([^)\s]+)\)", line):
         if "://" in to:
             continue
@@ -131,20 +132,20 @@ def broken_links(name, line):
             yield to
 
 
-def broken_paths(line, about):
+def broken_paths(line: str, about: list[str]) -> list[str]:
     """Paths of a line that none of some crates has."""
     found = re.findall(r"(?<![\w/.])((?:src|specs|proofs)/[A-Za-z_][\w/]*(?:\.rt|\.antt)?)", line)
     found += [f"src/{it}" for it in re.findall(r"(?<![\w/.])([a-z_]+\.rt)\b", line)]
     return [it for it in found if about and not any(has_path(f"{crate}/{it}") for crate in about)]
 
 
-def unknown_quotes(text, crates):
+def unknown_quotes(text: str, crates: dict[str, Crate]) -> Iterator[tuple[int, str]]:
     """The lines at which the quotes of a document begin that no source has, whatever its spaces and
     comments."""
     sources = [
         " ".join(re.sub(r"(?m)^\s*//.*$", "", it.texts["src"]).split()) for it in crates.values()
     ]
-    begin, quote = 0, []
+    begin, quote = 0, list[str]()
     for number, line in enumerate([*text.split("\n"), ""], 1):
         if line.startswith("    ") and line.strip() != "..":
             begin = begin if quote else number
@@ -155,7 +156,7 @@ def unknown_quotes(text, crates):
             quote = []
 
 
-def crate_layers():
+def crate_layers() -> dict[str, int]:
     """How many crates the longest chain has that ends with a crate, by crates.txt."""
     below = {
         it.split(":")[0].split()[0]: it.split(":")[1].split()
@@ -163,13 +164,13 @@ def crate_layers():
         if re.match(r"[a-z]", it)
     }
 
-    def floor(name):
+    def floor(name: str) -> int:
         return 1 + max((floor(it) for it in below[name] if it in below), default=0)
 
     return {it: floor(it) for it in below}
 
 
-def wrong_layers(text):
+def wrong_layers(text: str) -> list[str]:
     told = {
         name: int(floor)
         for floor, name in re.findall(r"^\| (\d) \| `(\w+)` \|", text, re.MULTILINE)
@@ -177,7 +178,7 @@ def wrong_layers(text):
     return [f"{name}: floor {floor}" for name, floor in crate_layers().items() if told.get(name) != floor]
 
 
-def wrong_promises(text):
+def wrong_promises(text: str) -> list[str]:
     """The references of docs/PROMISES.md that the crates don't have, and the planted mistakes that aren't
     found."""
     crates = promises.read_crates()
@@ -185,7 +186,7 @@ def wrong_promises(text):
     return found + [f"{promises.PAGE}:1: {it}" for it in promises.missed_mistakes(crates, text)]
 
 
-def repeated_words(page):
+def repeated_words(page: str) -> list[str]:
     """The words of the glossary that stand there more than once, each in bold type in the first cell of a
     row."""
     rows = re.findall(
@@ -195,9 +196,11 @@ def repeated_words(page):
     return sorted({it for it in words if words.count(it) > 1})
 
 
-def find_wrong_names(name, crates, everywhere):
+def find_wrong_names(
+    name: str, crates: dict[str, Crate], everywhere: set[str]
+) -> Iterator[tuple[int, dict[str, None]]]:
     """The lines of a document, each with what it names in vain."""
-    heading, paragraph = [], []
+    heading, paragraph = list[str](), list[str]()
     for number, line in enumerate(read(name).split("\n"), 1):
         named = [it for it in crates if re.search(rf"(?<![\w]){it}(?![\w])", line)]
         heading = named if line.startswith("#") else heading

@@ -177,21 +177,21 @@ def check_pair(pair: Sequence[Built]) -> Iterator[str]:
     if pair[0].guest:
         counts = [count_guest(it, QUANTUM) for it in pair]
         results |= {it.result for it in counts}
-        missed = [it.true_sharing + it.false_sharing for it in counts]
+        missed = [it.useful + it.useless for it in counts]
         if program.kind == "false" and not missed[1] < missed[0] / 2:
             yield f"{program.name}: {missed[0]} misses as it is, and {missed[1]} padded"
         if (
             program.kind in ("false", "mixed")
             and program.name != "bytes"
-            and not counts[1].false_sharing < counts[0].false_sharing
+            and not counts[1].useless < counts[0].useless
         ):
             yield (
-                f"{program.name}: {counts[0].false_sharing} false-sharing misses unpadded, and"
-                f" {counts[1].false_sharing} padded"
+                f"{program.name}: {counts[0].useless} false-sharing misses unpadded, and"
+                f" {counts[1].useless} padded"
             )
-        if program.kind in ("true", "none") and counts[0].false_sharing > counts[0].steps / 1000:
+        if program.kind in ("true", "none") and counts[0].useless > counts[0].steps / 1000:
             yield (
-                f"{program.name}: {counts[0].false_sharing} false-sharing misses, and it should"
+                f"{program.name}: {counts[0].useless} false-sharing misses, and it should"
                 " have none"
             )
     if len(results) > 1:

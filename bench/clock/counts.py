@@ -23,14 +23,15 @@ class Count(NamedTuple):
 
     steps: int
     accesses: int
-    true_sharing: int
-    false_sharing: int
+    # (named as in the text of `misses`, and in the stored studies)
+    useful: int
+    useless: int
     listed: int
     result: int
 
     def rate(self) -> float:
         """False-sharing misses per 1,000 steps, or per 1,000 accesses of a recording."""
-        return 1000 * self.false_sharing / (self.steps or self.accesses)
+        return 1000 * self.useless / (self.steps or self.accesses)
 
     def listed_rate(self) -> float:
         return 1000 * self.listed / (self.steps or self.accesses)

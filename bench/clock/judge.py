@@ -71,7 +71,7 @@ class Row(NamedTuple):
     def bound(self, latency: float) -> float | None:
         """False-sharing misses under quantum 1 times the nanoseconds of one."""
         found = self.counts.get((FORMS[0], 1))
-        return found.false_sharing * latency if found else None
+        return found.useless * latency if found else None
 
     def at_most(self, latency: float, step: float) -> float | None:
         """The part of the time that view calls the most, where a step takes so many nanoseconds."""
@@ -151,15 +151,13 @@ def miss_difference(row: Row) -> float | None:
 
 def total_misses(row: Row) -> float | None:
     found = row.counts.get((FORMS[0], USUAL))
-    return 1000 * (found.false_sharing + found.true_sharing) / found.steps if found else None
+    return 1000 * (found.useless + found.useful) / found.steps if found else None
 
 
 def saved_time(row: Row) -> float | None:
     own, padded = (row.counts.get((form, USUAL)) for form in FORMS)
     return (
-        1000
-        * (own.false_sharing + own.true_sharing - padded.false_sharing - padded.true_sharing)
-        / own.steps
+        1000 * (own.useless + own.useful - padded.useless - padded.useful) / own.steps
         if own and padded
         else None
     )

@@ -15,7 +15,16 @@ from statistics import median
 from typing import Callable, Iterator, Mapping, Sequence
 
 from counts import Count
-from judge import QUANTA, USUAL, Cell, Row, band_summary, total_misses, rank_correlation, invalidation_rate
+from judge import (
+    QUANTA,
+    USUAL,
+    Cell,
+    Row,
+    band_summary,
+    total_misses,
+    rank_correlation,
+    invalidation_rate,
+)
 from page import page
 from pairs import FORMS, HERE, TOP, Program, Trouble, find_programs
 from tables import Study, number_text, table
@@ -78,7 +87,12 @@ def parse_row(cells: Mapping[str, str], texts: Mapping[str, str]) -> Row:
     }
     program = Program(cells["program"], cells["kind"], texts.get(cells["program"], ""), "")
     return Row(
-        program, parse_number(cells["threads"]), parse_number(cells["guest rounds"]), timed, counts, recorded
+        program,
+        parse_number(cells["threads"]),
+        parse_number(cells["guest rounds"]),
+        timed,
+        counts,
+        recorded,
     )
 
 
@@ -200,7 +214,8 @@ def slowdown_text(study: Study, name: str) -> str:
     """The slowdowns of a program with each number of threads, those of disturbed runs in brackets."""
     own = sorted((it for it in study.rows if it.program.name == name), key=lambda row: row.threads)
     return ", ".join(
-        number_text(it.slowdown()) if it.is_quiet() else f"({number_text(it.slowdown())})" for it in own
+        number_text(it.slowdown()) if it.is_quiet() else f"({number_text(it.slowdown())})"
+        for it in own
     )
 
 

@@ -163,7 +163,7 @@ def main_table(study: Study) -> str:
         ]
         row += [
             own.rate(form=FORMS[1]),
-            1000 * usual.true_sharing / usual.steps if usual else None,
+            1000 * usual.useful / usual.steps if usual else None,
             here.rate() if here else None,
         ]
         rows.append([*row, percent(own.at_most(study.latency(), study.step)), percent(own.share())])
@@ -297,12 +297,12 @@ def study_values(study: Study) -> str:
             for quantum in QUANTA:
                 found = entry.counts.get((form, quantum))
                 cells += (
-                    [found.steps, found.true_sharing, found.false_sharing, found.listed]
+                    [found.steps, found.useful, found.useless, found.listed]
                     if found
                     else [None] * 4
                 )
             here = entry.recorded.get(form)
-            cells += [here.accesses, here.true_sharing, here.false_sharing] if here else [None] * 3
+            cells += [here.accesses, here.useful, here.useless] if here else [None] * 3
         cells += [
             entry.saved(),
             entry.bound(study.latency()),

@@ -113,7 +113,9 @@ def main(words):
         "Invalidations",
     ]
     parts = {
-        "allocators": markdown_table([*heads, "Observed elsewhere", "Invalidations", "Recount"], rows),
+        "allocators": markdown_table(
+            [*heads, "Observed elsewhere", "Invalidations", "Recount"], rows
+        ),
     }
     for name, text in parts.items():
         print(f"\n== {name}\n\n{text}")

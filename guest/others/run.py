@@ -62,15 +62,31 @@ def prediction_row(name, runs):
             os.devnull,
         )
         there = count_false_sharing(
-            program_output("misses", trace, "--size", str(line.size), "--shift", str(line.base % line.size)),
+            program_output(
+                "misses", trace, "--size", str(line.size), "--shift", str(line.base % line.size)
+            ),
             line.base,
             line.size,
         )
-        inside = count_false_sharing(program_output("misses", trace), line.base & -64, line.size + line.base % 64)
-    row = [name, line.kind, f"`{address_text(line.base)}`", line.size, line.count, there, inside, "-", "-"]
+        inside = count_false_sharing(
+            program_output("misses", trace), line.base & -64, line.size + line.base % 64
+        )
+    row = [
+        name,
+        line.kind,
+        f"`{address_text(line.base)}`",
+        line.size,
+        line.count,
+        there,
+        inside,
+        "-",
+        "-",
+    ]
     if name in MOVED:
         other, far = MOVED[name]
-        seen = [it for it in runs[other].report.lines_of_kind("observed") if it.base == line.base + far]
+        seen = [
+            it for it in runs[other].report.lines_of_kind("observed") if it.base == line.base + far
+        ]
         row[-2:] = [f"`{address_text(it.base)}` of {other}" for it in seen] + [
             own.count for own in seen
         ] or ["-", "-"]
@@ -95,7 +111,9 @@ def main(words):
                 run.by_word.sum_counts("observed"),
             ]
             lines = sum(it.useless > 0 for it in build.missed)
-            costs.append([name, run.report.steps, *counts, *build.total, lines, run.excerpt_title()])
+            costs.append(
+                [name, run.report.steps, *counts, *build.total, lines, run.excerpt_title()]
+            )
             if build.pair and name == STUDIES[study][0]:
                 fights.append([name, f"`{address_text(build.base)}`", build.count, *build.pair])
             wrong += [f"{name}: {it}" for it in run.wrong + build.wrong]
@@ -133,7 +151,9 @@ def main(words):
         "Observed",
         "Invalidations",
     ]
-    parts["others predicted"] = markdown_table(heads, [prediction_row(it, runs) for it in PREDICTED if it in runs])
+    parts["others predicted"] = markdown_table(
+        heads, [prediction_row(it, runs) for it in PREDICTED if it in runs]
+    )
     for name, told in parts.items():
         print(f"\n== {name}\n\n{told}")
     for fault in wrong:

@@ -13,7 +13,16 @@ import subprocess
 import sys
 import tempfile
 
-from report import PROGRAM, SETTINGS, TOP, Report, study_builds, renew_document, address_text, markdown_table
+from report import (
+    PROGRAM,
+    SETTINGS,
+    TOP,
+    Report,
+    study_builds,
+    renew_document,
+    address_text,
+    markdown_table,
+)
 
 sys.path.insert(0, os.path.join(TOP, "tools"))
 import recount_misses  # noqa: E402
@@ -56,7 +65,9 @@ class Build:
             with open(settings, "w") as file:
                 file.write(settings_text)
             observed = Report(
-                program_output("run", path, "--settings", settings, "--trace", trace, "--output", os.devnull)
+                program_output(
+                    "run", path, "--settings", settings, "--trace", trace, "--output", os.devnull
+                )
             ).lines_of_kind("observed")
             counted = program_output("misses", trace)
             with open(trace, "rb") as file:
@@ -66,7 +77,8 @@ class Build:
                 r"^total cold (\d+) useful (\d+) useless (\d+)$", counted, re.MULTILINE
             ).groups()
             self.missed = [
-                MissLine(block) for block in re.split(r"^(?=line )", counted, flags=re.MULTILINE)[1:]
+                MissLine(block)
+                for block in re.split(r"^(?=line )", counted, flags=re.MULTILINE)[1:]
             ]
             lines = {it.base: it for it in observed}
             bases = [it.base for it in (self.missed if is_worst else observed)]

@@ -15,7 +15,8 @@ PAGE = os.path.join(TOP, "docs", "STUDIES.md")
 SETTINGS = {"bounded_queue": "quantum = 10\n"}
 
 sys.path.insert(0, os.path.join(TOP, "tools"))
-from recount import accesses, recount_lines  # noqa: E402
+from recount import recount_lines  # noqa: E402
+from traces import read_accesses  # noqa: E402
 
 
 def study_builds():
@@ -68,7 +69,7 @@ def counts_since(trace, lines):
         for word in range(line.base // 4, (line.base + line.size) // 4):
             on.setdefault(word, []).append(at)
     held, counts = [set() for _ in lines], [0] * len(lines)
-    for position, (hart, addr, is_write) in enumerate(accesses(trace)):
+    for position, (hart, addr, is_write) in enumerate(read_accesses(trace)):
         for at in on.get(addr // 4, ()):
             counts[at] += is_write and position > lines[at].start and bool(held[at] - {hart})
             held[at] = {hart} if is_write else held[at] | {hart}
@@ -109,7 +110,9 @@ class Run:
             with open(names["output"]) as file:
                 self.output = file.read()
         self.wrong = [] if self.report.outcome == "outcome exit 0" else [self.report.outcome]
-        self.wrong += recount_differences(trace, 64, self.report) + recount_differences(trace, 4, self.by_word)
+        self.wrong += recount_differences(trace, 64, self.report) + recount_differences(
+            trace, 4, self.by_word
+        )
         predicted = self.report.lines_of_kind("shifted", "doubled")
         for line, again in zip(predicted, counts_since(trace, predicted)):
             if again != line.count:

@@ -8,7 +8,16 @@ report."""
 import os
 import sys
 
-from report import BUILT, SETTINGS, Run, study_builds, commit_name, renew_document, address_text, markdown_table
+from report import (
+    BUILT,
+    SETTINGS,
+    Run,
+    study_builds,
+    commit_name,
+    renew_document,
+    address_text,
+    markdown_table,
+)
 
 # The studies that show predictions, and the offset of their build where nothing is observed; and how many
 # predictions each shows.
@@ -77,7 +86,11 @@ def prediction_rows(study, place, runs):
         moved = (place - line.base) % 64
         other = runs.get(f"{study}-at-{moved}")
         seen = (
-            [it for it in other.report.lines_of_kind("observed") if it.base == line.base + moved - place]
+            [
+                it
+                for it in other.report.lines_of_kind("observed")
+                if it.base == line.base + moved - place
+            ]
             if other
             else []
         )
