@@ -1,12 +1,14 @@
 #!/usr/bin/env python3
-"""Measures a first screen of `view` of a trace of 20,000,000 accesses beside `replay` of the same trace, and compares that with the aim.
+"""Measures a first screen of `view` of a trace of 20,000,000 accesses beside `replay` of the same trace, and
+compares that with the aim.
 
 usage: bench/first_screen.py [ROUNDS]
 
-Two of the programs of view/tests make that many accesses, as guests: statistics of workers, and a deque of work, whose struct has many
-fields. Each trace is in versions 1, 2 and 3. Both commands run in turn, and the middle of what each takes counts: the time of the
-processors (of all processes that the command waits for) and the time that passes. On a busy machine the first says more. It needs the
-packages of the guest kit and of `view`. A benchmark, no test."""
+Two of the programs of view/tests make that many accesses, as guests: statistics of workers, and a deque of
+work, whose struct has many fields. Each trace is in versions 1, 2 and 3. Both commands run in turn, and the
+middle of what each takes counts: the time of the processors (of all processes that the command waits for) and
+the time that passes. On a busy machine the first says more. It needs the packages of the guest kit and of
+`view`. A benchmark, no test."""
 
 import os
 import re
@@ -24,7 +26,7 @@ PROGRAMS = {"workers": ("ROUNDS", 1_180_000, 100), "deque": ("TASKS", 722_000, 3
 AIM = 6
 
 
-def traces(name: str, folder: str) -> list[str]:
+def make_traces(name: str, folder: str) -> list[str]:
     """The traces of a program's run, in each version, and its own file behind them."""
     many, count, quantum = PROGRAMS[name]
     source, elf = (os.path.join(folder, f"{name}.{it}") for it in ("c", "elf"))
@@ -55,7 +57,7 @@ def traces(name: str, folder: str) -> list[str]:
     return [first, second, third, elf]
 
 
-def taken(words: list[str]) -> tuple[float, float]:
+def measure(words: list[str]) -> tuple[float, float]:
     """The time of the processors that a call takes, and the time that passes."""
     before, began = resource.getrusage(resource.RUSAGE_CHILDREN), time.monotonic()
     subprocess.run([PREDATOR, *words], stdout=subprocess.DEVNULL, check=True)
@@ -67,21 +69,21 @@ def main(words: list[str]) -> int:
     rounds, worst = int(words[0]) if words else 5, 0.0
     with tempfile.TemporaryDirectory() as folder:
         for name in PROGRAMS:
-            *own, elf = traces(name, folder)
+            *own, elf = make_traces(name, folder)
             for version, trace in enumerate(own, 1):
                 calls = ["replay", trace], ["view", "replay", trace, "--program", elf]
-                times = [[taken(it) for it in calls] for _ in range(rounds)]
+                times = [[measure(it) for it in calls] for _ in range(rounds)]
                 replay, view = (
                     [statistics.median(it[at][of] for it in times) for of in (0, 1)]
                     for at in (0, 1)
                 )
                 ratios = [it / other for it, other in zip(view, replay)]
                 worst = max(worst, ratios[0])
-                told = (
+                parts = (
                     f"{spent:.2f} s{of}, {ratio:.1f} times"
                     for spent, of, ratio in zip(view, (" of processors", ""), ratios)
                 )
-                print(f"{name}, version {version}: {'; '.join(told)}")
+                print(f"{name}, version {version}: {'; '.join(parts)}")
                 os.unlink(trace)
     print(
         f"at most {worst:.1f} times a replay's time of processors, the aim is {AIM}{'' if worst <= AIM else ': missed'}"

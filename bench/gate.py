@@ -1,10 +1,11 @@
 #!/usr/bin/env python3
 """Runs the gate and says what it took.
 
-bench/gate.py [NAME ..] runs `rt ci [NAME ..]`, and puts the processor minutes that each crate took, for its library, its tests
-and its edits, into the table of docs/GATE.md. What was kept from an earlier run keeps its times there. The times are those of
-the prover's processes, which are looked at twice a second. With no names, on a machine where nothing is kept, it measures the
-whole gate in one piece. It ends with the status of `rt ci`."""
+bench/gate.py [NAME ..] runs `rt ci [NAME ..]`, and puts the processor minutes that each crate took, for its
+library, its tests and its edits, into the table of docs/GATE.md. What was kept from an earlier run keeps its
+times there. The times are those of the prover's processes, which are looked at twice a second. With no names,
+on a machine where nothing is kept, it measures the whole gate in one piece. It ends with the status of `rt
+ci`."""
 
 import datetime
 import os
@@ -27,7 +28,7 @@ def read(path):
         return b""
 
 
-def processes():
+def read_processes():
     """The parent and the processor seconds of each process."""
     found = {}
     for name in os.listdir("/proc"):
@@ -38,7 +39,7 @@ def processes():
     return found
 
 
-def part_of(number):
+def process_part(number):
     """The crate and the part that a process works for, if it is one of the prover's."""
     words = read(f"/proc/{number}/cmdline").decode(errors="replace").split("\0")
     if os.path.basename(words[0]) != "rattle" or "--crate-name" not in words[:-1]:
@@ -51,7 +52,7 @@ def part_of(number):
     return words[words.index("--crate-name") + 1], part
 
 
-def below(root, found):
+def find_descendants(root, found):
     """The processes that a process has begun, and that those have."""
     children = {}
     for number, (parent, _) in found.items():
@@ -64,18 +65,18 @@ def below(root, found):
     return all_
 
 
-def look(root, parts, seconds):
-    found = processes()
-    for number in below(root, found):
+def sample_times(root, parts, seconds):
+    found = read_processes()
+    for number in find_descendants(root, found):
         if number not in parts:
-            part = part_of(number)
+            part = process_part(number)
             if part:
                 parts[number] = part
         if number in parts:
             seconds[number] = found[number][1]
 
 
-def old_rows():
+def read_rows():
     rows = {}
     for line in read(PAGE).decode().splitlines():
         cells = [it.strip() for it in line.strip("|").split("|")]
@@ -84,7 +85,7 @@ def old_rows():
     return rows
 
 
-def crates():
+def read_crates():
     with open(os.path.join(TOP, "crates.txt")) as file:
         return [line.split(":")[0].split()[0] for line in file if re.match(r"[a-z]", line)]
 
@@ -95,7 +96,7 @@ def table(rows):
         "|---|---|---|---|---|---|",
     ]
     sums = [0.0, 0.0, 0.0, 0]
-    for name in crates():
+    for name in read_crates():
         if name in rows:
             shown.append("| " + " | ".join([f"`{name}`", *rows[name]]) + " |")
             for at in range(4):
@@ -112,14 +113,14 @@ def main(names):
     gate = subprocess.Popen(["rt", "ci", *names], cwd=TOP)
     parts, seconds = {}, {}
     while gate.poll() is None:
-        look(gate.pid, parts, seconds)
+        sample_times(gate.pid, parts, seconds)
         time.sleep(0.5)
     wall = (time.monotonic() - begun) / 60
     took = {}
     for number, (crate, part) in parts.items():
         took.setdefault(crate, {}).setdefault(part, 0.0)
         took[crate][part] += seconds.get(number, 0) / 60
-    rows, today = old_rows(), datetime.date.today().isoformat()
+    rows, today = read_rows(), datetime.date.today().isoformat()
     for crate, found in took.items():
         folder = os.path.join(TOP, "crates", crate, "must-fail")
         edits = (
@@ -136,7 +137,8 @@ def main(names):
     with open(PAGE, "w") as file:
         file.write(text)
     print(
-        f"gate.py: {wall:.1f} minutes of wall time, {sum(seconds.values()) / 60:.1f} of the processors, for {len(took)} crates"
+        f"gate.py: {wall:.1f} minutes of wall time, {sum(seconds.values()) / 60:.1f} of the"
+        f" processors, for {len(took)} crates"
     )
     return gate.returncode
 

@@ -3,29 +3,28 @@
 
 usage: make_trace.py N FILE [KIND]
 
-KIND says where they go: `dense`, the usual one, 64 lines of 64 bytes; `random`, 65,536 such lines in random order;
-`ends`, 32,768 words at each end of the address space.
-"""
+KIND says where they go: `dense`, the usual one, 64 lines of 64 bytes; `random`, 65,536 such lines in random
+order; `ends`, 32,768 words at each end of the address space. """
 import struct
 import sys
 
 
-def dense(r, hart):
+def dense_access(r, hart):
     return 0x10000 + 64 * (r >> 3 & 63) + 4 * (hart + 8 * (r >> 9 & 1))
 
 
-def random(r, hart):
+def random_access(r, hart):
     return 0x100000 + 64 * (r >> 12 & 0xFFFF) + 4 * (hart + 8 * (r >> 9 & 1))
 
 
-def ends(r, hart):
+def border_access(r, hart):
     offset = 4 * (r >> 12 & 0x7FFF)
     return offset if r >> 28 & 1 else 0x100000000 - 4 - offset
 
 
 def main():
     count, name = int(sys.argv[1]), sys.argv[2]
-    place = {"dense": dense, "random": random, "ends": ends}[
+    place = {"dense": dense_access, "random": random_access, "ends": border_access}[
         sys.argv[3] if len(sys.argv) > 3 else "dense"
     ]
     record = struct.Struct("<BHIB")

@@ -1,9 +1,10 @@
 #!/usr/bin/env python3
 """Says what the parts of a crate's proof take.
 
-bench/modules.py CRATE [COUNT] proves a crate from nothing, over libraries that are built, and prints how many seconds its COUNT
-(20) dearest modules took. The prover writes a file for each module once it is checked, so the time between two files is that of
-the later one. What `out/` holds of the crate is put aside, and comes back; what `rt ci` kept on this machine counts as proved."""
+bench/modules.py CRATE [COUNT] proves a crate from nothing, over libraries that are built, and prints how many
+seconds its COUNT (20) dearest modules took. The prover writes a file for each module once it is checked, so
+the time between two files is that of the later one. What `out/` holds of the crate is put aside, and comes
+back; what `rt ci` kept on this machine counts as proved."""
 
 import os
 import shutil
@@ -13,7 +14,7 @@ import sys
 TOP = os.path.join(os.path.dirname(os.path.abspath(__file__)), "..")
 
 
-def times(folder):
+def module_times(folder):
     """The seconds of each module, by the files' times."""
     files = sorted(
         (os.stat(os.path.join(at, path)).st_mtime, path)
@@ -33,7 +34,7 @@ def main(name, count=20):
         status = subprocess.run(
             ["rt", "check", "--jobs", "1"], cwd=crate, stdout=subprocess.DEVNULL
         ).returncode
-        found = times(os.path.join(out, "incremental"))
+        found = module_times(os.path.join(out, "incremental"))
     finally:
         shutil.rmtree(out, ignore_errors=True)
         if os.path.isdir(aside):

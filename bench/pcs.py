@@ -1,13 +1,14 @@
 #!/usr/bin/env python3
-"""Measures what pcs in a trace cost, what `blame` takes of time and memory, and what `move` takes beside `convert`, and compares that with
-the aims.
+"""Measures what pcs in a trace cost, what `blame` takes of time and memory, and what `move` takes beside
+`convert`, and compares that with the aims.
 
 usage: bench/pcs.py [PROGRAM]
 
-20,000,000 accesses to 64 lines are written in version 3, with 64 pcs for each of 8 harts, and converted to version 2: once each line has
-a pc of its own, and once any pc comes at any line. `move` moves each word to a line of its own, by a table of 512 rows. The commands run
-five times in turn, and the least time of each counts. Then 1,000,000 pairs of instructions take one line: `blame` of that shows its
-memory. What reading alone takes is measured by `crates/benches`, where that is built. A benchmark, no test."""
+20,000,000 accesses to 64 lines are written in version 3, with 64 pcs for each of 8 harts, and converted to
+version 2: once each line has a pc of its own, and once any pc comes at any line. `move` moves each word to a
+line of its own, by a table of 512 rows. The commands run five times in turn, and the least time of each
+counts. Then 1,000,000 pairs of instructions take one line: `blame` of that shows its memory. What reading
+alone takes is measured by `crates/benches`, where that is built. A benchmark, no test."""
 
 import functools
 import os
@@ -21,7 +22,7 @@ from typing import Iterable, Iterator, NamedTuple
 TOP = os.path.join(os.path.dirname(os.path.abspath(__file__)), "..")
 sys.path.insert(0, os.path.join(TOP, "tools"))
 
-from traces import groups  # noqa: E402
+from traces import encode_distance  # noqa: E402
 
 BUILT = os.path.join(TOP, "crates/predator/out/predator")
 BENCHES = os.path.join(TOP, "crates/benches/out/benches")
@@ -47,9 +48,9 @@ class Touch(NamedTuple):
     pc: int
 
 
-def mixed(are_apart: bool) -> Iterator[Touch]:
-    """Accesses of 64 lines by 8 harts that run the same code, three writes to a read, from a fixed seed. Each line has a pc of its own, or
-    any pc comes at any line."""
+def mixed_touches(are_apart: bool) -> Iterator[Touch]:
+    """Accesses of 64 lines by 8 harts that run the same code, three writes to a read, from a fixed seed. Each
+    line has a pc of its own, or any pc comes at any line."""
     state = 1
     for _ in range(MADE):
         state = (state * 6364136223846793005 + 1442695040888963407) & 0xFFFFFFFFFFFFFFFF
@@ -59,7 +60,7 @@ def mixed(are_apart: bool) -> Iterator[Touch]:
         yield Touch(r >> 10 & 3 != 0, hart, DATA + 64 * line + 4 * hart, CODE + 4 * pc)
 
 
-def paired() -> Iterator[Touch]:
+def paired_touches() -> Iterator[Touch]:
     """Each of some instructions of hart 1 takes a line from each of some of hart 0."""
     for victim in range(SIDE):
         for taker in range(SIDE):
@@ -67,9 +68,9 @@ def paired() -> Iterator[Touch]:
             yield Touch(True, 1, DATA + 4, CODE + 4 * (SIDE + taker))
 
 
-def write(path: str, touches: Iterable[Touch]) -> str:
+def write_trace(path: str, touches: Iterable[Touch]) -> str:
     """The touches as a trace of version 3, in a file."""
-    spelled = functools.lru_cache(1 << 16)(groups)
+    spelled = functools.lru_cache(1 << 16)(encode_distance)
     addr, pcs, count, piece = 0, [0] * HARTS, 0, bytearray()
     with open(path, "wb") as out:
         out.write(struct.pack("<8sQHH", b"PRDTRC03", 0, HARTS, 0))
@@ -87,7 +88,7 @@ def write(path: str, touches: Iterable[Touch]) -> str:
     return path
 
 
-def table(path: str) -> str:
+def write_table(path: str) -> str:
     """A table by which each word of the lines goes to a line of its own."""
     words = (64 * line + 4 * hart for line in range(64) for hart in range(HARTS))
     with open(path, "w", encoding="ascii") as out:
@@ -95,7 +96,7 @@ def table(path: str) -> str:
     return path
 
 
-def timed(words: list[str]) -> tuple[float, int]:
+def measure_call(words: list[str]) -> tuple[float, int]:
     """Seconds, and the most bytes of memory."""
     begin = time.monotonic()
     with subprocess.Popen(words, stdout=subprocess.DEVNULL) as child:
@@ -106,52 +107,54 @@ def timed(words: list[str]) -> tuple[float, int]:
     return time.monotonic() - begin, used.ru_maxrss * 1024
 
 
-def least_of(commands: dict[str, list[str]]) -> dict[str, float]:
+def measure_least(commands: dict[str, list[str]]) -> dict[str, float]:
     """The least time of each command, over some rounds."""
     least = dict.fromkeys(commands, float("inf"))
     for _ in range(ROUNDS):
         for name, words in commands.items():
-            least[name] = min(least[name], timed(words)[0])
+            least[name] = min(least[name], measure_call(words)[0])
     return least
 
 
-def judged(what: str, took: float, aim: float) -> None:
+def judge_time(what: str, took: float, aim: float) -> None:
     print(f"{what}: {took:.2f} times, at most {aim:g}{'' if took <= aim else ': missed'}")
 
 
 def measure(program: str, work: str, are_apart: bool) -> None:
     """What each command takes."""
-    three, two = write(f"{work}/three", mixed(are_apart)), f"{work}/two"
+    three, two = write_trace(f"{work}/three", mixed_touches(are_apart)), f"{work}/two"
     subprocess.run([program, "convert", three, two], check=True, stdout=subprocess.DEVNULL)
-    least = least_of(
+    least = measure_least(
         {
             "replay of version 2": [program, "replay", two],
             "replay": [program, "replay", three],
             "blame": [program, "blame", three],
             "misses": [program, "misses", three],
             "convert": [program, "convert", three, f"{work}/again"],
-            "move": [program, "move", three, table(f"{work}/table"), f"{work}/moved"],
+            "move": [program, "move", three, write_table(f"{work}/table"), f"{work}/moved"],
         }
     )
     print("a pc of its own for each line:" if are_apart else "any pc at any line:")
     print(
-        f"{os.path.getsize(three) / MADE:.2f} bytes an access in version 3, {os.path.getsize(two) / MADE:.2f} in version 2"
+        f"{os.path.getsize(three) / MADE:.2f} bytes an access in version 3,"
+        f" {os.path.getsize(two) / MADE:.2f} in version 2"
     )
     for name, took in least.items():
         beside = took / least["replay"], took / least["replay of version 2"]
         print(
             f"{name}: {took:.2f} s, {beside[0]:.2f} of replay, {beside[1]:.2f} of that of version 2"
         )
-    judged("blame beside replay", least["blame"] / least["replay"], AIMS["blame"])
-    judged("move beside convert", least["move"] / least["convert"], AIMS["move"])
+    judge_time("blame beside replay", least["blame"] / least["replay"], AIMS["blame"])
+    judge_time("move beside convert", least["move"] / least["convert"], AIMS["move"])
 
 
 def measure_pairs(program: str, work: str) -> None:
     """What many pairs take."""
-    took, memory = timed([program, "blame", write(f"{work}/pairs", paired())])
+    took, memory = measure_call([program, "blame", write_trace(f"{work}/pairs", paired_touches())])
     missed = "" if memory <= ROOM else ": missed"
     print(
-        f"blame of {SIDE * SIDE} pairs: {took:.2f} s, {memory / 1e6:.0f} MB, at most {ROOM / 1e6:.0f}{missed}"
+        f"blame of {SIDE * SIDE} pairs: {took:.2f} s, {memory / 1e6:.0f} MB, at most"
+        f" {ROOM / 1e6:.0f}{missed}"
     )
 
 
@@ -162,8 +165,8 @@ def measure_reading() -> None:
             "reading alone: not measured, for crates/benches isn't built (`rt run` there builds it)"
         )
         return
-    least = least_of({it: [BENCHES, "traces", it, str(PIECES)] for it in ("2", "3")})
-    judged("reading version 3 beside version 2", least["3"] / least["2"], AIMS["reading"])
+    least = measure_least({it: [BENCHES, "traces", it, str(PIECES)] for it in ("2", "3")})
+    judge_time("reading version 3 beside version 2", least["3"] / least["2"], AIMS["reading"])
 
 
 def main(program: str) -> None:

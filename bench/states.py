@@ -3,9 +3,10 @@
 
 usage: bench/states.py
 
-First a made trace of 4,000,000 accesses is replayed whole, and then in ten parts with nine saved states between them: the report is to be
-the same, and the time of all ten is set beside that of the whole. Then a state of 65,536 written lines, each with a track, is saved and
-taken up again, each beside sha256sum of the state. The least of three times counts. A benchmark, no test."""
+First a made trace of 4,000,000 accesses is replayed whole, and then in ten parts with nine saved states
+between them: the report is to be the same, and the time of all ten is set beside that of the whole. Then a
+state of 65,536 written lines, each with a track, is saved and taken up again, each beside sha256sum of the
+state. The least of three times counts. A benchmark, no test."""
 
 import os
 import struct
@@ -22,7 +23,7 @@ LINES = 65_536
 ROUNDS = 3
 
 
-def timed(words):
+def measure(words):
     begin = time.monotonic()
     done = subprocess.run(words, capture_output=True)
     if done.returncode != 0:
@@ -30,15 +31,15 @@ def timed(words):
     return time.monotonic() - begin, done.stdout
 
 
-def least(words):
-    return min(timed(words)[0] for _ in range(ROUNDS))
+def measure_least(words):
+    return min(measure(words)[0] for _ in range(ROUNDS))
 
 
-def in_parts(work, trace):
+def measure_parts(work, trace):
     """The seconds of the parts together, and the last one's report."""
     step, rest, names = MADE // PARTS, trace, []
     for part in range(PARTS - 1):
-        timed([PROGRAM, "split", rest, str(step), f"{work}/part{part}", f"{work}/rest{part}"])
+        measure([PROGRAM, "split", rest, str(step), f"{work}/part{part}", f"{work}/rest{part}"])
         names.append(f"{work}/part{part}")
         rest = f"{work}/rest{part}"
     names.append(rest)
@@ -47,12 +48,12 @@ def in_parts(work, trace):
         words = [PROGRAM, "replay", name]
         words += ["--resume", f"{work}/state{part - 1}"] if part > 0 else []
         words += ["--save", f"{work}/state{part}"] if part < PARTS - 1 else []
-        took, report = timed(words)
+        took, report = measure(words)
         seconds += took
     return seconds, report
 
 
-def written_lines(path, positions):
+def write_lines(path, positions):
     """A trace that writes each of so many lines once, from a position on: as many as are asked for."""
     with open(path, "wb") as out:
         out.write(b"PRDTRC01" + struct.pack("<QHH", positions[0], 8, 0))
@@ -65,32 +66,34 @@ def written_lines(path, positions):
 def main():
     with tempfile.TemporaryDirectory() as work:
         trace = f"{work}/made"
-        timed([PROGRAM, "gen", str(MADE), trace])
-        whole = least([PROGRAM, "replay", trace])
-        report = timed([PROGRAM, "replay", trace])[1]
-        runs = [in_parts(work, trace) for _ in range(ROUNDS)]
+        measure([PROGRAM, "gen", str(MADE), trace])
+        whole = measure_least([PROGRAM, "replay", trace])
+        report = measure([PROGRAM, "replay", trace])[1]
+        runs = [measure_parts(work, trace) for _ in range(ROUNDS)]
         same = all(run[1] == report for run in runs)
         parts = min(run[0] for run in runs)
         print(
-            f"| ten parts with nine states, beside the whole of {MADE:,} accesses | {parts / whole:.2f} | 1.3 |"
+            f"| ten parts with nine states, beside the whole of {MADE:,} accesses |"
+            f" {parts / whole:.2f} | 1.3 |"
         )
         print(f"the report is {'the same' if same else 'ANOTHER ONE'}")
         settings = f"{work}/settings"
         with open(settings, "w") as out:
             out.write("tracking = 1\nreport = 1000\n")
-        first, none = written_lines(f"{work}/lines", (0, LINES)), written_lines(
+        first, none = write_lines(f"{work}/lines", (0, LINES)), write_lines(
             f"{work}/none", (LINES, 0)
         )
         state = f"{work}/state"
         plain = [PROGRAM, "replay", first, "--settings", settings]
         resumed = [PROGRAM, "replay", none, "--settings", settings, "--resume", state]
-        saved = least(plain + ["--save", state])
+        saved = measure_least(plain + ["--save", state])
         print(f"the state has {os.path.getsize(state):,} bytes")
-        sums = least(["sha256sum", state])
+        sums = measure_least(["sha256sum", state])
         print(
-            f"| a state of {LINES:,} lines saved, beside sha256sum of it | {(saved - least(plain)) / sums:.2f} | 4 |"
+            f"| a state of {LINES:,} lines saved, beside sha256sum of it |"
+            f" {(saved - measure_least(plain)) / sums:.2f} | 4 |"
         )
-        print(f"| and taken up again | {least(resumed) / sums:.2f} | 4 |")
+        print(f"| and taken up again | {measure_least(resumed) / sums:.2f} | 4 |")
 
 
 main()

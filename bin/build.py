@@ -1,11 +1,12 @@
 #!/usr/bin/env python3
 """Proves and builds the program, crate by crate, as many side by side as there are processors and memory for.
 
-build.py TOP STAGE LOG takes the sources from the repository TOP as they are now, and works in the folder STAGE, so that work
-goes on in TOP meanwhile and what was proved is kept there for the next build. It calls the kit's prover as `rt ci` does: a
-library leaves its statements to the crates above it, and not its proofs, which they would have to read too. The crate with the
-longest way behind it is begun first. What the prover says goes to LOG, how far it is to the standard error. The
-program is then STAGE/predator. The status is 0 exactly if it was built."""
+build.py TOP STAGE LOG takes the sources from the repository TOP as they are now, and works in the folder
+STAGE, so that work goes on in TOP meanwhile and what was proved is kept there for the next build. It calls
+the kit's prover as `rt ci` does: a library leaves its statements to the crates above it, and not its proofs,
+which they would have to read too. The crate with the longest way behind it is begun first. What the prover
+says goes to LOG, how far it is to the standard error. The program is then STAGE/predator. The status is 0
+exactly if it was built."""
 
 import contextlib
 import hashlib
@@ -38,7 +39,8 @@ def remove(path):
 
 
 def crates_of(top):
-    """Of each crate that the program stands on, and of its own, those of the house and of the kit below it, lowest first."""
+    """Of each crate that the program stands on, and of its own, those of the house and of the kit below it,
+    lowest first."""
     below, found = {}, {}
     for line in read(f"{top}/crates.txt").decode().splitlines():
         if re.match(r"[a-z]", line):
@@ -67,7 +69,8 @@ def minutes(top):
 
 
 class Stage:
-    """The folder in which the crates are proved: the sources in crates/, and what was built of them in built/."""
+    """The folder in which the crates are proved: the sources in crates/, and what was built of them in
+    built/."""
 
     def __init__(self, top, at):
         self.at, self.crates, self.minutes = at, crates_of(top), minutes(top)
@@ -161,7 +164,8 @@ class Stage:
         )
 
     def end(self, name, status):
-        """Whether a crate was built, where the prover ended so; what was built of it is then told from anything else."""
+        """Whether a crate was built, where the prover ended so; what was built of it is then told from
+        anything else."""
         if status == 0 and os.path.exists(self.built(name)):
             with open(f"{self.built(name)}.sum", "wb") as file:
                 file.write(self.sums[name])
@@ -215,8 +219,8 @@ def to_begin(stage, waiting, running, done, lanes):
     ]
     found = []
     for left, name in zip(range(len(ready), 0, -1), ready):
-        # A crate gets the processors that nothing else wants, and all where nothing else can begin before it is done; the program
-        # gets one, since it takes little but loading, which each would do again.
+        # A crate gets the processors that nothing else wants, and all where nothing else can begin before it
+        # is done; the program gets one, since it takes little but loading, which each would do again.
         is_awaited = all(name in stage.all_below(it) for it in waiting if it != name)
         jobs = 1 if name == PROGRAM else lanes if is_awaited else max(1, free - left + 1)
         found.append((name, jobs))

@@ -137,8 +137,8 @@ def fold_quanta(rows: Iterable[Row]) -> list[Row]:
 
 
 def join_quanta(rows: Iterable[Row]) -> tuple[list[str], list[Row]]:
-    """A table of each program's objects, with a column for each quantum: the usual invalidations, and the range
-    over the seeds."""
+    """A table of each program's objects, with a column for each quantum: the usual invalidations, and the
+    range over the seeds."""
     cells: dict[Row, dict[str, str]] = {}
     for program, quantum, name, usual, _, least, _, greatest, _ in rows:
         own = cells.setdefault((program, f"`{name}`"), {})
@@ -151,7 +151,8 @@ def join_quanta(rows: Iterable[Row]) -> tuple[list[str], list[Row]]:
 
 
 def renew_document(campaign: Record, observations: Observations) -> None:
-    """Puts the numbers of lines, and the objects with the most invalidations, into the tables of docs/STUDIES.md."""
+    """Puts the numbers of lines, and the objects with the most invalidations, into the tables of
+    docs/STUDIES.md."""
     # (only here, since a campaign elsewhere has no page of studies)
     sys.path.append(os.path.join(HERE, "..", "guest", "studies"))
     import report
@@ -172,10 +173,10 @@ def renew_document(campaign: Record, observations: Observations) -> None:
     )
     counts = [(*row[:2], *row[3:]) for row in fold_quanta(map(with_quantum, by_lines.counts))]
     parts = {
-        "usual": report.table(numbers, counts),
-        "worst": report.table(*join_quanta(map(with_quantum, by_objects.worst))),
+        "usual": report.markdown_table(numbers, counts),
+        "worst": report.markdown_table(*join_quanta(map(with_quantum, by_objects.worst))),
     }
-    report.renew(parts)
+    report.renew_document(parts)
 
 
 def main() -> None:

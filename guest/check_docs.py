@@ -1,10 +1,12 @@
 #!/usr/bin/env python3
-"""Runs the commands of the documents and compares their output with the documents: check_docs.py [--renew] [FILE ..].
+"""Runs the commands of the documents and compares their output with the documents: check_docs.py [--renew]
+[FILE ..].
 
-A command is an indented line that begins with `$ `, and the lines of the same block after it are its output; a blank line may be
-part of a block. All commands of a document run in one folder, which has the folders of the repository. A command that needs something
-that this machine lacks (NEEDS) is left out. In the manual page commands stand between .nf and .fi. --renew writes the output into the
-documents, to be read before it is committed. The status is 1 if anything differs."""
+A command is an indented line that begins with `$ `, and the lines of the same block after it are its output;
+a blank line may be part of a block. All commands of a document run in one folder, which has the folders of
+the repository. A command that needs something that this machine lacks (NEEDS) is left out. In the manual page
+commands stand between .nf and .fi. --renew writes the output into the documents, to be read before it is
+committed. The status is 1 if anything differs."""
 
 import os
 import re
@@ -26,8 +28,8 @@ FILES = [
 ]
 BLOCK = "    "
 MANUAL = "docs/predator.1"
-# What commands need, by a pattern that they contain: tools of this machine, `view` for the packages of view/, and `recorders` for
-# what `predator native --build` builds.
+# What commands need, by a pattern that they contain: tools of this machine, `view` for the packages of view/,
+# and `recorders` for what `predator native --build` builds.
 NEEDS = {
     r"\bpredator view ": ["view"],
     r"\bpredator (native|view) (-- )?\./": ["recorders"],
@@ -36,7 +38,8 @@ NEEDS = {
     r"\bllvm-symbolizer ": ["llvm-symbolizer"],
     r"\bgcc ": ["gcc"],
 }
-# Commands whose numbers aren't compared, nor where their lines end: the compiler and the C library of this machine decide them.
+# Commands whose numbers aren't compared, nor where their lines end: the compiler and the C library of this
+# machine decide them.
 NATIVE = r"\bpredator (native|view) (-- )?\./"
 
 
@@ -51,8 +54,9 @@ def run(command, work):
     return ran.stdout.rstrip("\n").split("\n") if ran.stdout else []
 
 
-def is_there(tool):
-    """Whether a tool is installed; of `view` whether its packages are, of `recorders` whether they are built."""
+def is_installed(tool):
+    """Whether a tool is installed; of `view` whether its packages are, of `recorders` whether they are
+    built."""
     probes = {
         "view": ["/usr/bin/python3", "-c", "import elftools, jinja2"],
         "recorders": [
@@ -68,13 +72,13 @@ def is_there(tool):
         return shutil.which(tool) is not None
     quiet = {"stdout": subprocess.DEVNULL, "stderr": subprocess.DEVNULL}
     ends_well = subprocess.run(probes[tool], **quiet).returncode == 0
-    return ends_well and (tool != "view" or is_there("llvm-symbolizer"))
+    return ends_well and (tool != "view" or is_installed("llvm-symbolizer"))
 
 
 def missing(command):
     """What a command needs and this machine lacks."""
     needs = [it for pattern, tools in NEEDS.items() if re.search(pattern, command) for it in tools]
-    return [it for it in needs if not is_there(it)]
+    return [it for it in needs if not is_installed(it)]
 
 
 def is_output(command, made, wanted):
@@ -97,7 +101,7 @@ def block_at(lines, at):
     return found
 
 
-def check(name, renew):
+def check_document(name, renew):
     with open(os.path.join(TOP, name)) as file:
         lines = file.read().split("\n")
     out, at, wrong, tried = [], 0, 0, 0
@@ -160,7 +164,7 @@ def main(words):
     renew = "--renew" in words
     wrong = 0 if names else check_manual(renew)
     wrong += sum(
-        check(page, renew)
+        check_document(page, renew)
         for page in names or [it for it in FILES if os.path.exists(os.path.join(TOP, it))]
     )
     return 1 if wrong else 0

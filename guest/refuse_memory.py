@@ -1,11 +1,13 @@
 #!/usr/bin/env python3
-"""Refuses memory to the built program, one allocation of a call after the other, and looks at how the call ends.
+"""Refuses memory to the built program, one allocation of a call after the other, and looks at how the call
+ends.
 
 usage: guest/refuse_memory.py
 
-Each call is made once with all memory, and then with its first allocation refused, with its second one, and so on. It must end with
-status 9, print nothing but `predator: no memory` behind a front of what it prints else, and leave a front of each file that it writes;
-or it goes on without that memory, and ends, prints and writes as before. It needs a C compiler. bin/try calls it."""
+Each call is made once with all memory, and then with its first allocation refused, with its second one, and
+so on. It must end with status 9, print nothing but `predator: no memory` behind a front of what it prints
+else, and leave a front of each file that it writes; or it goes on without that memory, and ends, prints and
+writes as before. It needs a C compiler. bin/try calls it."""
 
 import os
 import subprocess
@@ -15,8 +17,8 @@ import tempfile
 TOP = os.path.join(os.path.dirname(os.path.abspath(__file__)), "..")
 sys.path.insert(0, os.path.join(TOP, "tools"))
 
-from commands import call as call_of, known  # noqa: E402
-from traces import with_pcs  # noqa: E402
+from commands import example_call as call_of, read_commands  # noqa: E402
+from traces import add_pcs  # noqa: E402
 
 PROGRAM = os.path.abspath(
     os.environ.get("PREDATOR_PROGRAM") or os.path.join(TOP, "crates/predator/out/predator")
@@ -70,7 +72,8 @@ __attribute__((destructor)) static void tell(void)
 }
 """
 
-# Calls with files of their own. Each other command has its call in commands.toml, with these in the place of its names.
+# Calls with files of their own. Each other command has its call in commands.toml, with these in the place of
+# its names.
 OWN = [
     ("run", "allocates.elf", "--settings", "S", "--trace", "t", "--output", "o"),
     ("run", "queue.elf", "--trace", "t"),
@@ -104,12 +107,16 @@ OWN_NAMES = {words[0] for words in OWN}
 CALLS = (
     OWN
     + REFUSED
-    + [tuple(call_of(it, **NAMES)) for it in known()["command"] if it["name"] not in OWN_NAMES]
+    + [
+        tuple(call_of(command, **NAMES))
+        for command in read_commands()["command"]
+        if command["name"] not in OWN_NAMES
+    ]
 )
 WRITTEN = ("t", "o", "f", "a", "b")
 
 
-def files():
+def list_files():
     found = {}
     for name in WRITTEN:
         if os.path.exists(name):
@@ -119,7 +126,7 @@ def files():
     return found
 
 
-def call(words, refused):
+def run_call(words, refused):
     """How the call ends, what it prints and writes, and how many allocations it made."""
     chosen = dict(
         os.environ,
@@ -127,9 +134,9 @@ def call(words, refused):
         REFUSED=str(refused),
         TOLD=os.path.abspath("told"),
     )
-    told = subprocess.run([PROGRAM, *words], env=chosen, capture_output=True)
+    ran = subprocess.run([PROGRAM, *words], env=chosen, capture_output=True)
     with open("told") as made:
-        return told.returncode, told.stdout, files(), int(made.read())
+        return ran.returncode, ran.stdout, list_files(), int(made.read())
 
 
 def is_front(part, whole):
@@ -149,10 +156,10 @@ def judge(status, text, written, good):
 
 
 def try_call(words):
-    good = call(words, -1)
+    good = run_call(words, -1)
     ended, went_on, wrong = 0, 0, 0
     for number in range(1, good[3] + 1):
-        status, text, written, _ = call(words, number)
+        status, text, written, _ = run_call(words, number)
         fault = judge(status, text, written, good)
         if fault:
             wrong += 1
@@ -162,7 +169,8 @@ def try_call(words):
         else:
             went_on += 1
     print(
-        f"{' '.join(words)}: status {good[0]}, {good[3]} allocations; refused, {ended} ended with 9 and {went_on} went on"
+        f"{' '.join(words)}: status {good[0]}, {good[3]} allocations; refused, {ended} ended with 9"
+        f" and {went_on} went on"
     )
     return wrong
 
@@ -193,7 +201,7 @@ def main():
             # (so many instructions that lines of many pairs are there)
             trace = given.read()
             out.write(
-                with_pcs(
+                add_pcs(
                     trace, lambda access, before: 0x10000 + 4 * (access.hart + access.addr // 4 % 8)
                 )
             )

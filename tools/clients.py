@@ -3,25 +3,29 @@
 
 usage: tools/clients.py memcached|redis|http|dns PORT CLIENTS TIMES [--anew] [--in-step] [--again]
 
-So many clients at the same time each set a value of 100 bytes and get it back, so often: under a key of their own, or, --anew, under a \
-new one
-each time. Of http each asks for a page, and of dns, over TCP, for a name below `here`, which is to be 10.0.0.1 for an hour. With --in-step
-all have asked before the first answer is read, and with --again each question has a connection of its own. A wrong answer ends it with
-status 1, and no server on the port within a minute too."""
+So many clients at the same time each set a value of 100 bytes and get it back, so often: under a key of their
+own, or, --anew, under a new one each time. Of http each asks for a page, and of dns, over TCP, for a name
+below `here`, which is to be 10.0.0.1 for an hour. With --in-step all have asked before the first answer is
+read, and with --again each question has a connection of its own. A wrong answer ends it with status 1, and no
+server on the port within a minute too."""
 
 import socket
 import sys
 import time
 from concurrent.futures import ThreadPoolExecutor
+from typing import Iterable, Iterator
+
+# What a client sends, and the answer that it wants.
+Exchange = tuple[bytes, bytes]
 
 
-def memcached(key, value):
+def memcached(key: bytes, value: bytes) -> Iterator[Exchange]:
     """What is asked, and the answers that are wanted."""
     yield b"set %s 0 0 %d\r\n%s\r\n" % (key, len(value), value), b"STORED\r\n"
     yield b"get %s\r\n" % key, b"VALUE %s 0 %d\r\n%s\r\nEND\r\n" % (key, len(value), value)
 
 
-def redis(key, value):
+def redis(key: bytes, value: bytes) -> Iterator[Exchange]:
     yield b"*3\r\n$3\r\nSET\r\n$%d\r\n%s\r\n$%d\r\n%s\r\n" % (
         len(key),
         key,
@@ -34,24 +38,24 @@ def redis(key, value):
     )
 
 
-def http(key, value):
+def http(key: bytes, value: bytes) -> Iterator[Exchange]:
     yield b"GET /%s HTTP/1.1\r\nHost: here\r\n\r\n" % key, b"HTTP/1.1 200 OK\r\n"
 
 
-def dns(key, value):
+def dns(key: bytes, value: bytes) -> Iterator[Exchange]:
     question = b"".join(bytes([len(it)]) + it for it in (key, b"here")) + b"\0\0\1\0\1"
     asked = b"\x12\x34\1\0\0\1\0\0\0\0\0\0" + question
-    told = (
+    reply = (
         b"\x12\x34\x85\x80\0\1\0\1\0\0\0\0"
         + question
         + b"\xc0\x0c\0\1\0\1"
         + (3600).to_bytes(4, "big")
         + b"\0\4\x0a\0\0\1"
     )
-    yield len(asked).to_bytes(2, "big") + asked, len(told).to_bytes(2, "big") + told
+    yield len(asked).to_bytes(2, "big") + asked, len(reply).to_bytes(2, "big") + reply
 
 
-def connected(port, until):
+def connect(port: int, until: float) -> socket.socket:
     while True:
         try:
             return socket.create_connection(("127.0.0.1", port), timeout=600)
@@ -61,7 +65,7 @@ def connected(port, until):
             time.sleep(0.1)
 
 
-def answer(client, count):
+def receive(client: socket.socket, count: int) -> bytes:
     """So many bytes."""
     found = b""
     while len(found) < count:
@@ -72,32 +76,32 @@ def answer(client, count):
     return found
 
 
-def check(client, wanted):
-    if answer(client, len(wanted)) != wanted:
+def check_answer(client: socket.socket, wanted: bytes) -> None:
+    if receive(client, len(wanted)) != wanted:
         sys.exit("a wrong answer")
 
 
-def apart(client, own):
+def exchange_each(client: socket.socket, own: Iterable[Exchange]) -> None:
     for asked, wanted in own:
         client.sendall(asked)
-        check(client, wanted)
+        check_answer(client, wanted)
 
 
-def again(port, until, own):
+def exchange_anew(port: int, until: float, own: Iterable[Exchange]) -> None:
     for exchange in own:
-        with connected(port, until) as client:
-            apart(client, [exchange])
+        with connect(port, until) as client:
+            exchange_each(client, [exchange])
 
 
-def in_step(clients, asked):
+def exchange_in_step(clients: list[socket.socket], asked: list[list[Exchange]]) -> None:
     for step in zip(*asked):
         for client, (text, _) in zip(clients, step):
             client.sendall(text)
         for client, (_, wanted) in zip(clients, step):
-            check(client, wanted)
+            check_answer(client, wanted)
 
 
-def main(words, options):
+def main(words: list[str], options: set[str]) -> None:
     kind, port, count, times = KINDS[words[0]], *map(int, words[1:])
     until = time.monotonic() + 60
     keys = [
@@ -113,13 +117,13 @@ def main(words, options):
     ]
     with ThreadPoolExecutor(count) as pool:
         if "--again" in options:
-            list(pool.map(again, [port] * count, [until] * count, asked))
+            list(pool.map(exchange_anew, [port] * count, [until] * count, asked))
             return
-        clients = [connected(port, until) for _ in range(count)]
+        clients = [connect(port, until) for _ in range(count)]
         if "--in-step" in options:
-            in_step(clients, asked)
+            exchange_in_step(clients, asked)
         else:
-            list(pool.map(apart, clients, asked))
+            list(pool.map(exchange_each, clients, asked))
 
 
 KINDS = {"memcached": memcached, "redis": redis, "http": http, "dns": dns}

@@ -3,11 +3,12 @@
 
 usage: tools/commands.py [--renew | --calls KIND]
 
-Without a word it says which places differ from commands.toml, and where commands.toml differs from the crates: in the lines of usage and in
-the exit statuses; and, with the program that bin/predator runs, in the ranges of the settings. --renew writes the places anew.
+Without a word it says which places differ from commands.toml, and where commands.toml differs from the
+crates: in the lines of usage and in the exit statuses; and, with the program that bin/predator runs, in the
+ranges of the settings. --renew writes the places anew.
 
---calls prints, for the tries, the calls of all commands that read a TRACE or a PROGRAM, read one `twice`, have an option as --settings, or
-have files `written`, with IT in the place of that file."""
+--calls prints, for the tries, the calls of all commands that read a TRACE or a PROGRAM, read one `twice`,
+have an option as --settings, or have files `written`, with IT in the place of that file."""
 
 import os
 import re
@@ -40,33 +41,33 @@ def read(name: str) -> str:
         return file.read()
 
 
-def known() -> dict[str, list[Row]]:
+def read_commands() -> dict[str, list[Row]]:
     """The tables of commands.toml."""
     return tomllib.loads(read("commands.toml"))
 
 
-def flat(text: str) -> str:
+def join_lines(text: str) -> str:
     """A text without its ends of lines."""
     return " ".join(text.split())
 
 
-def plain(text: str) -> str:
-    return re.sub(r"\b_([A-Z]+)_", r"\1", flat(text))
+def plain_text(text: str) -> str:
+    return re.sub(r"\b_([A-Z]+)_", r"\1", join_lines(text))
 
 
-def options_of(command: Row) -> list[str]:
+def option_names(command: Row) -> list[str]:
     """The options of a command, with `--set` beside `--settings`, which the line of usage leaves out."""
     return re.findall(
         r"--[a-z]+", command["usage"].replace("[--settings F]", "[--settings F] [--set]")
     )
 
 
-def names_of(command: Row) -> list[str]:
+def operand_names(command: Row) -> list[str]:
     """The words of a command that are no options."""
     return re.findall(r"\S+", re.sub(r"\[?--[a-z]+(?: [A-Z]+)?\]?", "", command["usage"]))
 
 
-def flags(table: dict[str, list[Row]]) -> list[str]:
+def flag_names(table: dict[str, list[Row]]) -> list[str]:
     """The options without a value."""
     return [it["name"] for it in table["option"] if "value" not in it]
 
@@ -74,7 +75,7 @@ def flags(table: dict[str, list[Row]]) -> list[str]:
 # The page of help.
 
 
-def column(width: int, name: str, text: str) -> str:
+def column_text(width: int, name: str, text: str) -> str:
     lines = textwrap.wrap(text, WIDTH - width - 2, break_long_words=False, break_on_hyphens=False)
     return f"  {name:{width}}" + ("\n" + " " * (width + 2)).join(lines) + "\n"
 
@@ -84,16 +85,22 @@ def help_parts(table: dict[str, list[Row]]) -> dict[str, str]:
     usage = "".join(f"  predator {it['name']} {it['usage']}\n" for it in table["command"])
     return {
         "Usage": usage + f"  predator {' | '.join(LAUNCHER)}\n",
-        "Commands": "".join(column(9, it["name"], plain(it["does"])) for it in table["command"]),
+        "Commands": "".join(
+            column_text(9, it["name"], plain_text(it["does"])) for it in table["command"]
+        ),
         "Beside the program": "".join(
-            column(9, it["name"], plain(it["does"])) for it in table["beside"]
+            column_text(9, it["name"], plain_text(it["does"])) for it in table["beside"]
         ),
         "Options": "".join(
-            column(15, f"{option['name']} {option.get('value', '')}".strip(), plain(option["does"]))
+            column_text(
+                15,
+                f"{option['name']} {option.get('value', '')}".strip(),
+                plain_text(option["does"]),
+            )
             for option in table["option"]
         ),
         "Exit status": "".join(
-            column(5, str(it["number"]), plain(it["comes"])) for it in table["status"]
+            column_text(5, str(it["number"]), plain_text(it["comes"])) for it in table["status"]
         ),
     }
 
@@ -109,17 +116,17 @@ def renew_help(text: str, table: dict[str, list[Row]]) -> str:
 # The manual page.
 
 
-def roff(text: str) -> str:
+def roff_text(text: str) -> str:
     """A text for the manual page, in lines of a modest length."""
-    text = flat(text).replace("\\", "\\e")
+    text = join_lines(text).replace("\\", "\\e")
     text = re.sub(r"`([^`]+)`", lambda match: "\\fB" + match[1].replace("-", "\\-") + "\\fP", text)
     text = re.sub(r"\b_([A-Z]+)_", r"\\fI\1\\fP", text).replace(" --", " \\-\\-")
     lines = textwrap.wrap(text, 120, break_long_words=False, break_on_hyphens=False)
     return "\n".join("\\&" + it if it[:1] in ".'" else it for it in lines) + "\n"
 
 
-def sentence(row: Row) -> str:
-    return row["does"] + (". " + row["more"] if "more" in row else ".")
+def first_sentence(row: Row) -> str:
+    return str(row["does"] + (". " + row["more"] if "more" in row else "."))
 
 
 def synopsis(command: Row) -> str:
@@ -142,12 +149,15 @@ def synopsis(command: Row) -> str:
 def manual_option(option: Row) -> str:
     name = option["name"].replace("-", "\\-")
     head = f'.BI {name} " {option["value"]}"' if "value" in option else f".B {name}"
-    return f".TP\n{head}\n" + roff(sentence(option))
+    return f".TP\n{head}\n" + roff_text(first_sentence(option))
 
 
 def manual_parts(table: dict[str, list[Row]]) -> dict[str, str]:
     """The parts of the manual page, by the names of their marks."""
-    own = [f".B predator {it['name']}\n" + roff(it["synopsis"]).rstrip() for it in table["beside"]]
+    own = [
+        f".B predator {row['name']}\n" + roff_text(row["synopsis"]).rstrip()
+        for row in table["beside"]
+    ]
     own.append(".B predator " + "\n|\n.B ".join(it.replace("-", "\\-") for it in LAUNCHER))
     options = (manual_option(it) for it in table["option"])
     ends = (
@@ -157,27 +167,27 @@ def manual_parts(table: dict[str, list[Row]]) -> dict[str, str]:
         )
         for status in table["status"]
     )
-    statuses = (f".TP\n.B {number}\n" + roff(text) for number, text in ends)
+    statuses = (f".TP\n.B {number}\n" + roff_text(text) for number, text in ends)
     keys = ",\n".join(
-        f"`{setting['key']}` ({setting['is']}: {values(setting)}, usually {setting['usual']})"
+        f"`{setting['key']}` ({setting['is']}: {value_text(setting)}, usually {setting['usual']})"
         for setting in table["setting"]
     )
     return {
         "synopsis": "\n.br\n".join([*map(synopsis, table["command"]), *own]) + "\n",
         "commands": "".join(
-            f".TP\n.B {command['name']}\n" + roff(sentence(command))
+            f".TP\n.B {command['name']}\n" + roff_text(first_sentence(command))
             for command in [*table["command"], *table["beside"]]
         ),
         "options": "".join(options),
         "statuses": "".join(statuses),
-        "settings": roff(keys + "."),
+        "settings": roff_text(keys + "."),
     }
 
 
 # Pages of Markdown.
 
 
-def values(setting: Row) -> str:
+def value_text(setting: Row) -> str:
     """Which values a key may have, in words."""
     if "only" in setting:
         *first, last = setting["only"]
@@ -191,20 +201,22 @@ def values(setting: Row) -> str:
 def format_parts(table: dict[str, list[Row]]) -> dict[str, str]:
     """The parts of docs/FORMATS.md, by the names of their marks."""
     keys = [
-        f"| `{setting['key']}`{setting.get('also', '')} | {values(setting)} | {setting['usual']}{setting.get('usually', '')} |"
+        f"| `{setting['key']}`{setting.get('also', '')} | {value_text(setting)} |"
+        f" {setting['usual']}{setting.get('usually', '')} |"
         for setting in table["setting"]
     ]
     statuses = [
-        f"| {exit_status['number']} | {plain(exit_status['comes'])} | {plain(exit_status['printed'])} |"
+        f"| {exit_status['number']} | {plain_text(exit_status['comes'])} |"
+        f" {plain_text(exit_status['printed'])} |"
         for exit_status in table["status"]
     ]
     return {
         "usage": "".join(f"    predator {it['name']} {it['usage']}\n" for it in table["command"]),
         "settings": "\n".join(["| Key | Values | Usual |", "|---|---|---|", *keys]) + "\n",
-        "statuses": "\n".join(
-            ["| Exit status | Comes where | Printed |", "|---|---|---|", *statuses]
-        )
-        + "\n",
+        "statuses": (
+            "\n".join(["| Exit status | Comes where | Printed |", "|---|---|---|", *statuses])
+            + "\n"
+        ),
     }
 
 
@@ -212,11 +224,12 @@ def format_parts(table: dict[str, list[Row]]) -> dict[str, str]:
 
 
 def view_options(table: dict[str, list[Row]]) -> dict[str, list[str]]:
-    """The options of view, by what it does with a file: for a report alone, and for a program or a trace beside those of its command."""
+    """The options of view, by what it does with a file: for a report alone, and for a program or a trace
+    beside those of its command."""
     own, recorder = (
         next(it for it in table["beside"] if it["name"] == name) for name in ("view", "native")
     )
-    of = {it["name"]: options_of(it) for it in table["command"]}
+    of = {it["name"]: option_names(it) for it in table["command"]}
     layout = [it for it in of["replay"] if it not in ("--save", "--resume")]
     return {
         "view": [*own["options"], *own["names"]],
@@ -231,7 +244,7 @@ def view_options(table: dict[str, list[Row]]) -> dict[str, list[str]]:
 def completion_parts(table: dict[str, list[Row]]) -> dict[str, str]:
     """The parts of the completion, by the names of their marks."""
     names = " ".join(it["name"] for it in [*table["command"], *table["beside"]])
-    options = {it["name"]: options_of(it) for it in table["command"]} | {
+    options = {it["name"]: option_names(it) for it in table["command"]} | {
         command["name"]: command["options"] for command in table["beside"]
     }
     options |= view_options(table)
@@ -252,13 +265,16 @@ def completion_parts(table: dict[str, list[Row]]) -> dict[str, str]:
 def launcher_parts(table: dict[str, list[Row]]) -> dict[str, str]:
     """What the launcher knows, by the names of its marks."""
     counts = " ".join(
-        f"[{it['name']}]={len(names_of(it))}" for it in table["command"] if it.get("main")
+        f"[{it['name']}]={len(operand_names(it))}" for it in table["command"] if it.get("main")
     )
     outputs = " ".join(it["name"] for it in table["option"] if it.get("writes"))
     readers = " ".join(it["name"] for it in table["command"] if "TRACE" in it.get("reads", ()))
     keys = " ".join(it["key"] for it in table["setting"])
     return {
-        "words": f"declare -gA names_before=({counts})\nwritten_options=({outputs})\nbare_options=({' '.join(flags(table))})\n",
+        "words": (
+            "declare -gA"
+            f" names_before=({counts})\nwritten_options=({outputs})\nbare_options=({' '.join(flag_names(table))})\n"
+        ),
         "hints": f'trace_readers="{readers}"\nsetting_keys=({keys})\n',
     }
 
@@ -272,38 +288,41 @@ def view_parts(table: dict[str, list[Row]]) -> dict[str, str]:
         option
         for command in table["command"]
         if command["name"] == "run"
-        for option in options_of(command)
+        for option in option_names(command)
     }
     written = [it["name"] for it in table["option"] if it["name"] in run and it.get("writes")]
-    bare = [it for it in flags(table) if it in run]
+    bare = [it for it in flag_names(table) if it in run]
     asked = [
         option["name"]
         for option in table["option"]
         if option["name"] in run and not option.get("writes") and option["name"] not in bare
     ]
-    lines, keys = textwrap.wrap(usual, 130), ", ".join(quoted(it["key"]) for it in table["setting"])
+    lines, keys = textwrap.wrap(usual, 130), ", ".join(quote(it["key"]) for it in table["setting"])
     shown = {
-        row["name"]: options_of(row)
+        row["name"]: option_names(row)
         for row in table["command"]
         if row["name"] in ("run", "replay", "sweep")
     }
     own = "".join(
-        f"    {quoted(name)}: [{', '.join(map(quoted, of))}],\n" for name, of in shown.items()
+        f"    {quote(name)}: [{', '.join(map(quote, of))}],\n" for name, of in shown.items()
     )
     return {
         "usual": "USUAL = {\n" + "\n".join(f"    {it}" for it in lines) + ",\n}\n",
         "keys": f"KEYS = ({keys})\n",
-        "options": f"ASKED = ({', '.join(map(quoted, asked))})\nWRITTEN = ({', '.join(map(quoted, written))})\n"
-        + f"BARE = ({', '.join(map(quoted, bare))},)\n"
-        + f"OPTIONS = {{\n{own}}}\n",
+        "options": (
+            f"ASKED = ({', '.join(map(quote, asked))})\nWRITTEN ="
+            f" ({', '.join(map(quote, written))})\n"
+            + f"BARE = ({', '.join(map(quote, bare))},)\n"
+            + f"OPTIONS = {{\n{own}}}\n"
+        ),
     }
 
 
-def quoted(text: str) -> str:
+def quote(text: str) -> str:
     return f'"{text}"'
 
 
-def marked(
+def renew_between_marks(
     begin: str, end: str, parts: Callable[[dict[str, list[Row]]], dict[str, str]]
 ) -> Callable[[str, dict[str, list[Row]]], str]:
     """Writes parts between two lines each, the first of which has the part's name."""
@@ -325,11 +344,17 @@ def renew_usage(_: str, table: dict[str, list[Row]]) -> str:
 
 PLACES = {
     "bin/help.txt": renew_help,
-    "docs/predator.1": marked('.\\" commands.toml: {}', '.\\" (so far)', manual_parts),
-    "docs/FORMATS.md": marked("<!-- commands.toml: {} -->", "<!-- (so far) -->", format_parts),
-    "bin/predator.bash": marked("    # commands.toml: {}", "    # (so far)", completion_parts),
-    "bin/commands.bash": marked("# commands.toml: {}", "# (so far)", launcher_parts),
-    "view/reading/settings.py": marked("# commands.toml: {}", "# (so far)", view_parts),
+    "docs/predator.1": renew_between_marks('.\\" commands.toml: {}', '.\\" (so far)', manual_parts),
+    "docs/FORMATS.md": renew_between_marks(
+        "<!-- commands.toml: {} -->", "<!-- (so far) -->", format_parts
+    ),
+    "bin/predator.bash": renew_between_marks(
+        "    # commands.toml: {}", "    # (so far)", completion_parts
+    ),
+    "bin/commands.bash": renew_between_marks("# commands.toml: {}", "# (so far)", launcher_parts),
+    "view/reading/settings.py": renew_between_marks(
+        "# commands.toml: {}", "# (so far)", view_parts
+    ),
     USAGE: renew_usage,
 }
 
@@ -337,7 +362,7 @@ PLACES = {
 # What the program says.
 
 
-def usage_of_crates() -> list[str]:
+def read_crate_usage() -> list[str]:
     """The lines of usage, without their heads, as the crates have them."""
     found: list[str] = []
     for crate in sorted(os.listdir(os.path.join(TOP, "crates"))):
@@ -352,13 +377,13 @@ def usage_of_crates() -> list[str]:
     return found
 
 
-def number(text: int | str) -> int:
+def parse_number(text: int | str) -> int:
     """A bound, which is a number or spelled as 2^32 - 1."""
     powers = re.sub(r"(\d+)\^(\d+)", lambda match: str(int(match[1]) ** int(match[2])), str(text))
     return sum(int(it.replace(" ", "")) for it in re.findall(r"-? ?\d+", powers))
 
 
-def bounds(setting: Row, usual: dict[str, int]) -> Iterator[tuple[int, bool]]:
+def boundary_values(setting: Row, usual: dict[str, int]) -> Iterator[tuple[int, bool]]:
     """Values of a key beside its bounds, each with whether it is allowed."""
     if "only" in setting:
         for value in setting["only"]:
@@ -366,7 +391,7 @@ def bounds(setting: Row, usual: dict[str, int]) -> Iterator[tuple[int, bool]]:
         return
     least, greatest, step = (
         usual.get(setting["least"], setting["least"]),
-        number(setting["greatest"]),
+        parse_number(setting["greatest"]),
         setting.get("step", 1),
     )
     yield from ((it, True) for it in (least, greatest))
@@ -379,7 +404,7 @@ def check_settings(program: str, table: dict[str, list[Row]]) -> Iterator[str]:
     """Where the program's ranges are others than those of commands.toml."""
     usual = {it["key"]: it["usual"] for it in table["setting"]}
     for setting in table["setting"]:
-        for value, is_allowed in bounds(setting, usual):
+        for value, is_allowed in boundary_values(setting, usual):
             words = [
                 program,
                 "check",
@@ -389,7 +414,10 @@ def check_settings(program: str, table: dict[str, list[Row]]) -> Iterator[str]:
             ]
             ran = subprocess.run(words, capture_output=True, text=True, stdin=subprocess.DEVNULL)
             if (ran.stdout != f"predator: settings OutOfRange {setting['key']}\n") != is_allowed:
-                yield f"commands.toml: the program {'refuses' if is_allowed else 'takes'} {setting['key']} = {value}"
+                yield (
+                    "commands.toml: the program"
+                    f" {'refuses' if is_allowed else 'takes'} {setting['key']} = {value}"
+                )
 
 
 def check_pages(table: dict[str, list[Row]]) -> Iterator[str]:
@@ -400,9 +428,9 @@ def check_pages(table: dict[str, list[Row]]) -> Iterator[str]:
         rows = re.findall(
             rf"^(?:#  )? ((?: *{option},?)+)(?=  |$)", read(PAGES[command["name"]]), re.MULTILINE
         )
-        told = {name for row in rows for name in re.findall(r"--[a-z-]+", row)} - {"--help"}
+        options = {name for row in rows for name in re.findall(r"--[a-z-]+", row)} - {"--help"}
         for name in sorted(
-            told
+            options
             ^ {
                 *command["options"],
                 *command.get("names", ()),
@@ -413,13 +441,13 @@ def check_pages(table: dict[str, list[Row]]) -> Iterator[str]:
             yield f"commands.toml and {PAGES[command['name']]} have other options: {name}"
 
 
-def differences(table: dict[str, list[Row]], program: str | None) -> Iterator[str]:
+def find_differences(table: dict[str, list[Row]], program: str | None) -> Iterator[str]:
     """All places that differ, in words."""
     for name, renew in PLACES.items():
         if read(name) != renew(read(name), table):
             yield f"{name}: it differs from commands.toml; tools/commands.py --renew writes it"
     usage = [f"predator {it['name']} {it['usage']}" for it in table["command"]]
-    for line in sorted({*usage} ^ {*usage_of_crates()}):
+    for line in sorted({*usage} ^ {*read_crate_usage()}):
         yield f"commands.toml and the crates have other lines of usage: {line}"
     numbers = {int(it) for it in re.findall(r"^number_of .* = (\d+)$", read(NUMBERS), re.MULTILINE)}
     own = {it["number"] for it in table["status"] if it.get("own") != "launcher"}
@@ -427,14 +455,14 @@ def differences(table: dict[str, list[Row]], program: str | None) -> Iterator[st
         yield f"commands.toml and the crates have other exit statuses: {status}"
     options = {it["name"] for it in table["option"]}
     for command in table["command"]:
-        for unknown in {*options_of(command)} - options:
+        for unknown in {*option_names(command)} - options:
             yield f"commands.toml: {command['name']} has an option {unknown} that isn't described"
     yield from check_pages(table)
     if program:
         yield from check_settings(program, table)
 
 
-def call(command: Row, **others: str) -> list[str]:
+def example_call(command: Row, **others: str) -> list[str]:
     """A command's call, with the files of the tries, or others, in the place of its names."""
     files = {
         "PROGRAM": "programs/counters.elf",
@@ -448,31 +476,39 @@ def call(command: Row, **others: str) -> list[str]:
     return [files.get(word, word) for word in command["call"]]
 
 
-def calls(table: dict[str, list[Row]], kind: str) -> list[str]:
-    """Calls with IT in the place of a file: of each command that reads a PROGRAM or a TRACE, that reads one twice, that has an option, or
-    that writes, one for each file that it writes."""
+def example_calls(table: dict[str, list[Row]], kind: str) -> list[str]:
+    """Calls with IT in the place of a file: of each command that reads a PROGRAM or a TRACE, that reads one
+    twice, that has an option, or that writes, one for each file that it writes."""
     found: list[list[str]] = []
     written = [it["name"] for it in table["option"] if it.get("writes")]
     for command in table["command"]:
         if kind.startswith("--"):
-            found += [[*call(command), kind, "IT"] for it in options_of(command) if it == kind]
+            found += [
+                [*example_call(command), kind, "IT"]
+                for option in option_names(command)
+                if option == kind
+            ]
         elif kind == "written":
-            found += [call(command, **{it: "IT"}) for it in command.get("writes", ())]
-            found += [[*call(command), it, "IT"] for it in options_of(command) if it in written]
+            found += [example_call(command, **{it: "IT"}) for it in command.get("writes", ())]
+            found += [
+                [*example_call(command), option, "IT"]
+                for option in option_names(command)
+                if option in written
+            ]
         else:
             files = (
                 command.get("twice", ())
                 if kind == "twice"
                 else [it for it in command.get("reads", ()) if it == kind]
             )
-            found += [call(command, **{it: "IT"}) for it in files]
+            found += [example_call(command, **{it: "IT"}) for it in files]
     return [" ".join(it) for it in found]
 
 
 def main(words: list[str]) -> int:
-    table = known()
+    table = read_commands()
     if words[:1] == ["--calls"] and len(words) == 2:
-        print("\n".join(calls(table, words[1])))
+        print("\n".join(example_calls(table, words[1])))
         return 0
     if words == ["--renew"]:
         for name, renew in PLACES.items():
@@ -492,11 +528,12 @@ def main(words: list[str]) -> int:
         == 0
     )
     program = launcher if is_there else None
-    wrong = list(differences(table, program))
+    wrong = list(find_differences(table, program))
     print(*wrong, sep="\n", end="\n" if wrong else "")
     also = "" if program else ", and without the program's ranges, since it isn't built"
     print(
-        f"commands: {len(PLACES)} places and {len(table['command'])} commands, {len(wrong)} differences{also}"
+        f"commands: {len(PLACES)} places and {len(table['command'])} commands,"
+        f" {len(wrong)} differences{also}"
     )
     return 1 if wrong else 0
 

@@ -1,15 +1,17 @@
 #!/usr/bin/env python3
-"""Counts what costs nothing but time: how many machine instructions a step of `run` and an access of `replay` take, and how many of them
-divide.
+"""Counts what costs nothing but time: how many machine instructions a step of `run` and an access of `replay`
+take, and how many of them divide.
 
 usage: tools/costs.py PROGRAM
 
-Each row of ROWS has a bound. What is counted is the difference of two calls, one of which has some times as many steps or accesses, so
-that the start doesn't count, nor a busy machine. Beside it the like is counted that the program does by its slow way: turns of one step, at
-which no hart can go ahead, accesses of the first line of a page, whose entry is looked for anew, a threshold of prediction by which each
-write is divided. That has to be above the bound. So a program that went the slow way everywhere would be found. tools/growth.py says how
-the instructions are counted, by perf or valgrind; the divisions are counted by valgrind (callgrind) and objdump, and where these aren't
-that is said. The status is 1 where a row is above its bound or what is slow isn't."""
+Each row of ROWS has a bound. What is counted is the difference of two calls, one of which has some times as
+many steps or accesses, so that the start doesn't count, nor a busy machine. Beside it the like is counted
+that the program does by its slow way: turns of one step, at which no hart can go ahead, accesses of the first
+line of a page, whose entry is looked for anew, a threshold of prediction by which each write is divided. That
+has to be above the bound. So a program that went the slow way everywhere would be found. tools/growth.py says
+how the instructions are counted, by perf or valgrind; the divisions are counted by valgrind (callgrind) and
+objdump, and where these aren't that is said. The status is 1 where a row is above its bound or what is slow
+isn't."""
 
 import functools
 import os
@@ -22,13 +24,14 @@ import tempfile
 from concurrent.futures import Future, ThreadPoolExecutor
 from typing import Callable, NamedTuple
 
-from growth import Call, Cost, once, way_of
+from growth import Call, Cost, measure_once, choose_way
 from made_guests import DATA
 from rv32 import CODE, Code, Segment, elf
 
 # The sizes of the two calls: how many steps or accesses.
 FEW, MANY = 5_000, 45_000
-# The first line of a page of the index, and one that begins none. (Pages have 64 lines, and line 1 begins at 0.)
+# The first line of a page of the index, and one that begins none. (Pages have 64 lines, and line 1 begins at
+# 0.)
 BEGINS_PAGE, IN_PAGE = 0x0FC0, 0x1040
 
 
@@ -52,12 +55,12 @@ class Row(NamedTuple):
 # ---- Programs that go round until their budget is spent.
 
 
-def own_steps(code: Code) -> None:
+def own_step_code(code: Code) -> None:
     for _ in range(7):
         code.addi("t1", "t1", 1)
 
 
-def with_accesses(code: Code) -> None:
+def access_code(code: Code) -> None:
     """Three accesses in eight steps."""
     code.set("t0", DATA)
     for _ in range(3):
@@ -65,7 +68,7 @@ def with_accesses(code: Code) -> None:
         code.addi("t1", "t1", 1)
 
 
-def going_round(body: Callable[[Code], None], harts: int) -> bytes:
+def loop_code(body: Callable[[Code], None], harts: int) -> bytes:
     code = Code()
     code.jump("start")
     code.label("work")
@@ -78,8 +81,8 @@ def going_round(body: Callable[[Code], None], harts: int) -> bytes:
     return elf([Segment(CODE, code.bytes(), 4 * len(code.words), 5), Segment(DATA, b"", 4096, 6)])
 
 
-def run(body: Callable[[Code], None], harts: int, settings: str = "") -> Work:
-    program = going_round(body, harts)
+def run_work(body: Callable[[Code], None], harts: int, settings: str = "") -> Work:
+    program = loop_code(body, harts)
     return Work(
         lambda _: program,
         lambda n: ["run", "IT", "--set", ",".join(filter(None, [settings, f"budget={n}"]))],
@@ -90,7 +93,7 @@ def run(body: Callable[[Code], None], harts: int, settings: str = "") -> Work:
 # ---- Traces of one line.
 
 
-def replay(kinds: str, base: int, *words: str) -> Work:
+def replay_work(kinds: str, base: int, *words: str) -> Work:
     """Two harts in turn read and write words of a line of their own, as the letters say."""
     touches = b"".join(
         struct.pack("<BHIB", 1 + "RW".index(kind), at % 2, base + 4 * (at % 2), 4)
@@ -109,42 +112,55 @@ def replay(kinds: str, base: int, *words: str) -> Work:
 
 
 ROWS = [
-    Row("a step of a hart that is alone", 55, run(own_steps, 1), run(own_steps, 8, "quantum=1")),
     Row(
-        "a step of 8 harts with turns of 100", 55, run(own_steps, 8), run(own_steps, 8, "quantum=1")
+        "a step of a hart that is alone",
+        55,
+        run_work(own_step_code, 1),
+        run_work(own_step_code, 8, "quantum=1"),
+    ),
+    Row(
+        "a step of 8 harts with turns of 100",
+        55,
+        run_work(own_step_code, 8),
+        run_work(own_step_code, 8, "quantum=1"),
     ),
     Row(
         "a step of 8 harts with turns that are drawn",
         60,
-        run(own_steps, 8, "seed=5"),
-        run(own_steps, 8, "seed=5,quantum=1"),
+        run_work(own_step_code, 8, "seed=5"),
+        run_work(own_step_code, 8, "seed=5,quantum=1"),
     ),
     Row(
         "a step of a loop with accesses",
         135,
-        run(with_accesses, 8),
-        run(with_accesses, 8, "quantum=1"),
+        run_work(access_code, 8),
+        run_work(access_code, 8, "quantum=1"),
     ),
-    Row("an access of replay that writes", 290, replay("WW", IN_PAGE), replay("WW", BEGINS_PAGE)),
+    Row(
+        "an access of replay that writes",
+        290,
+        replay_work("WW", IN_PAGE),
+        replay_work("WW", BEGINS_PAGE),
+    ),
     Row(
         "an access of replay that reads",
         265,
-        replay("WRRRRRRR", IN_PAGE),
-        replay("WRRRRRRR", BEGINS_PAGE),
+        replay_work("WRRRRRRR", IN_PAGE),
+        replay_work("WRRRRRRR", BEGINS_PAGE),
     ),
     Row(
         "an access of replay under a layout",
         300,
-        replay("WW", IN_PAGE, "--size", "64"),
-        replay("WW", BEGINS_PAGE, "--size", "64"),
+        replay_work("WW", IN_PAGE, "--size", "64"),
+        replay_work("WW", BEGINS_PAGE, "--size", "64"),
     ),
 ]
 # How many divisions an access may take at most, and what takes one for each write.
 DIVIDED = Row(
     "an access of replay that writes",
     0.1,
-    replay("WW", IN_PAGE),
-    replay("WW", IN_PAGE, "--set", "prediction=65"),
+    replay_work("WW", IN_PAGE),
+    replay_work("WW", IN_PAGE, "--set", "prediction=65"),
 )
 
 
@@ -152,7 +168,7 @@ class Costs:
     """Counts, each in a thread of its own."""
 
     def __init__(self, program: str, folder: str) -> None:
-        self.program, self.folder, self.way = program, folder, way_of(None, program, folder)
+        self.program, self.folder, self.way = program, folder, choose_way(None, program, folder)
         self.pool, self.made = ThreadPoolExecutor(self.way.at_a_time), 0
         if not self.way.form:
             sys.exit(
@@ -168,15 +184,15 @@ class Costs:
 
     def instructions(self, work: Work, n: int) -> "Future[Cost]":
         call, name = self.call(work, n)
-        return self.pool.submit(once, self.way, self.program, call, f"{name}.out")
+        return self.pool.submit(measure_once, self.way, self.program, call, f"{name}.out")
 
     def divisions(self, work: Work, n: int) -> "Future[Cost]":
         call, name = self.call(work, n)
-        return self.pool.submit(divided, self.program, call, f"{name}.out")
+        return self.pool.submit(count_divisions, self.program, call, f"{name}.out")
 
 
 @functools.cache
-def places_of_divisions(program: str) -> frozenset[int]:
+def find_divisions(program: str) -> frozenset[int]:
     listed = subprocess.run(
         ["objdump", "-d", "--no-show-raw-insn", program], capture_output=True, text=True, check=True
     ).stdout
@@ -185,7 +201,7 @@ def places_of_divisions(program: str) -> frozenset[int]:
     )
 
 
-def divided(program: str, call: Call, out: str) -> Cost:
+def count_divisions(program: str, call: Call, out: str) -> Cost:
     """How many divisions a call makes."""
     words = [
         "valgrind",
@@ -199,7 +215,7 @@ def divided(program: str, call: Call, out: str) -> Cost:
     )
     if ran.returncode != call.status:
         return Cost(None, f"it ended with {ran.returncode}, and not {call.status}")
-    places = places_of_divisions(program)
+    places = find_divisions(program)
     count, is_call = 0, False
     with open(out, encoding="latin-1") as file:
         for line in file:
@@ -211,24 +227,24 @@ def divided(program: str, call: Call, out: str) -> Cost:
     return Cost(float(count))
 
 
-def each(few: Cost, many: Cost) -> float | str:
+def unit_cost(few: Cost, many: Cost) -> float | str:
     """What one step or access costs, or what is wrong."""
     if few.cost is None or many.cost is None:
         return few.fault or many.fault or "it takes too long"
     return (many.cost - few.cost) / (MANY - FEW)
 
 
-def judged(row: Row, unit: str, usual: float | str, slow: float | str) -> bool:
+def judge_row(row: Row, unit: str, usual: float | str, slow: float | str) -> bool:
     """Tells what a row comes to, and whether it is as it should be."""
     if isinstance(usual, str) or isinstance(slow, str):
         print(f"FAILED: {row.name}: {usual if isinstance(usual, str) else slow}")
         return False
-    told = f"{row.name}: {usual:.1f} {unit}, at most {row.most:g}; by the slow way {slow:.1f}"
+    text = f"{row.name}: {usual:.1f} {unit}, at most {row.most:g}; by the slow way {slow:.1f}"
     if usual <= row.most < slow:
-        print(told)
+        print(text)
         return True
     print(
-        f"FAILED: {told}{'' if usual > row.most else ': a program that went so everywhere would not be found'}"
+        f"FAILED: {text}{'' if usual > row.most else ': a program that went so everywhere would not be found'}"
     )
     return False
 
@@ -241,7 +257,7 @@ def try_rows(costs: Costs) -> list[bool]:
     found = []
     for row, counts in asked:
         one, two, three, four = (it.result() for it in counts)
-        found.append(judged(row, "instructions", each(one, two), each(three, four)))
+        found.append(judge_row(row, "instructions", unit_cost(one, two), unit_cost(three, four)))
     return found
 
 
@@ -253,7 +269,7 @@ def try_divisions(costs: Costs) -> list[bool]:
         costs.divisions(work, n) for work in (DIVIDED.usual, DIVIDED.slow) for n in (FEW, MANY)
     ]
     one, two, three, four = (it.result() for it in counts)
-    return [judged(DIVIDED, "divisions", each(one, two), each(three, four))]
+    return [judge_row(DIVIDED, "divisions", unit_cost(one, two), unit_cost(three, four))]
 
 
 def main(words: list[str]) -> int:

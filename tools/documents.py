@@ -4,14 +4,17 @@
 usage: tools/documents.py [FILE ..]      all documents, unless some are named
 
 Prints `FILE:LINE: NAME` for each
-- path below a crate, as sharing_rules/specs/Lines, with or without crates/ before it, and a crate that crates.txt doesn't list; a path
-  that begins with src/, specs/ or proofs/, or a name with the ending .rt, is below a crate that its paragraph or heading names before;
+- path below a crate, as sharing_rules/specs/Lines, with or without crates/ before it, and a crate that
+  crates.txt doesn't list; a path that begins with src/, specs/ or proofs/, or a name with the ending .rt, is
+  below a crate that its paragraph or heading names before;
 - item of a crate, as `report::write_report`, that its src/ doesn't define;
-- reference of docs/PROMISES.md that the crates don't have (promises.py), and mistake planted there that isn't found;
-- word in backquotes, a single name, that stands nowhere in the crates, the scripts and the kit for guests (but in the studies, which
-  have words of other programs);
+- reference of docs/PROMISES.md that the crates don't have (promises.py), and mistake planted there that isn't
+  found;
+- word in backquotes, a single name, that stands nowhere in the crates, the scripts and the kit for guests
+  (but in the studies, which have words of other programs);
 - code that docs/PROMISES.md quotes and no source has; a line `..` stands for what is left out;
-- crate whose floor in docs/ARCHITECTURE.md isn't the length of its longest chain, and crate that has no row there;
+- crate whose floor in docs/ARCHITECTURE.md isn't the length of its longest chain, and crate that has no row
+  there;
 - word that stands twice in the glossary there;
 - link to a file or to a heading that isn't there.
 It ends with 1 where there are any."""
@@ -19,6 +22,7 @@ It ends with 1 where there are any."""
 import os
 import re
 import sys
+from typing import Iterator
 
 import promises
 
@@ -26,12 +30,12 @@ TOP = os.path.abspath(os.path.join(os.path.dirname(os.path.abspath(__file__)), "
 PARTS = ("src", "specs", "proofs", "must-fail", "data")
 
 
-def read(path):
+def read(path: str) -> str:
     with open(os.path.join(TOP, path), encoding="utf-8") as file:
         return file.read()
 
 
-def documents():
+def find_documents() -> Iterator[str]:
     for folder, folders, files in os.walk(TOP):
         folders[:] = [
             it for it in folders if it not in ("out", "fetched", ".git", "crates", "__pycache__")
@@ -46,14 +50,14 @@ def documents():
 class Crate:
     """What a crate defines: the text of its sources."""
 
-    def __init__(self, name):
+    def __init__(self, name: str) -> None:
         self.texts = {part: "" for part in PARTS}
         for part in ("src", "specs", "proofs"):
             for folder, _, files in os.walk(os.path.join(TOP, "crates", name, part)):
                 for it in files:
                     self.texts[part] += read(os.path.join(folder, it))
 
-    def has_item(self, name):
+    def has_item(self, name: str) -> bool:
         kinds = r"fn|struct|enum|trait|const|static|type|mod"
         reexported = rf"pub use [^;]*\b{name}\b"
         return bool(
@@ -65,13 +69,14 @@ class Crate:
         )
 
 
-def has_path(path):
-    """Whether a path below crates/ is there, with or without its ending, or names an item's folder of proofs."""
+def has_path(path: str) -> bool:
+    """Whether a path below crates/ is there, with or without its ending, or names an item's folder of
+    proofs."""
     full = os.path.join(TOP, "crates", path)
     return any(os.path.exists(full + it) for it in ("", ".rt", ".antt"))
 
 
-def words_of_sources():
+def source_words() -> set[str]:
     """Every word of the files that aren't documents."""
     found = set()
     for folder, folders, files in os.walk(TOP):
@@ -103,8 +108,9 @@ def words_of_sources():
     return found
 
 
-def headings(text):
-    """The names that a link may end with: those of headings, and older ones that a line `<a id="NAME"></a>` keeps."""
+def heading_anchors(text: str) -> set[str]:
+    """The names that a link may end with: those of headings, and older ones that a line `<a id="NAME"></a>`
+    keeps."""
     return {
         *(
             re.sub(r"[^\w\- ]", "", it.lower()).replace(" ", "-")
@@ -114,7 +120,7 @@ def headings(text):
     }
 
 
-def links(name, line):
+def broken_links(name: str, line: str) -> Iterator[str]:
     for to in re.findall(r"\]\(([^)\s]+)\)", line):
         if "://" in to:
             continue
@@ -122,23 +128,24 @@ def links(name, line):
         full = os.path.normpath(os.path.join(os.path.dirname(name), path)) if path else name
         if not os.path.exists(os.path.join(TOP, full)):
             yield to
-        elif heading and heading not in headings(read(full)):
+        elif heading and heading not in heading_anchors(read(full)):
             yield to
 
 
-def relative(line, about):
+def broken_paths(line: str, about: list[str]) -> list[str]:
     """Paths of a line that none of some crates has."""
     found = re.findall(r"(?<![\w/.])((?:src|specs|proofs)/[A-Za-z_][\w/]*(?:\.rt|\.antt)?)", line)
     found += [f"src/{it}" for it in re.findall(r"(?<![\w/.])([a-z_]+\.rt)\b", line)]
     return [it for it in found if about and not any(has_path(f"{crate}/{it}") for crate in about)]
 
 
-def quoted(text, crates):
-    """The lines at which the quotes of a document begin that no source has, whatever its spaces and comments."""
+def unknown_quotes(text: str, crates: dict[str, Crate]) -> Iterator[tuple[int, str]]:
+    """The lines at which the quotes of a document begin that no source has, whatever its spaces and
+    comments."""
     sources = [
         " ".join(re.sub(r"(?m)^\s*//.*$", "", it.texts["src"]).split()) for it in crates.values()
     ]
-    begin, quote = 0, []
+    begin, quote = 0, list[str]()
     for number, line in enumerate([*text.split("\n"), ""], 1):
         if line.startswith("    ") and line.strip() != "..":
             begin = begin if quote else number
@@ -149,7 +156,7 @@ def quoted(text, crates):
             quote = []
 
 
-def floors():
+def crate_layers() -> dict[str, int]:
     """How many crates the longest chain has that ends with a crate, by crates.txt."""
     below = {
         it.split(":")[0].split()[0]: it.split(":")[1].split()
@@ -157,29 +164,31 @@ def floors():
         if re.match(r"[a-z]", it)
     }
 
-    def floor(name):
+    def floor(name: str) -> int:
         return 1 + max((floor(it) for it in below[name] if it in below), default=0)
 
     return {it: floor(it) for it in below}
 
 
-def wrong_floors(text):
+def wrong_layers(text: str) -> list[str]:
     told = {
         name: int(floor)
         for floor, name in re.findall(r"^\| (\d) \| `(\w+)` \|", text, re.MULTILINE)
     }
-    return [f"{name}: floor {floor}" for name, floor in floors().items() if told.get(name) != floor]
+    return [f"{name}: floor {floor}" for name, floor in crate_layers().items() if told.get(name) != floor]
 
 
-def wrong_promises(text):
-    """The references of docs/PROMISES.md that the crates don't have, and the planted mistakes that aren't found."""
+def wrong_promises(text: str) -> list[str]:
+    """The references of docs/PROMISES.md that the crates don't have, and the planted mistakes that aren't
+    found."""
     crates = promises.read_crates()
     found = [f"{promises.PAGE}:{it}" for it in promises.wrong_references(crates, text)]
     return found + [f"{promises.PAGE}:1: {it}" for it in promises.missed_mistakes(crates, text)]
 
 
-def words_twice(page):
-    """The words of the glossary that stand there more than once, each in bold type in the first cell of a row."""
+def repeated_words(page: str) -> list[str]:
+    """The words of the glossary that stand there more than once, each in bold type in the first cell of a
+    row."""
     rows = re.findall(
         r"(?m)^\| (\*\*.*?) \|", page.split("\n## Words\n", 1)[1].split("\n## ", 1)[0]
     )
@@ -187,14 +196,16 @@ def words_twice(page):
     return sorted({it for it in words if words.count(it) > 1})
 
 
-def wrong_names(name, crates, everywhere):
+def find_wrong_names(
+    name: str, crates: dict[str, Crate], everywhere: set[str]
+) -> Iterator[tuple[int, dict[str, None]]]:
     """The lines of a document, each with what it names in vain."""
-    heading, paragraph = [], []
+    heading, paragraph = list[str](), list[str]()
     for number, line in enumerate(read(name).split("\n"), 1):
         named = [it for it in crates if re.search(rf"(?<![\w]){it}(?![\w])", line)]
         heading = named if line.startswith("#") else heading
         paragraph = named if line.startswith(("|", "- ")) or not line.strip() else paragraph + named
-        found = [*links(name, line), *relative(line, paragraph or heading)]
+        found = [*broken_links(name, line), *broken_paths(line, paragraph or heading)]
         paths = re.findall(
             r"(?<![\w/.])(?:crates/)?([a-z_0-9]+/(?:src|specs|proofs|must-fail|data)\b(?:/[\w./]*\w)?)",
             line,
@@ -220,7 +231,7 @@ def wrong_names(name, crates, everywhere):
         yield number, dict.fromkeys(found)
 
 
-def main(words):
+def main(words: list[str]) -> int:
     if "--help" in words or "-h" in words:
         print(__doc__)
         return 0
@@ -230,21 +241,21 @@ def main(words):
         if re.match(r"[a-z]", it)
     ]
     crates = {it: Crate(it) for it in listed}
-    everywhere, wrong = words_of_sources(), []
+    everywhere, wrong = source_words(), []
     page = read("docs/ARCHITECTURE.md")
     for it in (
         []
         if words
-        else [*wrong_floors(page), *(f"{it}: twice in the glossary" for it in words_twice(page))]
+        else [*wrong_layers(page), *(f"{it}: twice in the glossary" for it in repeated_words(page))]
     ):
         wrong.append(f"docs/ARCHITECTURE.md:1: {it}")
-    for name in words or sorted(documents()):
+    for name in words or sorted(find_documents()):
         if name == promises.PAGE:
-            wrong += [f"{name}:{number}: {line}" for number, line in quoted(read(name), crates)]
+            wrong += [f"{name}:{number}: {line}" for number, line in unknown_quotes(read(name), crates)]
             wrong += wrong_promises(read(name))
         wrong += [
             f"{name}:{number}: {it}"
-            for number, found in wrong_names(name, crates, everywhere)
+            for number, found in find_wrong_names(name, crates, everywhere)
             for it in found
         ]
     print("\n".join(wrong), end="\n" if wrong else "")

@@ -1,20 +1,23 @@
 #!/usr/bin/env python3
 """The edits that a proof must refuse: each gives one function a wrong body, and its name says what is wrong.
 
-usage: tools/edits.py [CRATE ..]              tries those of crates/*/edits/, of all crates or of those that are named
+usage: tools/edits.py [CRATE ..]              tries those of crates/*/edits/, of all crates or of those that
+are named
        tools/edits.py --check [--planted]     compares all edits with the sources, and tries none
 
-The two edits of each crate that tell most stand in its must-fail/, where `rt ci` tries them. The others stand in edits/ beside
-it, in the same form: a line `file: src/lib.rt`, and then pairs of lines `old: TEXT` and `new: TEXT`.
+The two edits of each crate that tell most stand in its must-fail/, where `rt ci` tries them. The others stand
+in edits/ beside it, in the same form: a line `file: src/lib.rt`, and then pairs of lines `old: TEXT` and
+`new: TEXT`.
 
-Without --check, `rt must-fail` tries the edits in a copy of the crates, with a check for each edit, side by side as memory allows.
-An edit passes if a clause refuses it. It fails if the prover only misses a name that the edit took away. The last line is
-`N passed, M failed`, and the status is 0 exactly if M is 0. Where the Rattle kit isn't installed, the status is 77.
+Without --check, `rt must-fail` tries the edits in a copy of the crates, with a check for each edit, side by
+side as memory allows. An edit passes if a clause refuses it. It fails if the prover only misses a name that
+the edit took away. The last line is `N passed, M failed`, and the status is 0 exactly if M is 0. Where the
+Rattle kit isn't installed, the status is 77.
 
---check finds each edit that can't be tried: its file isn't in src/ of its crate; an old text doesn't stand there exactly once after
-its earlier pairs; it changes nothing; its crate has its name twice; it has a line that isn't read; it is the third one in a
-must-fail/; or crates.txt doesn't list its crate. --planted makes each of these mistakes in a copy, and each must be found. The
-status is 1 if there is a mistake."""
+--check finds each edit that can't be tried: its file isn't in src/ of its crate; an old text doesn't stand
+there exactly once after its earlier pairs; it changes nothing; its crate has its name twice; it has a line
+that isn't read; it is the third one in a must-fail/; or crates.txt doesn't list its crate. --planted makes
+each of these mistakes in a copy, and each must be found. The status is 1 if there is a mistake."""
 
 import contextlib
 import os
@@ -68,7 +71,8 @@ def list_edits(top: str) -> list[Edit]:
 
 
 def apply_pairs(top: str, edit: Edit) -> Iterator[str]:
-    """What is wrong with an edit's lines: they are read, and their pairs applied one after another, as `rt must-fail` does."""
+    """What is wrong with an edit's lines: they are read, and their pairs applied one after another, as `rt
+    must-fail` does."""
     source, pairs = "", 0
     old: str | None = None
     texts: dict[str, str] = {}
@@ -223,7 +227,8 @@ def run_prover(top: str, crates: set[str]) -> Iterator[str]:
 
 
 def judge_line(line: str) -> tuple[str, str, bool] | None:
-    """The crate and the name of the edit that a line is about, and whether that was refused by what it is to be refused by."""
+    """The crate and the name of the edit that a line is about, and whether that was refused by what it is to
+    be refused by."""
     found = OUTCOME.match(line)
     if not found:
         return None

@@ -1,18 +1,21 @@
 #!/usr/bin/env python3
-"""Looks for anything that grows as a square: gives the commands of the program made traces and guests of two sizes, one four times the
-other, and names each call whose cost grew by more than six.
+"""Looks for anything that grows as a square: gives the commands of the program made traces and guests of two
+sizes, one four times the other, and names each call whose cost grew by more than six.
 
 usage: tools/growth.py PROGRAM [--all] [--by WAY] [--times K] [NAME ..]
 
-The traces stand in made_traces.py and the guests in made_guests.py, each with what it is and the commands that it is made for. Words
-behind PROGRAM choose those whose name has one of them, as `symbols` or `guest:`. With --all each one goes through every command that takes
-it, which takes some minutes. With --times K all are K times as large, as far as they may be.
+The traces stand in made_traces.py and the guests in made_guests.py, each with what it is and the commands
+that it is made for. Words behind PROGRAM choose those whose name has one of them, as `symbols` or `guest:`.
+With --all each one goes through every command that takes it, which takes some minutes. With --times K all are
+K times as large, as far as they may be.
 
-A cost is a number of machine instructions, counted by perf, or where the machine doesn't let it by valgrind (cachegrind); where there is
-neither, it is processor time, the least of three calls, of cases that are four times as large. WAY is perf, valgrind or time, and chooses
-one. What the same call of next to nothing costs is taken off before. What each call printed is compared with what the case is made for:
-a case that isn't what it should be, or does too little to tell, is a fault. The status is 1 where a call is named or a case has a fault.
-Calls of the cases in KNOWN are told apart, and don't change the status; it is a fault where none of them grows any more."""
+A cost is a number of machine instructions, counted by perf, or where the machine doesn't let it by valgrind
+(cachegrind); where there is neither, it is processor time, the least of three calls, of cases that are four
+times as large. WAY is perf, valgrind or time, and chooses one. What the same call of next to nothing costs is
+taken off before. What each call printed is compared with what the case is made for: a case that isn't what it
+should be, or does too little to tell, is a fault. The status is 1 where a call is named or a case has a
+fault. Calls of the cases in KNOWN are listed apart, and don't change the status; it is a fault where none of
+them grows any more."""
 
 import argparse
 import itertools
@@ -31,18 +34,24 @@ from typing import Callable, Iterable, Iterator, NamedTuple
 import made_guests
 import made_traces
 from made_guests import DATA, Guest, GuestCase
-from made_traces import CODE, LINE, LINES, Made, TraceCase, rest_of
-from traces import with_pcs
+from made_traces import CODE, LINE, LINES, TraceCaseFile, TraceCase, rest_of_trace
+from traces import add_pcs
 
 # The size grows by 4, and a cost by no more than this.
 MOST = 6.0
 # The cases of which it is known that they grow as a square, and why.
 KNOWN = {
-    "blocks dead before": "a listed line looks at each block that lay over it, and only then at when it lived",
-    "lines turned round": "a table is read by putting each place among those before it, and it has at most 1 MiB",
+    "blocks dead before": (
+        "a listed line looks at each block that lay over it, and only then at when it lived"
+    ),
+    "lines turned round": (
+        "a table is read by putting each place among those before it, and it has at most 1 MiB"
+    ),
     "guest: noted blocks, more and wider": "the call `block` looks at each page of its bytes",
     "program file: segments": "each header is compared with all behind it",
-    "program file: names in one": "each name is looked through to its end, however much of it is kept",
+    "program file: names in one": (
+        "each name is looked through to its end, however much of it is kept"
+    ),
 }
 # A call may take so many seconds of a processor.
 LONGEST = 40
@@ -50,9 +59,9 @@ LISTED = "tracking=1,report=1"
 
 
 class Way(NamedTuple):
-    """How a cost is counted: the words before those of a call, where a file takes the place of FILE, and what is read of that file; how
-    many calls are made, of which the least counts, and how many at a time; how large cases are; and below which cost a call does too
-    little."""
+    """How a cost is counted: the words before those of a call, where a file takes the place of FILE, and what
+    is read of that file; how many calls are made, of which the least counts, and how many at a time; how
+    large cases are; and below which cost a call does too little."""
 
     name: str
     words: tuple[str, ...]
@@ -99,8 +108,8 @@ WAYS = {
 
 
 class Call(NamedTuple):
-    """A call: its words; how many lines of what it prints begin with what, or, where the number is negative, at least how many; its status;
-    and the words of a call before it."""
+    """A call: its words; how many lines of what it prints begin with what, or, where the number is negative,
+    at least how many; its status; and the words of a call before it."""
 
     words: list[str]
     begins: list[tuple[str, int]]
@@ -118,52 +127,53 @@ class Cost(NamedTuple):
 # ---- The calls of a trace. Each gets the place of the trace and what it is.
 
 
-def settings_of(made: Made) -> list[str]:
+def trace_settings(made: TraceCaseFile) -> list[str]:
     return ["--set", ",".join(filter(None, [LISTED, made.settings]))]
 
 
-def listed(made: Made) -> list[tuple[str, int]]:
+def listed_settings(made: TraceCaseFile) -> list[tuple[str, int]]:
     return [(f"lines {made.lines}", 1), ("object", made.objects), ("site", made.sites)]
 
 
-def replay(trace: str, made: Made) -> Call:
-    return Call(["replay", trace, *settings_of(made)], listed(made))
+def replay(trace: str, made: TraceCaseFile) -> Call:
+    return Call(["replay", trace, *trace_settings(made)], listed_settings(made))
 
 
-def replay_words(trace: str, made: Made) -> Call:
+def replay_words(trace: str, made: TraceCaseFile) -> Call:
     """Under lines that begin elsewhere."""
-    words = ["replay", trace, *settings_of(made), "--size", "64", "--shift", "32"]
+    words = ["replay", trace, *trace_settings(made), "--size", "64", "--shift", "32"]
     return Call(words, [("layout 64 32", 1), ("line", -max(made.lines // 2, 1))])
 
 
-def replay_save(trace: str, made: Made) -> Call:
+def replay_save(trace: str, made: TraceCaseFile) -> Call:
     call = replay(trace, made)
     return call._replace(words=[*call.words, "--save", f"{trace}.saved"])
 
 
-def replay_resume(trace: str, made: Made) -> Call:
+def replay_resume(trace: str, made: TraceCaseFile) -> Call:
     """Goes on behind the whole trace with one of no access."""
     with open(f"{trace}.rest", "wb") as file:
-        file.write(rest_of(made))
+        file.write(rest_of_trace(made))
     whole = replay(trace, made)
-    words = ["replay", f"{trace}.rest", *settings_of(made), "--resume", f"{trace}.state"]
+    words = ["replay", f"{trace}.rest", *trace_settings(made), "--resume", f"{trace}.state"]
     return Call(words, whole.begins, before=[*whole.words, "--save", f"{trace}.state"])
 
 
-def misses(trace: str, made: Made) -> Call:
+def misses(trace: str, made: TraceCaseFile) -> Call:
     return Call(
-        ["misses", trace], [(f"accesses {made.accesses}", 1)] if made.settings else listed(made)
+        ["misses", trace],
+        [(f"accesses {made.accesses}", 1)] if made.settings else listed_settings(made),
     )
 
 
-def blame(trace: str, made: Made) -> Call:
+def blame(trace: str, made: TraceCaseFile) -> Call:
     """With pcs, of which the first has the first address, and so on."""
     numbers = itertools.count()
     with open(trace, "rb") as plain, open(f"{trace}.sited", "wb") as file:
         file.write(
-            with_pcs(plain.read(), lambda access, before: CODE + 4 * (next(numbers) % made.pcs))
+            add_pcs(plain.read(), lambda access, before: CODE + 4 * (next(numbers) % made.pcs))
         )
-    told = (
+    rows = (
         []
         if made.settings
         else [
@@ -172,26 +182,27 @@ def blame(trace: str, made: Made) -> Call:
             ("pair", -max(made.lines, made.pcs // 2)),
         ]
     )
-    return Call(["blame", f"{trace}.sited"], [(f"accesses {made.accesses}", 1), *told])
+    return Call(["blame", f"{trace}.sited"], [(f"accesses {made.accesses}", 1), *rows])
 
 
-def sweep(trace: str, made: Made) -> Call:
+def sweep(trace: str, made: TraceCaseFile) -> Call:
     return Call(["sweep", trace, "--size", "64"], [(f"accesses {made.accesses}", 1), ("shift", 16)])
 
 
-def caches(trace: str, made: Made) -> Call:
+def caches(trace: str, made: TraceCaseFile) -> Call:
     return Call(
         ["caches", trace, "--size", "64", "--sets", "64", "--ways", "8"],
         [(f"accesses {made.accesses}", 1)],
     )
 
 
-def place(trace: str, made: Made) -> Call:
+def place(trace: str, made: TraceCaseFile) -> Call:
     return Call(["place", trace, made.object], [(f"place {made.object}", 1), ("end", 1)])
 
 
-def move(trace: str, made: Made) -> Call:
-    """With as many ranges as the trace has lines, each of the first word of a line, which goes to the next line, or all in reverse."""
+def move(trace: str, made: TraceCaseFile) -> Call:
+    """With as many ranges as the trace has lines, each of the first word of a line, which goes to the next
+    line, or all in reverse."""
     count = min(made.lines, 1 << 15)
     places = range(count)[::-1] if made.is_turned else [*range(1, count), 0]
     with open(f"{trace}.table", "w", encoding="ascii") as file:
@@ -201,11 +212,11 @@ def move(trace: str, made: Made) -> Call:
     return Call(["move", trace, f"{trace}.table", f"{trace}.moved"], [(f"move {made.accesses}", 1)])
 
 
-def convert(trace: str, made: Made) -> Call:
+def convert(trace: str, made: TraceCaseFile) -> Call:
     return Call(["convert", trace, f"{trace}.other"], [(f"convert 2 {made.accesses}", 1)])
 
 
-def split(trace: str, made: Made) -> Call:
+def split(trace: str, made: TraceCaseFile) -> Call:
     half = made.accesses // 2
     return Call(
         ["split", trace, str(half), f"{trace}.first", f"{trace}.second"],
@@ -213,12 +224,12 @@ def split(trace: str, made: Made) -> Call:
     )
 
 
-def generate(trace: str, made: Made) -> Call:
+def generate(trace: str, made: TraceCaseFile) -> Call:
     """As many accesses."""
     return Call(["gen", str(made.accesses), f"{trace}.made"], [(f"generated {made.accesses}", 1)])
 
 
-OF_TRACES: dict[str, Callable[[str, Made], Call]] = {
+OF_TRACES: dict[str, Callable[[str, TraceCaseFile], Call]] = {
     "replay": replay,
     "replay--size": replay_words,
     "replay--save": replay_save,
@@ -238,7 +249,7 @@ OF_TRACES: dict[str, Callable[[str, Made], Call]] = {
 # ---- The calls of a guest.
 
 
-def options_of(program: str, guest: Guest) -> list[str]:
+def guest_options(program: str, guest: Guest) -> list[str]:
     words = ["--set", guest.settings] if guest.settings else []
     if guest.file:
         with open(f"{program}.settings", "wb") as file:
@@ -247,9 +258,11 @@ def options_of(program: str, guest: Guest) -> list[str]:
     return words
 
 
-def ran(command: list[str], program: str, guest: Guest, begins: Iterable[tuple[str, int]]) -> Call:
+def guest_call(
+    command: list[str], program: str, guest: Guest, begins: Iterable[tuple[str, int]]
+) -> Call:
     """A call of a command that runs it."""
-    words = [*command, *options_of(program, guest)]
+    words = [*command, *guest_options(program, guest)]
     if guest.schedule:
         with open(f"{program}.schedule", "wb") as file:
             file.write(guest.schedule)
@@ -259,7 +272,7 @@ def ran(command: list[str], program: str, guest: Guest, begins: Iterable[tuple[s
 
 
 def run(program: str, guest: Guest) -> Call:
-    return ran(["run", program], program, guest, guest.run)
+    return guest_call(["run", program], program, guest, guest.run)
 
 
 def run_trace(program: str, guest: Guest) -> Call:
@@ -278,13 +291,13 @@ def run_output(program: str, guest: Guest) -> Call:
 
 
 def explain(program: str, guest: Guest) -> Call:
-    return ran(["explain", program, str(DATA), "64", "0"], program, guest, guest.explained)
+    return guest_call(["explain", program, str(DATA), "64", "0"], program, guest, guest.explained)
 
 
 def check(program: str, guest: Guest) -> Call:
     ended = [] if guest.status == 4 else [("entry 0x00010000", 1)]
     return Call(
-        ["check", program, *options_of(program, guest)],
+        ["check", program, *guest_options(program, guest)],
         [*ended, *guest.checked],
         4 if guest.status == 4 else 0,
     )
@@ -309,23 +322,28 @@ class Case:
     def __init__(self, made: TraceCase | GuestCase, folder: str) -> None:
         self.made, self.folder, self.name = made, folder, made.name
         self.lock = threading.Lock()
-        self.kept: dict[int, tuple[str, Made | Guest]] = {}
+        self.kept: dict[int, tuple[str, TraceCaseFile | Guest]] = {}
 
-    def of_size(self, size: int) -> tuple[str, Made | Guest]:
+    def made_file(self, size: int) -> tuple[str, TraceCaseFile | Guest]:
         """The place of the file, which is made once, and what it is."""
         with self.lock:
             if size not in self.kept:
                 made = self.made.make(size)
-                content = "trace" if isinstance(made, Made) else "program"
                 path = os.path.join(self.folder, f"{re.sub('[^a-z0-9]+', '_', self.name)}.{size}")
                 with open(path, "wb") as file:
-                    file.write(getattr(made, content))
-                self.kept[size] = path, made._replace(**{content: b""})
+                    file.write(made.trace if isinstance(made, TraceCaseFile) else made.program)
+                self.kept[size] = path, (
+                    made._replace(trace=b"")
+                    if isinstance(made, TraceCaseFile)
+                    else made._replace(program=b"")
+                )
             return self.kept[size]
 
     def call(self, command: str, size: int) -> Call:
-        path, made = self.of_size(size)
-        return (OF_TRACES if isinstance(made, Made) else OF_GUESTS)[command](path, made)
+        path, made = self.made_file(size)
+        if isinstance(made, TraceCaseFile):
+            return OF_TRACES[command](path, made)
+        return OF_GUESTS[command](path, made)
 
     def commands(self, wants_all: bool) -> list[str]:
         if not wants_all:
@@ -340,18 +358,22 @@ class Case:
 # ---- What calls cost.
 
 
-def lacks(text: str, begins: list[tuple[str, int]]) -> str:
+def missing_lines(text: str, begins: list[tuple[str, int]]) -> str:
     """The first of the beginnings of lines of which there are more or fewer than there should be."""
     found = text.split("\n")
     for begin, wanted in begins:
         number = sum(it == begin or it.startswith(begin + " ") for it in found)
         if number != wanted and not number >= -wanted > 0:
-            return f"{number} lines begin with '{begin[:60]}', and not {abs(wanted)}{' or more' if wanted < 0 else ''}"
+            return (
+                f"{number} lines begin with '{begin[:60]}', and not"
+                f" {abs(wanted)}{' or more' if wanted < 0 else ''}"
+            )
     return ""
 
 
-def spent(words: list[str], out: str) -> tuple[float, int | None]:
-    """The processor time of a call and its status, none where it takes too long. What it prints goes to a file."""
+def measure_time(words: list[str], out: str) -> tuple[float, int | None]:
+    """The processor time of a call and its status, none where it takes too long. What it prints goes to a
+    file."""
     with open(out, "wb") as file:
         child = subprocess.Popen(
             words, stdin=subprocess.DEVNULL, stdout=file, stderr=subprocess.DEVNULL
@@ -365,15 +387,15 @@ def spent(words: list[str], out: str) -> tuple[float, int | None]:
     )
 
 
-def once(way: Way, program: str, call: Call, out: str) -> Cost:
+def measure_once(way: Way, program: str, call: Call, out: str) -> Cost:
     """What a call costs, made once."""
-    cost, status = spent(
+    cost, status = measure_time(
         [*(it.replace("FILE", f"{out}.count") for it in way.words), program, *call.words], out
     )
     if status is None:
         return Cost(None)
     with open(out, encoding="latin-1") as file:
-        lack = lacks(file.read(), call.begins)
+        lack = missing_lines(file.read(), call.begins)
     if status != call.status or lack:
         return Cost(
             None,
@@ -390,7 +412,7 @@ def once(way: Way, program: str, call: Call, out: str) -> Cost:
     )
 
 
-def counted(way: Way, program: str, call: Call, out: str) -> Cost:
+def measure_least(way: Way, program: str, call: Call, out: str) -> Cost:
     """What a call costs, the least of as many as the way wants."""
     if call.before:
         subprocess.run(
@@ -400,29 +422,32 @@ def counted(way: Way, program: str, call: Call, out: str) -> Cost:
             stderr=subprocess.DEVNULL,
             check=False,
         )
-    costs = [once(way, program, call, out)]
+    costs = [measure_once(way, program, call, out)]
     while costs[-1].cost is not None and len(costs) < way.calls:
-        costs.append(once(way, program, call, out))
+        costs.append(measure_once(way, program, call, out))
     if costs[-1].cost is None:
         return costs[-1]
     return min(costs)
 
 
-def way_of(name: str | None, program: str, folder: str) -> Way:
+def choose_way(name: str | None, program: str, folder: str) -> Way:
     """The way that is wanted, or the first one that works here."""
     for candidate in [name] if name else list(WAYS):
         way = WAYS[candidate]
         if (
             not way.words
             or shutil.which(way.words[0])
-            and not once(way, program, Call([], [], 1), os.path.join(folder, candidate)).fault
+            and not measure_once(
+                way, program, Call([], [], 1), os.path.join(folder, candidate)
+            ).fault
         ):
             return way
     sys.exit(f"growth.py: {name} can't be had here")
 
 
 class Row(NamedTuple):
-    """A case and a command, with what the two sizes cost beyond next to nothing, and what is wrong with it."""
+    """A case and a command, with what the two sizes cost beyond next to nothing, and what is wrong with
+    it."""
 
     case: str
     command: str
@@ -436,13 +461,16 @@ class Row(NamedTuple):
     def grows(self) -> bool:
         return not self.fault and self.growth() > MOST
 
-    def shown(self, unit: str) -> str:
+    def cost_text(self, unit: str) -> str:
         what, by = f"{self.command}, {self.case}", 1 if unit == "s" else 1e6
         if self.fault:
             return f"{what}: {self.fault}"
         if self.greater is None:
             return f"{what}: {self.lesser / by:.2f} {unit}, and then more than {LONGEST} s"
-        return f"{what}: {self.lesser / by:.2f} and {self.greater / by:.2f} {unit}, {self.growth():.1f} times"
+        return (
+            f"{what}: {self.lesser / by:.2f} and {self.greater / by:.2f} {unit},"
+            f" {self.growth():.1f} times"
+        )
 
 
 class Measures:
@@ -453,35 +481,46 @@ class Measures:
         self.pool = ThreadPoolExecutor(way.at_a_time)
         self.nothing: dict[tuple[str, str], Future[Cost]] = {}
 
-    def of_nothing(self, case: Case, command: str, settings: str) -> Future[Cost]:
-        """The cost of a command of next to nothing under settings, or of the least size of the case, where it has one."""
+    def cost_of_nothing(self, case: Case, command: str, settings: str) -> Future[Cost]:
+        """The cost of a command of next to nothing under settings, or of the least size of the case, where it
+        has one."""
         if case.made.least:
-            return self.pool.submit(self.of_size, case, command, case.made.least)
+            return self.pool.submit(self.cost_of_size, case, command, case.made.least)
         if (command, settings) not in self.nothing:
-            make = made_traces.symbols_apart if command in OF_TRACES else made_guests.ends
-            kind = TraceCase if command in OF_TRACES else GuestCase
-            small = kind("nothing", lambda n: make(n)._replace(settings=settings), 1, "")
+            small: TraceCase | GuestCase = GuestCase(
+                "nothing", lambda n: made_guests.ends(n)._replace(settings=settings), 1, ""
+            )
+            if command in OF_TRACES:
+                small = TraceCase(
+                    "nothing",
+                    lambda n: made_traces.symbols_apart(n)._replace(settings=settings),
+                    1,
+                    "",
+                )
             self.nothing[command, settings] = self.pool.submit(
-                self.of_size, Case(small, tempfile.mkdtemp(dir=self.folder)), command, 1
+                self.cost_of_size, Case(small, tempfile.mkdtemp(dir=self.folder)), command, 1
             )
         return self.nothing[command, settings]
 
-    def of_size(self, case: Case, command: str, size: int) -> Cost:
+    def cost_of_size(self, case: Case, command: str, size: int) -> Cost:
         out = os.path.join(
             case.folder, f"{command}.{size}.{re.sub('[^a-z0-9]+', '_', case.name)}.out"
         )
-        return counted(self.way, self.program, case.call(command, size), out)
+        return measure_least(self.way, self.program, case.call(command, size), out)
 
     def rows(self, chosen: list[tuple[Case, str]], times: int) -> Iterator[Row]:
         """One after the other, as they are there."""
-        asked = []
+        asked: list[tuple[str, str, list[Future[Cost]]]] = []
         for case, command in chosen:
             size = min(case.made.size * times, case.made.most // 4)
-            nothing = self.of_nothing(case, command, case.of_size(size)[1].settings)
-            sizes = [self.pool.submit(self.of_size, case, command, it) for it in (size, 4 * size)]
-            asked.append((case.name, command, nothing, *sizes))
-        for name, command, *costs in asked:
-            yield self.row(Row(name, command, 0, None, ""), *(it.result() for it in costs))
+            nothing = self.cost_of_nothing(case, command, case.made_file(size)[1].settings)
+            sizes = [
+                self.pool.submit(self.cost_of_size, case, command, number)
+                for number in (size, 4 * size)
+            ]
+            asked.append((case.name, command, [nothing, *sizes]))
+        for name, command, costs in asked:
+            yield self.row(Row(name, command, 0, None, ""), *[cost.result() for cost in costs])
 
     def row(self, row: Row, nothing: Cost, lesser: Cost, greater: Cost) -> Row:
         fault = nothing.fault or lesser.fault or greater.fault
@@ -491,17 +530,21 @@ class Measures:
         if greater.cost is None:
             return row
         if greater.cost - nothing.cost < self.way.least:
-            fault = f"it does too little to tell: {greater.cost - nothing.cost:g} beyond {nothing.cost:g} of next to nothing"
+            fault = (
+                f"it does too little to tell: {greater.cost - nothing.cost:g} beyond"
+                f" {nothing.cost:g} of next to nothing"
+            )
         return row._replace(greater=greater.cost - nothing.cost, fault=fault)
 
 
-def chosen(words: argparse.Namespace, folder: str) -> list[tuple[Case, str]]:
-    cases = [Case(it, folder) for it in [*made_traces.CASES, *made_guests.CASES]]
+def choose_cases(words: argparse.Namespace, folder: str) -> list[tuple[Case, str]]:
+    made: list[TraceCase | GuestCase] = [*made_traces.CASES, *made_guests.CASES]
+    cases = [Case(it, folder) for it in made]
     wanted = [it for it in cases if not words.names or any(name in it.name for name in words.names)]
     return [(case, command) for case in wanted for command in case.commands(words.all)]
 
 
-def judged(rows: list[Row]) -> tuple[list[Row], list[Row], list[Row]]:
+def judge_rows(rows: list[Row]) -> tuple[list[Row], list[Row], list[Row]]:
     """What has a fault, what is known to grow, and what else grows."""
     faults = [it for it in rows if it.fault]
     for name, why in KNOWN.items():
@@ -524,22 +567,22 @@ def main() -> int:
     words = reader.parse_intermixed_args()
     program = os.path.abspath(words.program)
     with tempfile.TemporaryDirectory() as folder:
-        way = way_of(words.by, program, folder)
+        way = choose_way(words.by, program, folder)
         rows = []
         for row in Measures(program, way, folder).rows(
-            chosen(words, folder), words.times * way.times
+            choose_cases(words, folder), words.times * way.times
         ):
             rows.append(row)
-            print(row.shown(way.unit), flush=True)
-    faults, known, named = judged(rows)
+            print(row.cost_text(way.unit), flush=True)
+    faults, known, named = judge_rows(rows)
     print(
-        f"{len(rows)} calls, by {way.name}: {len(faults)} have a fault, {len(known)} are known to grow, and "
-        f"{len(named)} more grew by more than {MOST:g} where the size grew by 4"
+        f"{len(rows)} calls, by {way.name}: {len(faults)} have a fault, {len(known)} are known to"
+        f" grow, and {len(named)} more grew by more than {MOST:g} where the size grew by 4"
     )
     for row in known:
-        print(f"known: {row.shown(way.unit)}: {KNOWN[row.case]}")
+        print(f"known: {row.cost_text(way.unit)}: {KNOWN[row.case]}")
     for row in [*faults, *named]:
-        print(row.shown(way.unit))
+        print(row.cost_text(way.unit))
     return 1 if named or faults or not rows else 0
 
 

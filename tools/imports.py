@@ -3,19 +3,24 @@
 
 usage: tools/imports.py [--fix] [FILE or FOLDER ..]      all crates, unless some are named
 
-In a .rt file a `ghost use` serves clauses, ghost members and attributes: a name that only Rust's code has is unused. In an .antt
-file a `use` serves all other lines. An operator is used where each of its signs stands by itself. Prints `FILE:LINE: NAME` for each,
-and ends with 1 where there are any. --fix takes them out, with lines that nothing is left of; `rt fmt` lays out what remains."""
+In a .rt file a `ghost use` serves clauses, ghost members and attributes: a name that only Rust's code has is
+unused. In an .antt file a `use` serves all other lines. An operator is used where each of its signs stands by
+itself. Prints `FILE:LINE: NAME` for each, and ends with 1 where there are any. --fix takes them out, with
+lines that nothing is left of; `rt fmt` lays out what remains."""
 
 import os
 import re
 import sys
-from typing import NamedTuple
+from typing import Iterable, Iterator, NamedTuple
 
 TOP = os.path.abspath(os.path.join(os.path.dirname(os.path.abspath(__file__)), ".."))
 # What stands between two words of antt: all other signs are letters of a name.
 BETWEEN = re.compile(r"[\s(){}\[\],;]+")
 OPENING, CLOSING = "({[", ")}]"
+
+
+# A part of a text, by where it begins and ends.
+Span = tuple[int, int]
 
 
 class Import(NamedTuple):
@@ -25,19 +30,19 @@ class Import(NamedTuple):
     module: str
     start: int
     end: int
-    statement: tuple
-    scope: tuple
+    statement: Span
+    scope: Span
 
 
-def blank(text):
+def blank(text: str) -> str:
     return re.sub(r"[^\n]", " ", text)
 
 
-def blanked(text, start, end):
+def blank_range(text: str, start: int, end: int) -> str:
     return text[:start] + blank(text[start:end]) + text[end:]
 
 
-def without_comments(text, is_rust):
+def without_comments(text: str, is_rust: bool) -> str:
     """The text with blanks in the place of comments and of what strings hold."""
     comment = r"//[^\n]*|/\*.*?\*/" if is_rust else r"(?<!\S)--[^\n]*|\{-.*?-\}"
     quoted = r'"(?:\\.|[^"\\])*"'
@@ -46,7 +51,7 @@ def without_comments(text, is_rust):
     return re.sub(f"{comment}|{quoted}", lambda match: blank(match[0]), text, flags=re.DOTALL)
 
 
-def closed(text, at):
+def closing_end(text: str, at: int) -> int:
     """Behind the bracket that closes the one at a place."""
     depth = 0
     for place in range(at, len(text)):
@@ -56,12 +61,12 @@ def closed(text, at):
     return len(text)
 
 
-def ghost_parts(text):
+def ghost_parts(text: str) -> Iterator[Span]:
     """Where clauses, ghost members and attributes stand in Rust's text."""
     for found in re.finditer(r"\b(?:requires|ensures)\b\*?\s*\w*\s*(?=\{)", text):
-        yield found.start(), closed(text, found.end())
+        yield found.start(), closing_end(text, found.end())
     for found in re.finditer(r"#!?(?=\[)", text):
-        yield found.start(), closed(text, found.end())
+        yield found.start(), closing_end(text, found.end())
     for found in re.finditer(r"\bghost\s+(?!use\b)", text):
         depth, at = 0, found.end()
         while at < len(text) and depth >= 0 and not (depth == 0 and text[at] in ";,"):
@@ -70,17 +75,17 @@ def ghost_parts(text):
         yield found.start(), at
 
 
-def block_around(text, at):
+def block_around(text: str, at: int) -> Span:
     """The innermost block of braces around a place, or the whole text."""
     depth = 0
     for place in range(at - 1, -1, -1):
         depth += (text[place] == "}") - (text[place] == "{")
         if depth < 0:
-            return place, closed(text, place)
+            return place, closing_end(text, place)
     return 0, len(text)
 
 
-def imports_of(text, is_rust):
+def imports_of(text: str, is_rust: bool) -> list[Import]:
     """The imports of a text, and the places of their statements."""
     word = r"^[ \t]*ghost use\s+" if is_rust else r"^[ \t]*use\s+"
     found = []
@@ -104,8 +109,9 @@ def imports_of(text, is_rust):
     return found
 
 
-def words_of(text):
-    """The words of a text, and the fronts of dotted ones. What stands behind a dot names a field, unless the dot ends a lambda."""
+def words_of(text: str) -> set[str]:
+    """The words of a text, and the fronts of dotted ones. What stands behind a dot names a field, unless the
+    dot ends a lambda."""
     text = re.sub(r"λ[^.\n]*\.", lambda match: match[0][:-1] + " ", text)
     found = {"[]"} if "[]" in text else set()
     for word in BETWEEN.split(text):
@@ -115,11 +121,11 @@ def words_of(text):
     return found
 
 
-def is_in(name, words):
+def is_used(name: str, words: set[str]) -> bool:
     return all(part in words for part in name.split("◌") if part) or name.strip("«»") in words
 
 
-def unused(text, is_rust):
+def find_unused(text: str, is_rust: bool) -> list[Import]:
     """The imports whose names nothing in their reach has, or that one before has brought."""
     plain = without_comments(text, is_rust)
     found, brought, again = imports_of(plain, is_rust), set(), []
@@ -127,20 +133,20 @@ def unused(text, is_rust):
         if (own.name, own.module, own.scope) in brought:
             again.append(own)
         brought.add((own.name, own.module, own.scope))
-    return sorted({*again, *without_use(plain, found, is_rust)}, key=lambda own: own.start)
+    return sorted({*again, *filter_unused(plain, found, is_rust)}, key=lambda own: own.start)
 
 
-def without_use(plain, found, is_rust):
+def filter_unused(plain: str, found: list[Import], is_rust: bool) -> list[Import]:
     """Those of the imports whose names nothing in their reach has."""
     rest = plain
     for span in {it.statement for it in found}:
-        rest = blanked(rest, *span)
+        rest = blank_range(rest, *span)
     if not is_rust:
         words = words_of(rest)
-        return [it for it in found if not is_in(it.name, words)]
+        return [it for it in found if not is_used(it.name, words)]
     parts = list(ghost_parts(rest))
 
-    def words_in(scopes, but):
+    def words_in(scopes: Span, but: list[Span]) -> set[str]:
         """The words of the parts that stand in a scope and in none of the others."""
         taken = [part for part in parts if scopes[0] <= part[0] < scopes[1]]
         return words_of(
@@ -154,23 +160,23 @@ def without_use(plain, found, is_rust):
             for one in found
             if one.name == own.name and own.scope[0] < one.scope[0] and one.scope[1] <= own.scope[1]
         ]
-        if not is_in(own.name, words_in(own.scope, inner)):
+        if not is_used(own.name, words_in(own.scope, inner)):
             left.append(own)
     return left
 
 
-def fixed(text, gone):
+def remove_imports(text: str, gone: Iterable[Import]) -> str:
     """The text without some of its imports."""
-    by_statement = {}
+    by_statement: dict[Span, list[Import]] = {}
     for own in gone:
         by_statement.setdefault(own.statement, []).append(own)
     for span, names in sorted(by_statement.items(), reverse=True):
         statement = text[span[0] : span[1]]
         kept = None
         if "{" in statement and names[0].start != span[0]:
-            head, inside, behind = re.fullmatch(
-                r"([^{]*\{)([^}]*)(\}.*)", statement, re.DOTALL
-            ).groups()
+            found = re.fullmatch(r"([^{]*\{)([^}]*)(\}.*)", statement, re.DOTALL)
+            assert found
+            head, inside, behind = found.groups()
             begin, gone_at = span[0] + len(head), {it.start for it in names}
             parts = [
                 (begin + match.start() + len(match[0]) - len(match[0].lstrip()), match[0].strip())
@@ -190,7 +196,7 @@ def fixed(text, gone):
     return text
 
 
-def files_below(names):
+def files_below(names: Iterable[str]) -> Iterator[str]:
     for name in names:
         if os.path.isfile(name):
             yield name
@@ -202,7 +208,7 @@ def files_below(names):
             )
 
 
-def main(words):
+def main(words: list[str]) -> int:
     if "--help" in words or "-h" in words:
         print(__doc__)
         return 0
@@ -211,13 +217,13 @@ def main(words):
     for path in files_below([it for it in words if it != "--fix"] or [os.path.join(TOP, "crates")]):
         with open(path, encoding="utf-8") as file:
             text = file.read()
-        gone = unused(text, path.endswith(".rt"))
+        gone = find_unused(text, path.endswith(".rt"))
         count += len(gone)
         for own in gone:
             print(f"{os.path.relpath(path)}:{text.count(chr(10), 0, own.start) + 1}: {own.name}")
         if gone and fix:
             with open(path, "w", encoding="utf-8") as file:
-                file.write(fixed(text, gone))
+                file.write(remove_imports(text, gone))
     return 1 if count and not fix else 0
 
 

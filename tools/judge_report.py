@@ -1,11 +1,12 @@
 #!/usr/bin/env python3
-"""Says what the report of a replay is by its rules alone, as docs/RULES.md and docs/FORMATS.md tell them, and stands on nothing of
-the program. It goes over whole lists: caches are sets of harts, starts and openings least positions, and nothing is kept of a line.
+"""Says what the report of a replay is by its rules alone, as docs/RULES.md and docs/FORMATS.md tell them, and
+stands on nothing of the program. It goes over whole lists: caches are sets of harts, starts and openings
+least positions, and nothing is kept of a line.
 
 usage: tools/judge_report.py PROGRAM [COUNT [SEED]]
 
-makes COUNT (1000) small traces, each with its settings and words, by the random numbers that follow from SEED (1); replays each by
-PROGRAM, and tells where that prints another report. It ends with 1 where it found one.
+makes COUNT (1000) small traces, each with its settings and words, by the random numbers that follow from SEED
+(1); replays each by PROGRAM, and reports where it prints another report. It ends with 1 where it found one.
 """
 import random
 import struct
@@ -13,7 +14,7 @@ import subprocess
 import sys
 import tempfile
 from functools import cache
-from typing import NamedTuple
+from typing import Any, Callable, Iterable, Iterator, Mapping, NamedTuple, Sequence
 
 from traces import FUNCTION, OBJECT, Alloc, Free, Symbol
 
@@ -51,24 +52,27 @@ class Ending(NamedTuple):
 
     text: str
     steps: int
-    fields: tuple
+    fields: tuple[int, int, int, int]
 
 
 class Case(NamedTuple):
-    accesses: list
-    records: list  # pairs of a number of accesses and the record that comes after so many
+    accesses: list[Access]
+    # (pairs of a number of accesses and the record that comes after so many)
+    records: list[tuple[int, Alloc | Free | Symbol]]
     ending: Ending
     harts: int
     tracking: int
     prediction: int
     report: int
     native: int
-    layout: tuple  # size and offset, or none where no layout is named
+    # (size and offset, or none where no layout is named)
+    layout: tuple[int, int] | None
 
 
-def count_of(accesses, base, size, start):
+def count_invalidations(accesses: Sequence[Access], base: int, size: int, start: int) -> int:
     """The writes after the start that found another hart holding the line."""
-    holders, count = set(), 0
+    holders: set[int] = set()
+    count = 0
     for position, access in enumerate(accesses):
         if base <= access.addr < base + size:
             if access.writes:
@@ -78,17 +82,22 @@ def count_of(accesses, base, size, start):
     return count
 
 
-class Word:
-    def __init__(self):
-        self.reads, self.writes, self.harts = 0, 0, set()
+# A block, when it was allocated, and when it was freed or replaced, each as a number of accesses.
+BlockLife = list[Any]
 
-    def total(self):
+
+class Word:
+    def __init__(self) -> None:
+        self.reads = self.writes = 0
+        self.harts: set[int] = set()
+
+    def total(self) -> int:
         return self.reads + self.writes
 
 
-def words_of(accesses, base, size, start):
+def word_uses(accesses: Sequence[Access], base: int, size: int, start: int) -> dict[int, Word]:
     """The words of a range with an access from the start on, by address."""
-    words = {}
+    words: dict[int, Word] = {}
     for touch in accesses[start:]:
         if base <= touch.addr < base + size:
             word = words.setdefault(touch.addr // 4 * 4, Word())
@@ -98,11 +107,13 @@ def words_of(accesses, base, size, start):
     return dict(sorted(words.items()))
 
 
-def hot_pairs(accesses, line, size, starts):
+def hot_pairs(
+    accesses: Sequence[Access], line: int, size: int, starts: Mapping[int, int]
+) -> list[tuple[int, int]]:
     """The hot pairs of a line and the next, the best one first."""
     hot = []
     for base in (line, line + size):
-        words = words_of(accesses, base, size, starts[base])
+        words = word_uses(accesses, base, size, starts[base])
         total = sum(it.total() for it in words.values())
         hot.append({at: it for at, it in words.items() if size // 4 * it.total() >= total})
     found = []
@@ -113,7 +124,14 @@ def hot_pairs(accesses, line, size, starts):
     return [(x, y) for _, x, y in sorted(found)]
 
 
-def openings(accesses, line, size, starts, writes, prediction):
+def openings(
+    accesses: Sequence[Access],
+    line: int,
+    size: int,
+    starts: Mapping[int, int],
+    writes: Mapping[int, list[int]],
+    prediction: int,
+) -> list[tuple[int, int, int, int]]:
     """What a line and the next open: kind, base and size of each line, and the position of its opening."""
     at = [
         own[k - 1]
@@ -132,9 +150,9 @@ def openings(accesses, line, size, starts, writes, prediction):
     return [it for it in (shifted, doubled) if it]
 
 
-def tracked(case, size, offset):
+def tracked_lines(case: Case, size: int, offset: int) -> list[Line]:
     """The observed lines, and the predicted ones that have a start."""
-    writes = {}
+    writes: dict[int, list[int]] = {}
     for position, access in enumerate(case.accesses):
         if access.writes:
             writes.setdefault((access.addr - offset) // size * size + offset, []).append(position)
@@ -154,20 +172,25 @@ def tracked(case, size, offset):
     return found
 
 
-def address(number):
+def address_text(number: int) -> str:
     return f"{'-' if number < 0 else ''}0x{abs(number):08x}"
 
 
-def printed(name):
+def printable_name(name: bytes) -> str:
     return (
         "".join(chr(it) if 0x21 <= it <= 0x7E and it != 0x5C else f"\\x{it:02x}" for it in name)
         or "?"
     )
 
 
-def table_of(records):
-    """The symbols, without those whose kind, address and size an earlier one has, and the blocks, each with its life."""
-    symbols, blocks, live = {}, [], {}
+def object_table(
+    records: Iterable[tuple[int, Alloc | Free | Symbol]]
+) -> tuple[list[Symbol], list[BlockLife]]:
+    """The symbols, without those whose kind, address and size an earlier one has, and the blocks, each with
+    its life."""
+    symbols: dict[tuple[int, int, int], Symbol] = {}
+    blocks: list[BlockLife] = []
+    live: dict[int, BlockLife] = {}
     for position, record in records:
         if isinstance(record, Symbol):
             symbols.setdefault(record[:3], record)
@@ -180,17 +203,24 @@ def table_of(records):
     return list(symbols.values()), blocks
 
 
-def site_names(symbols):
+def site_names(symbols: Iterable[Symbol]) -> Callable[[int], str]:
     """Of an address the first function that holds it."""
     functions = [it for it in symbols if it.kind == FUNCTION]
     return cache(
         lambda site: next(
-            (printed(it.name) for it in functions if it.addr <= site < it.addr + it.size), "-"
+            (printable_name(it.name) for it in functions if it.addr <= site < it.addr + it.size),
+            "-",
         )
     )
 
 
-def objects_on(line, symbols, blocks, end, name_of):
+def object_rows(
+    line: Line,
+    symbols: Iterable[Symbol],
+    blocks: Iterable[BlockLife],
+    end: int,
+    name_of: Callable[[int], str],
+) -> Iterator[str]:
     """The objects that stand on a line, as a report lists them."""
     for entry in symbols:
         if (
@@ -198,7 +228,10 @@ def objects_on(line, symbols, blocks, end, name_of):
             and entry.addr < line.base + line.size
             and line.base < entry.addr + entry.size
         ):
-            yield f"object symbol {printed(entry.name)} {address(entry.addr)} {entry.size}"
+            yield (
+                "object symbol"
+                f" {printable_name(entry.name)} {address_text(entry.addr)} {entry.size}"
+            )
     for owner, born, died in blocks:
         meets = (
             owner.size > 0
@@ -206,19 +239,27 @@ def objects_on(line, symbols, blocks, end, name_of):
             and line.base < owner.addr + owner.size
         )
         if meets and max(born, line.start) < (end if died is None else min(died, end)):
-            yield f"object block {address(owner.addr)} {owner.size} born {born} {'live' if died is None else f'died {died}'}"
-            yield from (f"site {address(site)} {name_of(site)}" for site in owner.sites if site)
+            yield (
+                f"object block {address_text(owner.addr)} {owner.size} born"
+                f" {born} {'live' if died is None else f'died {died}'}"
+            )
+            yield from (
+                f"site {address_text(site)} {name_of(site)}" for site in owner.sites if site
+            )
 
 
-def verdict_of(words):
+def verdict(words: Mapping[int, Word]) -> str:
     shared = [it.writes > 0 and len(it.harts) > 1 for it in words.values() if it.writes]
     return "false" if not any(shared) else "true" if all(shared) else "mixed"
 
 
-def report_of(case):
+def report_text(case: Case) -> Iterator[str]:
     """The whole text."""
     size, offset = case.layout or (case.native, 0)
-    rows = sorted((-count_of(case.accesses, *it[1:]), it) for it in tracked(case, size, offset))
+    rows = sorted(
+        (-count_invalidations(case.accesses, *own[1:]), own)
+        for own in tracked_lines(case, size, offset)
+    )
     rows = [(-count, it) for count, it in rows if -count >= case.report]
     yield "predator report 1"
     yield f"outcome {case.ending.text}"
@@ -227,19 +268,22 @@ def report_of(case):
     yield f"layout {size} {offset}"
     yield f"thresholds {case.tracking} {'none' if case.layout else case.prediction} {case.report}"
     yield f"lines {len(rows)}"
-    symbols, blocks = table_of(case.records)
+    symbols, blocks = object_table(case.records)
     name_of = site_names(symbols)
     for count, row in rows:
-        words = words_of(case.accesses, *row[1:])
-        yield f"line {KINDS[row.kind]} {address(row.base)} {row.size} start {row.start} count {count} verdict {verdict_of(words)}"
-        yield from objects_on(row, symbols, blocks, len(case.accesses), name_of)
+        words = word_uses(case.accesses, *row[1:])
+        yield (
+            f"line {KINDS[row.kind]} {address_text(row.base)} {row.size} start {row.start} count"
+            f" {count} verdict {verdict(words)}"
+        )
+        yield from object_rows(row, symbols, blocks, len(case.accesses), name_of)
         for at, word in words.items():
             owner = "many" if len(word.harts) > 1 else f"hart {min(word.harts)}"
-            yield f"word {address(at)} reads {word.reads} writes {word.writes} {owner}"
+            yield f"word {address_text(at)} reads {word.reads} writes {word.writes} {owner}"
     yield "end"
 
 
-def spelled(record):
+def record_bytes(record: Alloc | Free | Symbol) -> bytes:
     if isinstance(record, Symbol):
         return struct.pack("<BBIIH", 5, *record[:3], len(record.name)) + record.name
     if isinstance(record, Alloc):
@@ -247,11 +291,11 @@ def spelled(record):
     return struct.pack("<BI", 4, record.addr)
 
 
-def trace_of(case):
+def trace_bytes(case: Case) -> bytes:
     parts, left = [struct.pack("<8sQHH", b"PRDTRC01", 0, case.harts, 0)], list(case.records)
     for position in range(len(case.accesses) + 1):
         while left and left[0][0] == position:
-            parts.append(spelled(left.pop(0)[1]))
+            parts.append(record_bytes(left.pop(0)[1]))
         for access in case.accesses[position : position + 1]:
             parts.append(
                 struct.pack("<BHIB", 1 + access.writes, access.hart, access.addr, access.size)
@@ -262,8 +306,11 @@ def trace_of(case):
     return b"".join(parts)
 
 
-def some_accesses(dice, harts, base, span, native):
-    """Accesses to a few words of a few lines, those at the lines' edges among them; most words may have a hart of their own."""
+def random_accesses(
+    dice: random.Random, harts: int, base: int, span: int, native: int
+) -> Iterator[Access]:
+    """Accesses to a few words of a few lines, those at the lines' edges among them; most words may have a
+    hart of their own."""
     hot = [4 * dice.randrange(span // 4) for _ in range(dice.choice((1, 2, 3, 4, 6, 12)))]
     hot += [
         at for edge in range(native, span, native) for at in (edge - 4, edge) if dice.random() < 0.7
@@ -274,14 +321,14 @@ def some_accesses(dice, harts, base, span, native):
         dice.choice((0.2, 0.5, 0.8, 1)),
     )
     for _ in range(dice.choice((0, 1, 5, 20, 60, 120, 250))):
-        at, size = dice.choice(hot) if dice.random() < 0.9 else 4 * dice.randrange(
-            span // 4
+        at, size = (
+            dice.choice(hot) if dice.random() < 0.9 else 4 * dice.randrange(span // 4)
         ), dice.choice((1, 2, 4, 4))
         hart = own[at] if at in own and keeps and dice.random() < 0.9 else dice.randrange(harts)
         yield Access(hart, dice.random() < share, base + at + dice.randrange(0, 4, size), size)
 
 
-def some_record(dice, base, span):
+def random_record(dice: random.Random, base: int, span: int) -> Alloc | Free | Symbol:
     block = (base + 16 * dice.randrange(max(1, span // 16))) % 2**32
     which = dice.random()
     if which < 0.4:
@@ -311,11 +358,11 @@ def some_record(dice, base, span):
     return Free(block)
 
 
-def some_ending(dice, harts):
+def random_ending(dice: random.Random, harts: int) -> Ending:
     steps, code, hart = dice.randrange(2**40), dice.randrange(2**32), dice.randrange(harts)
     pc, cause = 4 * dice.randrange(2**30), dice.randrange(8)
     trap = Ending(
-        f"trap hart {hart} pc {address(pc)} {CAUSES[cause]}", steps, (3, cause + 1, hart, pc)
+        f"trap hart {hart} pc {address_text(pc)} {CAUSES[cause]}", steps, (3, cause + 1, hart, pc)
     )
     exits = Ending(f"exit {code}", steps, (0, 0, 0, code))
     return dice.choice(
@@ -329,7 +376,7 @@ def some_ending(dice, harts):
     )
 
 
-def some_case(dice):
+def random_case(dice: random.Random) -> Case:
     harts, native, lines = (
         dice.choice((1, 2, 2, 3, 4, 8, 256)),
         dice.choice((64, 64, 64, 32, 128, 256)),
@@ -338,9 +385,9 @@ def some_case(dice):
     last = 2**32 - native * lines
     base = dice.choice((0, 0x1000, 0x1000, 0x1000 + native, 0x7FFFFF80, last, last + native // 2))
     span = min(native * lines, 2**32 - base)
-    accesses = list(some_accesses(dice, harts, base, span, native))
+    accesses = list(random_accesses(dice, harts, base, span, native))
     places = sorted(dice.randrange(len(accesses) + 1) for _ in range(dice.choice((0, 0, 2, 6, 15))))
-    records = [(place, some_record(dice, base, span)) for place in places]
+    records = [(place, random_record(dice, base, span)) for place in places]
     tracking = dice.choice((1, 1, 2, 3, 5, 16))
     prediction = tracking + dice.choice((0, 0, 0, 1, 3, tracking, 48))
     size = dice.choice((4, 8, 16, 32, 64, 128, 256, 512, 1024))
@@ -348,7 +395,7 @@ def some_case(dice):
     return Case(
         accesses,
         records,
-        some_ending(dice, harts),
+        random_ending(dice, harts),
         harts,
         tracking,
         prediction,
@@ -358,16 +405,17 @@ def some_case(dice):
     )
 
 
-def main(program, count=1000, seed=1):
+def main(program: str, count: str | int = 1000, seed: str | int = 1) -> bool:
     dice, wrong = random.Random(int(seed)), 0
     with tempfile.TemporaryDirectory() as folder:
         for number in range(int(count)):
-            case = some_case(dice)
+            case = random_case(dice)
             with open(f"{folder}/trace", "wb") as file:
-                file.write(trace_of(case))
+                file.write(trace_bytes(case))
             with open(f"{folder}/settings", "w", encoding="utf-8") as file:
                 file.write(
-                    f"tracking = {case.tracking}\nprediction = {case.prediction}\nreport = {case.report}\nline = {case.native}\n"
+                    f"tracking = {case.tracking}\nprediction = {case.prediction}\nreport ="
+                    f" {case.report}\nline = {case.native}\n"
                 )
             words = (
                 ["--size", str(case.layout[0]), "--shift", str(case.layout[1])]
@@ -383,7 +431,7 @@ def main(program, count=1000, seed=1):
                 *words,
             ]
             said = subprocess.run(words, capture_output=True, encoding="latin-1").stdout
-            if said != "".join(f"{it}\n" for it in report_of(case)):
+            if said != "".join(f"{it}\n" for it in report_text(case)):
                 wrong += 1
                 print(f"trace {number} of seed {seed}: the program prints another report")
     print(f"{count} tried, {wrong} wrong")

@@ -1,24 +1,31 @@
 #!/usr/bin/env python3
-"""Says what a saved state is by its rules alone, as docs/FORMATS.md tells them, and stands on nothing of the program.
+"""Says what a saved state is by its rules alone, as docs/FORMATS.md has them, and stands on nothing of the
+program.
 
 usage: tools/judge_state.py STATE                      prints `good`, or the place of the first unit at fault
-       tools/judge_state.py STATE PROGRAM TRACE WORDS  changes and cuts the state in many ways, replays TRACE from each by PROGRAM
-                                                       with WORDS (settings, a layout), and tells where it says another thing"""
+       tools/judge_state.py STATE PROGRAM TRACE WORDS
+           changes and cuts the state in many ways, replays TRACE from each by PROGRAM with WORDS (settings, a
+           layout), and reports where it prints another result"""
 import os
 import struct
 import subprocess
 import sys
 import tempfile
+from typing import Iterator
 
 NO_HART, MANY, NONE = 0xFFFF, 0xFFFE, 2**64 - 1
 NATIVE = (32, 64, 128, 256)
 
 
+# Size, offset, tracking, prediction, harts, position, and the numbers of lines and tracks.
+Header = tuple[int, int, int, int, int, int, int, int]
+
+
 class Fault(Exception):
-    pass
+    """The place of the first unit at fault."""
 
 
-def header_of(b):
+def read_header(b: bytes) -> Header:
     if len(b) < 64 or b[:8] != b"PRDSTA01" or any(b[34:40]):
         raise Fault(0)
     size, offset, tracking, prediction, harts = struct.unpack_from("<IIQQH", b, 8)
@@ -32,14 +39,14 @@ def header_of(b):
     return size, offset, tracking, prediction, harts, position, lines, tracks
 
 
-def word_total(b, at, harts):
+def word_total(b: bytes, at: int, harts: int) -> int | None:
     reads, writes, owner, zero = struct.unpack_from("<QQHH", b, at)
     n = reads + writes
     owned = owner == NO_HART if n == 0 else owner < harts or (owner == MANY and n >= 2)
     return n if owned and zero == 0 else None
 
 
-def track_of(b, at, head):
+def read_track(b: bytes, at: int, head: Header) -> tuple[int, int, int, int]:
     """Kind, base and start of the track by itself, and its end."""
     size, offset, tracking, prediction, harts, position, _, _ = head
     if at + 32 > len(b):
@@ -54,13 +61,14 @@ def track_of(b, at, head):
     totals = [word_total(b, at + 32 + 20 * i, harts) for i in range(words)]
     if None in totals:
         raise Fault(at)
+    sum_of_words = sum(total or 0 for total in totals)
     if start == NONE:
         good = (
             count_of == 0
             and first == NO_HART
             and second == NO_HART
             and count == 0
-            and sum(totals) == 0
+            and sum_of_words == 0
         )
     else:
         good = (
@@ -72,16 +80,17 @@ def track_of(b, at, head):
             good
             and start < position
             and count <= position - start - 1
-            and sum(totals) <= position - start
+            and sum_of_words <= position - start
         )
     if not good:
         raise Fault(at)
     return kind, base, start, end
 
 
-def detector_part(b):
-    head = size, offset, tracking, prediction, harts, position, lines, tracks = header_of(b)
-    at, last, due = 64, None, []
+def check_detector(b: bytes) -> tuple[Header, int]:
+    head = size, offset, tracking, prediction, harts, position, lines, tracks = read_header(b)
+    at, due = 64, list[int]()
+    last: int | None = None
     for _ in range(lines):
         if at + 16 > len(b):
             raise Fault(at)
@@ -98,9 +107,10 @@ def detector_part(b):
         if writes >= tracking:
             due.append(base)
         at += 16
-    before, seen, crossed = None, 0, set()
+    before: tuple[int, int] | None = None
+    seen, crossed = 0, set[int]()
     for _ in range(tracks):
-        kind, base, start, end = track_of(b, at, head)
+        kind, base, start, end = read_track(b, at, head)
         good = before is None or before < (kind, base)
         if kind == 0:
             good = good and seen < len(due) and due[seen] == base and start != NONE
@@ -109,7 +119,7 @@ def detector_part(b):
             line = base // size * size
             good = (
                 good
-                and prediction
+                and prediction > 0
                 and seen == len(due)
                 and base >= 0
                 and line in due
@@ -128,11 +138,11 @@ def detector_part(b):
     return head, at
 
 
-def object_part(b, at, position):
+def check_objects(b: bytes, at: int, position: int) -> None:
     if at + 16 > len(b):
         raise Fault(at)
     symbols, blocks = struct.unpack_from("<QQ", b, at)
-    at, places, live = at + 16, set(), set()
+    at, places, live = at + 16, set[tuple[int, int, int]](), set[int]()
     for _ in range(symbols):
         if at + 12 > len(b) or b[at] != 5:
             raise Fault(at)
@@ -161,17 +171,17 @@ def object_part(b, at, position):
         raise Fault(at)
 
 
-def judged(b):
+def judge_state(b: bytes) -> tuple[Header | None, int | None]:
     """The header of a good state, or the place of the first unit at fault."""
     try:
-        head, at = detector_part(b)
-        object_part(b, at, head[5])
+        head, at = check_detector(b)
+        check_objects(b, at, head[5])
         return head, None
     except Fault as fault:
         return None, fault.args[0]
 
 
-def variants(b):
+def changed_states(b: bytes) -> Iterator[bytes]:
     for place in range(len(b)):
         for value in (0, 1, 0x7F, 0xFF):
             if b[place] != value:
@@ -184,37 +194,38 @@ def variants(b):
             yield bytes(b[:place]) + struct.pack("<Q", number) + bytes(b[place + 8 :])
 
 
-def said(program, trace, words, state):
+def call_replay(program: str, trace: str, words: list[str], state: str) -> tuple[int, str]:
     done = subprocess.run(
         [program, "replay", trace, "--resume", state, *words], capture_output=True, text=True
     )
     return done.returncode, done.stdout
 
 
-def judge_changes(name, program, trace, words):
-    """Replays a trace from each change of a state: how many there are, and of how many the program says another thing."""
+def judge_changes(name: str, program: str, trace: str, words: list[str]) -> tuple[int, int]:
+    """Replays a trace from each change of a state: how many there are, and of how many the program says
+    another thing."""
     with open(name, "rb") as file:
         state = file.read()
-    own, good = judged(state)[0], said(program, trace, words, name)[0]
+    own, good = judge_state(state)[0], call_replay(program, trace, words, name)[0]
     tried = wrong = 0
     with tempfile.TemporaryDirectory() as work:
         changed = os.path.join(work, "state")
-        for variant in variants(state):
+        for variant in changed_states(state):
             with open(changed, "wb") as out:
                 out.write(variant)
             tried += 1
-            status, text = said(program, trace, words, changed)
-            if not is_right(own, variant, status, text, good):
+            status, text = call_replay(program, trace, words, changed)
+            if not is_right_ending(own, variant, status, text, good):
                 wrong += 1
-                print(f"variant {tried}: {judged(variant)}: {status} {text[:60]!r}")
+                print(f"variant {tried}: {judge_state(variant)}: {status} {text[:60]!r}")
     return tried, wrong
 
 
-def is_right(own, changed, status, text, good):
-    """Whether a replay from a changed state ends as that state says, where the trace goes on from a state with the header `own`, and
-    ends with the status `good` from a good one."""
-    head, place = judged(changed)
-    if place is not None:
+def is_right_ending(own: Header | None, changed: bytes, status: int, text: str, good: int) -> bool:
+    """Whether a replay from a changed state ends as that state says, where the trace goes on from a state
+    with the header `own`, and ends with the status `good` from a good one."""
+    head, place = judge_state(changed)
+    if head is None or own is None:
         return text == f"predator: state BadState {place}\n" and status == 6
     differs = [at for at, mine, its in zip((8, 12, 16, 24, 32), own[:5], head[:5]) if mine != its]
     if differs:
@@ -224,13 +235,13 @@ def is_right(own, changed, status, text, good):
     return text.startswith("predator report 1\n") and status == good
 
 
-def main(words):
+def main(words: list[str]) -> int:
     if not words or words[0] in ("--help", "-h"):
         print(__doc__)
         return 0 if words else 1
     if len(words) == 1:
         with open(words[0], "rb") as file:
-            place = judged(file.read())[1]
+            place = judge_state(file.read())[1]
         print("good" if place is None else f"BadState {place}")
         return 0
     tried, wrong = judge_changes(words[0], words[1], words[2], words[3:])

@@ -4,8 +4,8 @@
 usage: tools/leftovers.py [CRATE ..]      all crates, unless some are named
 
 Prints `FILE:LINE: WHAT` for each
-- dead item: one of specs/ or proofs/ that nothing names but itself and imports that nothing uses. Answers to goals, invariants and
-  the worked cases (files whose name begins with Worked) stand for themselves;
+- dead item: one of specs/ or proofs/ that nothing names but itself and imports that nothing uses. Answers to
+  goals, invariants and the worked cases (files whose name begins with Worked) stand for themselves;
 - long line: one of more than 100 columns, and long file: one of more than 600 lines;
 - comment that says no more than the name under it.
 It ends with 1 where there are any."""
@@ -13,6 +13,7 @@ It ends with 1 where there are any."""
 import os
 import re
 import sys
+from typing import Iterator
 
 TOP = os.path.abspath(os.path.join(os.path.dirname(os.path.abspath(__file__)), ".."))
 sys.path.insert(0, os.path.dirname(os.path.abspath(__file__)))
@@ -22,7 +23,8 @@ WIDTH, LENGTH = 100, 600
 # What these hold is found by its place.
 ANSWERS = ("Answers.antt", "Invariants.antt", "Proof.antt", "Lib.antt")
 ITEM = re.compile(
-    r"^( *)(?:pub )?(?:(?:abbrev|unfoldable|data|record|ruleset|axiom) (?:pub )?)*(?:pub )?([^\s(){}\[\]:,;]+)\s*(?=[:({])"
+    r"^( *)(?:pub )?(?:(?:abbrev|unfoldable|data|record|ruleset|axiom) (?:pub )?)*(?:pub"
+    r" )?([^\s(){}\[\]:,;]+)\s*(?=[:({])"
 )
 # Words that begin a line and no item.
 NOT_ITEMS = {
@@ -44,23 +46,28 @@ NOT_ITEMS = {
 PLAIN = set("a an and are for how is it its of that the this was what".split())
 
 
-def read(path):
+def read(path: str) -> str:
     with open(path, encoding="utf-8") as file:
         return file.read()
 
 
-class Source:
-    """A file of the crates: its text without comments and imports, what it imports, and its place in the house."""
+# Names as a file has them, each with that of its module where this is another one.
+Names = dict[str, str | None]
 
-    def __init__(self, path):
+
+class Source:
+    """A file of the crates: its text without comments and imports, what it imports, and its place in the
+    house."""
+
+    def __init__(self, path: str) -> None:
         self.path, self.text = path, read(path)
         self.is_rust = path.endswith(".rt")
         self.plain = imports.without_comments(self.text, self.is_rust)
         found = imports.imports_of(self.plain, self.is_rust)
         self.rest = self.plain
         for span in {it.statement for it in found}:
-            self.rest = imports.blanked(self.rest, *span)
-        self.imported = {}
+            self.rest = imports.blank_range(self.rest, *span)
+        self.imported: dict[str, Names] = {}
         for own in found:
             statement = self.plain[slice(*own.statement)]
             module = own.module.rstrip(".")
@@ -74,11 +81,11 @@ class Source:
         parts = os.path.relpath(path, f"{TOP}/crates")[: -len(".antt")].split(os.sep)
         self.module = ".".join(["Rattle", *parts])
 
-    def words(self, rest=None):
+    def words(self, rest: str | None = None) -> set[str]:
         return imports.words_of(self.rest if rest is None else rest)
 
 
-def items_of(source):
+def find_items(source: Source) -> Iterator[tuple[str, int, int]]:
     """The items of a file of definitions or proofs: name, line, and the extent of what is the item's own."""
     lines = source.rest.split("\n")
     heads = []
@@ -92,12 +99,14 @@ def items_of(source):
         if depth and not is_in_module(lines, number, depth):
             continue
         end = number + 1
-        while end < len(lines) and (not lines[end].strip() or is_own(lines[end], depth, name)):
+        while end < len(lines) and (
+            not lines[end].strip() or is_inside_item(lines[end], depth, name)
+        ):
             end += 1
         yield name, number, end
 
 
-def is_own(line, depth, name):
+def is_inside_item(line: str, depth: int, name: str) -> bool:
     """Whether a line below an item's head belongs to the item: deeper ones do, and its own clauses."""
     indent = len(line) - len(line.lstrip(" "))
     if indent > depth:
@@ -106,7 +115,7 @@ def is_own(line, depth, name):
     return indent == depth and first in (name, "unfolding")
 
 
-def is_in_module(lines, number, depth):
+def is_in_module(lines: list[str], number: int, depth: int) -> bool:
     for above in range(number - 1, -1, -1):
         line = lines[above]
         if line.strip() and len(line) - len(line.lstrip(" ")) < depth:
@@ -114,8 +123,8 @@ def is_in_module(lines, number, depth):
     return False
 
 
-def dead_items(sources, chosen):
-    by_module = {}
+def dead_items(sources: list[Source], chosen: list[Source]) -> Iterator[str]:
+    by_module: dict[str, list[tuple[Source, Names]]] = {}
     for file in sources:
         for module, names in file.imported.items():
             by_module.setdefault(module, []).append((file, names))
@@ -124,7 +133,7 @@ def dead_items(sources, chosen):
         if source.is_rust or folder[-1] in ANSWERS or folder[-1].startswith("Worked"):
             continue
         path = source.module.split(".")[2:]
-        for name, start, end in items_of(source):
+        for name, start, end in find_items(source):
             lines = source.rest.split("\n")
             if name in source.words("\n".join(lines[:start] + lines[end:])):
                 continue
@@ -133,10 +142,16 @@ def dead_items(sources, chosen):
             yield f"{source.path}:{start + 1}: dead item: {name}"
 
 
-def is_named_elsewhere(source, name, by_module, sources, path):
+def is_named_elsewhere(
+    source: Source,
+    name: str,
+    by_module: dict[str, list[tuple[Source, Names]]],
+    sources: list[Source],
+    path: str,
+) -> bool:
     for other, names in by_module.get(source.module, ()):
         for local, real in names.items():
-            if real == name and imports.is_in(local, other.words()):
+            if real == name and imports.is_used(local, other.words()):
                 return True
             if real is None and re.search(
                 rf"(?<![\w.]){re.escape(local)}\.{re.escape(name)}(?![\w'-])", other.rest
@@ -146,7 +161,7 @@ def is_named_elsewhere(source, name, by_module, sources, path):
     return any(other.is_rust and f"{path}::{name}" in other.plain for other in sources)
 
 
-def stem(word):
+def stem(word: str) -> str:
     word = word.lower()
     for end in ("ings", "ing", "ies", "ied", "ed", "es", "s", "e", "y"):
         if word.endswith(end) and len(word) - len(end) >= 3:
@@ -154,7 +169,7 @@ def stem(word):
     return word
 
 
-def words_in(text):
+def words_in(text: str) -> set[str]:
     return {
         stem(word)
         for word in re.findall(
@@ -165,7 +180,7 @@ def words_in(text):
     }
 
 
-def comments_of_names(source):
+def repeated_comments(source: Source) -> Iterator[str]:
     """Comments of one line that stand on an item and have no word that its name hasn't."""
     lines = source.text.split("\n")
     for number, line in enumerate(lines[:-1]):
@@ -191,7 +206,7 @@ def comments_of_names(source):
             yield f"{source.path}:{number + 1}: comment that repeats the name: {found[1]}"
 
 
-def main(words):
+def main(words: list[str]) -> int:
     if "--help" in words or "-h" in words:
         print(__doc__)
         return 0
@@ -211,7 +226,7 @@ def main(words):
         ]
         if len(lines) - 1 > LENGTH:
             found.append(f"{source.path}:1: long file: {len(lines) - 1} lines")
-        found += comments_of_names(source)
+        found += repeated_comments(source)
     for row in found:
         print(os.path.relpath(row))
     return 1 if found else 0

@@ -1,9 +1,9 @@
 #!/usr/bin/env bash
-# Judges the sources of what stands beside the proved program, without running them: lint.sh shell | python | types | c
+# Checks the sources of everything beside the proved program, without running them: lint.sh shell | python | types | c
 #
-#     shell     shellcheck, over each shell script; .shellcheckrc says by what
-#     python    flake8, over all Python; setup.cfg says by what
-#     types     mypy, over view/, campaign/ and bench/clock/, by setup.cfg too
+#     shell     shellcheck, over each shell script, with .shellcheckrc
+#     python    black (its layout, with pyproject.toml) and flake8 (with setup.cfg), over all Python
+#     types     mypy --strict, over campaign/, bench/clock/ and tools/, and mypy over view/, with setup.cfg
 #     c         clang-format, clang-tidy and gcc's analyzer, over native/ and, by the cross compiler that the kit's C library comes with, over the kit; a warning is an error
 #
 # What isn't installed is skipped: the status is 77, and the last line names it.
@@ -98,18 +98,35 @@ case ${1:-} in
         ;;
     python)
         "$python" -c "import flake8" 2>/dev/null || lacks flake8 python3-flake8
+        "$python" -c "import black" 2>/dev/null || lacks black black
         mapfile -t found < <(python_files)
         echo "${#found[@]} files"
-        ((${#found[@]} > 0)) && "$python" -m flake8 "${found[@]}"
+        ((${#found[@]} > 0)) || exit 1
+        status=0
+        "$python" -m black --quiet --check "${found[@]}" || {
+            status=1
+            "$python" -m black --check "${found[@]}" 2>&1 | grep "^would reformat"
+        }
+        # (the texts that view/ compares make longer lines)
+        mapfile -t long < <(printf '%s\n' "${found[@]}" | grep '^view/')
+        mapfile -t others < <(printf '%s\n' "${found[@]}" | grep -v '^view/')
+        "$python" -m flake8 --max-line-length=140 "${long[@]}" || status=1
+        "$python" -m flake8 "${others[@]}" || status=1
+        exit "$status"
         ;;
     types)
         command -v mypy >/dev/null || lacks mypy mypy
         status=0
-        # (each folder by itself: two have a main.py)
+        check_types() { mypy --cache-dir="$cache" "$@" || status=1; }
+        cache=$(mktemp -d)
+        trap 'rm -rf "$cache"' EXIT
         mapfile -t found < <(python_files | grep '^view/' | grep -v '^view/tests/')
-        mypy --cache-dir=/dev/null "${found[@]}" || status=1
-        for it in campaign bench/clock; do
-            mypy --cache-dir=/dev/null "$it"/*.py || status=1
+        check_types "${found[@]}"
+        mapfile -t found < <(python_files | grep '^campaign/' | grep -v '^campaign/\(tests\|profiles\)/')
+        check_types --strict --follow-imports=silent "${found[@]}"
+        # (folders of scripts, which find their modules beside them)
+        for folder in bench/clock tools tools/edges; do
+            MYPYPATH=$folder:tools:tools/edges check_types --strict "$folder"/*.py
         done
         exit "$status"
         ;;

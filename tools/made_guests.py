@@ -1,8 +1,9 @@
-"""Programs that growth.py makes, of any size: what each does, and what the commands must say of it. By guest/README.md alone."""
+"""Programs that growth.py makes, of any size: what each does, and what the commands must say of it. By
+guest/README.md alone."""
 
 from typing import Callable, NamedTuple
 
-from rv32 import CODE, Code, Segment, Symbol, elf, named
+from rv32 import CODE, Code, Segment, Symbol, elf, symbol_table
 from traces import FUNCTION, OBJECT
 
 # Where the variables of those lie that have some, the heap of those that have none, and lines.
@@ -13,9 +14,9 @@ WORKER = CODE + 4
 
 
 class Guest(NamedTuple):
-    """A program, its settings, and its outcome as a report has it; how many lines of what `run`, `explain` and `check` print begin with
-    what, or, where the number is negative, at least how many; a schedule and a file of settings; and the status. `explain` is asked about
-    the line at DATA."""
+    """A program, its settings, and its outcome as a report has it; how many lines of what `run`, `explain`
+    and `check` print begin with what, or, where the number is negative, at least how many; a schedule and a
+    file of settings; and the status. `explain` is asked about the line at DATA."""
 
     program: bytes
     settings: str = ""
@@ -28,16 +29,16 @@ class Guest(NamedTuple):
     status: int = 0
 
 
-def alone(code: Code) -> bytes:
+def guest_of_code(code: Code) -> bytes:
     """The program of code without variables."""
     return elf([Segment(CODE, code.bytes(), 4 * len(code.words), 5)])
 
 
-def with_data(code: Code, size: int, symbols: list[tuple[str, int, int, int]] = []) -> bytes:
+def guest_with_data(code: Code, size: int, symbols: list[tuple[str, int, int, int]] = []) -> bytes:
     """The program of code with so many bytes from DATA on."""
     return elf(
         [Segment(CODE, code.bytes(), 4 * len(code.words), 5), Segment(DATA, b"", size, 6)],
-        *named(symbols),
+        *symbol_table(symbols),
     )
 
 
@@ -45,16 +46,16 @@ def ends(n: int) -> Guest:
     """It ends at once."""
     code = Code()
     code.call("exit_group", 0)
-    return Guest(alone(code))
+    return Guest(guest_of_code(code))
 
 
 # ---- The heap. Each says by its exit code where the last block is, counted from the beginning of the heap.
 
 
-def said(code: Code, of: str, wanted: int, settings: str = "") -> Guest:
+def guest_exiting(code: Code, of: str, wanted: int, settings: str = "") -> Guest:
     """It ends with what a register has."""
     code.call("exit_group", of)
-    return Guest(alone(code), settings, f"exit {wanted % 2**32}")
+    return Guest(guest_of_code(code), settings, f"exit {wanted % 2**32}")
 
 
 def make_blocks(code: Code, count: int, size: int) -> None:
@@ -66,7 +67,8 @@ def make_blocks(code: Code, count: int, size: int) -> None:
 
 
 def free_blocks(code: Code, count: int, first: int, step: int, below: int = 0) -> None:
-    """Frees blocks from the place of one on, in steps, and by what is below a power of two. The sum of the answers comes to s0."""
+    """Frees blocks from the place of one on, in steps, and by what is below a power of two. The sum of the
+    answers comes to s0."""
     code.set("s2", first)
     code.set("s3", step)
     code.set("s4", below - 1)
@@ -87,7 +89,7 @@ def blocks_freed(n: int, first: int, step: int, below: int = 0) -> Guest:
     code.set("s6", "s0")
     make_blocks(code, 1, 32 * n)
     code.put("add", "s0", "s0", "s6")
-    return said(code, "s0", 32 * (n - 1))
+    return guest_exiting(code, "s0", 32 * (n - 1))
 
 
 def freed_in_order(n: int) -> Guest:
@@ -110,11 +112,12 @@ def low_hole(n: int) -> Guest:
     make_blocks(code, 1, 169)
     free_blocks(code, 1, 0, 0)
     make_blocks(code, n, 169)
-    return said(code, "s0", 16 + 176 * n)
+    return guest_exiting(code, "s0", 16 + 176 * n)
 
 
 def low_hole_again(n: int) -> Guest:
-    """Below many blocks one is freed and made again and again, and each time another one is made behind the others."""
+    """Below many blocks one is freed and made again and again, and each time another one is made behind the
+    others."""
     code = Code()
     make_blocks(code, n, 24)
     code.set("s5", HEAP)
@@ -123,7 +126,7 @@ def low_hole_again(n: int) -> Guest:
         code.call("alloc", 24)
         code.call("alloc", 24)
     code.put("sub", "s0", "a0", "s5")
-    return said(code, "s0", 32 * (2 * n - 1))
+    return guest_exiting(code, "s0", 32 * (2 * n - 1))
 
 
 def every_second(n: int) -> Guest:
@@ -132,7 +135,7 @@ def every_second(n: int) -> Guest:
     make_blocks(code, 2 * n, 16)
     free_blocks(code, n, 0, 32)
     make_blocks(code, n, 24)
-    return said(code, "s0", 32 * n + 32 * (n - 1))
+    return guest_exiting(code, "s0", 32 * n + 32 * (n - 1))
 
 
 def one_place(n: int) -> Guest:
@@ -145,10 +148,10 @@ def one_place(n: int) -> Guest:
         code.put("sub", "t0", "a0", "s5")
         code.put("add", "s0", "s0", "t0")
         code.call("free", "a0")
-    return said(code, "s0", 0)
+    return guest_exiting(code, "s0", 0)
 
 
-def drawn(count: int, state: int) -> tuple[list[int], int]:
+def random_numbers(count: int, state: int) -> tuple[list[int], int]:
     """So many sizes of 16 to 512 bytes, and the state behind them."""
     sizes = []
     for _ in range(count):
@@ -158,9 +161,11 @@ def drawn(count: int, state: int) -> tuple[list[int], int]:
 
 
 def places_in_holes(n: int) -> int:
-    """The sum of the places of the blocks that holes_of_all_sizes makes last, each the least one that is free."""
-    sizes, state = drawn(n, 1)
-    holes, at, total = [], 0, 0
+    """The sum of the places of the blocks that holes_of_all_sizes makes last, each the least one that is
+    free."""
+    sizes, state = random_numbers(n, 1)
+    holes: list[list[int]] = []
+    at = total = 0
     # (the last one is what lies behind all of them)
     for size in [*sizes, 2**32 + 16]:
         if size & 16 and holes and sum(holes[-1]) == at:
@@ -168,7 +173,7 @@ def places_in_holes(n: int) -> int:
         elif size & 16:
             holes.append([at, size])
         at += size
-    for size in drawn(n, state)[0]:
+    for size in random_numbers(n, state)[0]:
         hole = next(it for it in holes if it[1] >= size)
         total += hole[0]
         hole[0], hole[1] = hole[0] + size, hole[1] - size
@@ -187,8 +192,8 @@ def draw_size(code: Code) -> None:
 
 
 def holes_of_all_sizes(n: int) -> Guest:
-    """Of blocks of 16 to 512 bytes those of an odd number of sixteens are freed, and as many are made again as before. It ends with the sum
-    of their places."""
+    """Of blocks of 16 to 512 bytes those of an odd number of sixteens are freed, and as many are made again
+    as before. It ends with the sum of their places."""
     code = Code()
     for register, value in (
         ("s3", 1),
@@ -223,7 +228,7 @@ def holes_of_all_sizes(n: int) -> Guest:
         code.call("alloc", "a0")
         code.put("add", "s0", "s0", "a0")
         code.put("sub", "s0", "s0", "s2")
-    return said(code, "s0", places_in_holes(n))
+    return guest_exiting(code, "s0", places_in_holes(n))
 
 
 # ---- Lines that two harts share.
@@ -257,7 +262,7 @@ def lines(n: int) -> Guest:
     code = two_harts(n)
     share_lines(code, n, DATA)
     code.call("exit_group", 0)
-    return Guest(with_data(code, LINE * n), LISTED, run=((f"lines {n}", 1), ("word", 2 * n)))
+    return Guest(guest_with_data(code, LINE * n), LISTED, run=((f"lines {n}", 1), ("word", 2 * n)))
 
 
 def symbols(n: int) -> Guest:
@@ -267,7 +272,7 @@ def symbols(n: int) -> Guest:
     code.call("exit_group", 0)
     places = [(f"variable{i}", DATA + LINE * i, 8, OBJECT) for i in range(n)]
     return Guest(
-        with_data(code, LINE * n, places),
+        guest_with_data(code, LINE * n, places),
         LISTED,
         run=((f"lines {n}", 1), ("object symbol", n)),
         checked=((f"objects {n}", 1),),
@@ -292,7 +297,7 @@ def functions(n: int) -> Guest:
         ("all", CODE, 4 * len(code.words), FUNCTION)
     ]
     return Guest(
-        with_data(code, 4 * n, places),
+        guest_with_data(code, 4 * n, places),
         LISTED,
         run=((f"lines {n}", 1), ("object block", n), ("site", n)),
     )
@@ -312,7 +317,9 @@ def noted(n: int) -> Guest:
         code.call("unblock", "s2")
         code.put("add", "s0", "s0", "a0")
     code.call("exit_group", "s0")
-    return Guest(with_data(code, LINE * n), LISTED, run=((f"lines {n}", 1), ("object block", n)))
+    return Guest(
+        guest_with_data(code, LINE * n), LISTED, run=((f"lines {n}", 1), ("object block", n))
+    )
 
 
 def noted_at_one_place(n: int) -> Guest:
@@ -323,7 +330,7 @@ def noted_at_one_place(n: int) -> Guest:
         code.call("block", "s2", 48)
         code.put("add", "s0", "s0", "a0")
     code.call("exit_group", "s0")
-    return Guest(with_data(code, LINE))
+    return Guest(guest_with_data(code, LINE))
 
 
 def noted_wide(n: int) -> Guest:
@@ -335,7 +342,7 @@ def noted_wide(n: int) -> Guest:
         code.call("block", "s2", 4096 * n)
         code.put("add", "s0", "s0", "a0")
     code.call("exit_group", "s0")
-    return Guest(with_data(code, 4096 * n), "memory=67108864")
+    return Guest(guest_with_data(code, 4096 * n), "memory=67108864")
 
 
 # ---- Instructions that take one line from each other.
@@ -357,7 +364,9 @@ def stores(n: int) -> Code:
 
 def sites(n: int) -> Guest:
     explained = ((f"line 0x{DATA:08x}", 1), (f"sites {n}", 1), ("pair", -n))
-    return Guest(with_data(stores(n), LINE), LISTED, run=(("lines 1", 1),), explained=explained)
+    return Guest(
+        guest_with_data(stores(n), LINE), LISTED, run=(("lines 1", 1),), explained=explained
+    )
 
 
 def sites_in_functions(n: int) -> Guest:
@@ -365,7 +374,7 @@ def sites_in_functions(n: int) -> Guest:
     places = [(f"function{i}", CODE + 4 * (12 + i), 4, FUNCTION) for i in range(n)]
     explained = ((f"sites {n}", 1), ("pair", -n))
     return Guest(
-        with_data(stores(n), LINE, places[::-1]),
+        guest_with_data(stores(n), LINE, places[::-1]),
         LISTED,
         explained=explained,
         checked=((f"functions {n}", 1),),
@@ -382,7 +391,8 @@ def begin_harts(code: Code, harts: int = 256) -> None:
 
 
 def waits(n: int) -> Guest:
-    """255 harts wait at a word, of which one is woken at a time and waits again. It ends with how many were woken."""
+    """255 harts wait at a word, of which one is woken at a time and waits again. It ends with how many were
+    woken."""
     code = Code()
     code.jump("begin")
     code.label("worker")
@@ -398,7 +408,7 @@ def waits(n: int) -> Guest:
         code.call("wake", DATA, 1)
         code.put("add", "s0", "s0", "a0")
     code.call("exit_group", "s0")
-    return Guest(with_data(code, LINE), "harts=256,stack=4096,quantum=1", f"exit {n}")
+    return Guest(guest_with_data(code, LINE), "harts=256,stack=4096,quantum=1", f"exit {n}")
 
 
 def spawns(n: int) -> Guest:
@@ -412,7 +422,7 @@ def spawns(n: int) -> Guest:
         code.call("spawn", WORKER, 0)
         code.call("join", "a0")
         code.put("add", "s0", "s0", "a0")
-    return said(code, "s0", 3 * n)
+    return guest_exiting(code, "s0", 3 * n)
 
 
 def turns(n: int, harts: int = 256) -> Guest:
@@ -425,11 +435,12 @@ def turns(n: int, harts: int = 256) -> Guest:
     begin_harts(code, harts)
     code.jump("worker")
     settings = f"harts={harts},stack=4096,quantum=1,budget={16 * n}"
-    return Guest(alone(code), settings, "budget", ((f"steps {16 * n}", 1),), status=10)
+    return Guest(guest_of_code(code), settings, "budget", ((f"steps {16 * n}", 1),), status=10)
 
 
 def drawn_turns(n: int) -> Guest:
-    """The same by drawn turns, which go to fewer harts, since the first one begins the others by few of them."""
+    """The same by drawn turns, which go to fewer harts, since the first one begins the others by few of
+    them."""
     guest = turns(n, 64)
     return guest._replace(settings=f"{guest.settings},seed=1")
 
@@ -439,7 +450,7 @@ def prints(n: int) -> Guest:
     code = Code()
     with code.times(n, "s1"):
         code.call("write", 1, CODE, 64)
-    return said(code, "a0", 64)
+    return guest_exiting(code, "a0", 64)
 
 
 # ---- Program files.
@@ -487,7 +498,9 @@ def two_turns(budget: int) -> Guest:
     code.label("begin")
     code.call("spawn", WORKER, 0)
     code.jump("worker")
-    return Guest(alone(code), f"budget={budget}", "budget", ((f"steps {budget}", 1),), status=10)
+    return Guest(
+        guest_of_code(code), f"budget={budget}", "budget", ((f"steps {budget}", 1),), status=10
+    )
 
 
 def schedule(n: int) -> Guest:
@@ -514,7 +527,7 @@ def schedule_refused(n: int) -> Guest:
     )
 
 
-def settings_of(text: str, fault: str = "") -> Guest:
+def guest_with_settings(text: str, fault: str = "") -> Guest:
     if not fault:
         return ends(1)._replace(file=text.encode(), checked=(("objects 0", 1),))
     return ends(1)._replace(
@@ -523,49 +536,53 @@ def settings_of(text: str, fault: str = "") -> Guest:
 
 
 def comments(n: int) -> Guest:
-    return settings_of("#\n" * (n // 4 - 8) + "report = 1\n" + "  " * (n // 4 - 8))
+    return guest_with_settings("#\n" * (n // 4 - 8) + "report = 1\n" + "  " * (n // 4 - 8))
 
 
 def keys(n: int) -> Guest:
-    return settings_of("".join(f"k{i:06}=1\n" for i in range(n // 10)), "UnknownKey k000000")
+    return guest_with_settings(
+        "".join(f"k{i:06}=1\n" for i in range(n // 10)), "UnknownKey k000000"
+    )
 
 
 def long_key(n: int) -> Guest:
-    return settings_of("k" * (n - 8) + " = 1\n", "UnknownKey " + 1024 * "k")
+    return guest_with_settings("k" * (n - 8) + " = 1\n", "UnknownKey " + 1024 * "k")
 
 
 def tables(n: int) -> Guest:
-    return settings_of("".join(f"[k{i:05}]\n" for i in range(n // 9)), "UnknownKey k00000")
+    return guest_with_settings("".join(f"[k{i:05}]\n" for i in range(n // 9)), "UnknownKey k00000")
 
 
 def tables_in_tables(n: int) -> Guest:
-    return settings_of("".join(f"[k.k{i:05}]\n" for i in range(n // 11)), "UnknownKey k")
+    return guest_with_settings("".join(f"[k.k{i:05}]\n" for i in range(n // 11)), "UnknownKey k")
 
 
 def arrays_of_tables(n: int) -> Guest:
-    return settings_of("[[k]]\n" * (n // 6), "UnknownKey k")
+    return guest_with_settings("[[k]]\n" * (n // 6), "UnknownKey k")
 
 
 def dotted(n: int) -> Guest:
-    return settings_of("".join(f"k.k{i:05}.a.b.c=1\n" for i in range(n // 17)), "UnknownKey k")
+    return guest_with_settings(
+        "".join(f"k.k{i:05}.a.b.c=1\n" for i in range(n // 17)), "UnknownKey k"
+    )
 
 
 def arrays(n: int) -> Guest:
-    return settings_of("k = [" + "1," * (n // 2 - 8) + "]\n", "UnknownKey k")
+    return guest_with_settings("k = [" + "1," * (n // 2 - 8) + "]\n", "UnknownKey k")
 
 
 def arrays_in_arrays(n: int) -> Guest:
-    return settings_of("k = [" + "[[[[]]]]," * (n // 9 - 2) + "]\n", "UnknownKey k")
+    return guest_with_settings("k = [" + "[[[[]]]]," * (n // 9 - 2) + "]\n", "UnknownKey k")
 
 
 def strings(n: int) -> Guest:
-    return settings_of('k = "' + "\\n" * (n // 2 - 8) + '"\n', "UnknownKey k")
+    return guest_with_settings('k = "' + "\\n" * (n // 2 - 8) + '"\n', "UnknownKey k")
 
 
 class GuestCase(NamedTuple):
-    """A guest of two sizes, of which `size` is the lesser one, and the commands that it is made for; the greatest size that it may have; a
-    size that costs next to nothing, if another guest can't stand for that; and commands whose text of it is a square.
-    """
+    """A guest of two sizes, of which `size` is the lesser one, and the commands that it is made for; the
+    greatest size that it may have; a size that costs next to nothing, if another guest can't stand for that;
+    and commands whose text of it is a square."""
 
     name: str
     make: Callable[[int], Guest]

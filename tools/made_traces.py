@@ -1,4 +1,5 @@
-"""Traces that growth.py makes, of any size: what stands in each, and what the commands must say of it. By docs/FORMATS.md alone."""
+"""Traces that growth.py makes, of any size: what stands in each, and what the commands must say of it. By
+docs/FORMATS.md alone."""
 
 import random
 import struct
@@ -12,10 +13,11 @@ LINES, CODE, ELSEWHERE = 0x100000, 0x10000, 0xF0000000
 SITES = (0, 0, 0, 0)
 
 
-class Made(NamedTuple):
-    """A trace: how many harts and accesses it has; how many lines are listed with `tracking` and `report` of 1 and the settings here; how
-    many lines of objects and of sites stand below them; and a name for `place`. For `blame` its accesses have so many pcs, in turn, and for
-    `move` the places of its lines may fall as the lines rise."""
+class TraceCaseFile(NamedTuple):
+    """A trace: how many harts and accesses it has; how many lines are listed with `tracking` and `report` of
+    1 and the settings here; how many lines of objects and of sites stand below them; and a name for `place`.
+    For `blame` its accesses have so many pcs, in turn, and for `move` the places of its lines may fall as the
+    lines rise."""
 
     trace: bytes
     harts: int
@@ -49,7 +51,7 @@ class Trace:
     def symbol(self, kind: int, addr: int, size: int, name: bytes) -> None:
         self.bytes += struct.pack("<BBIIH", 5, kind, addr, size, len(name)) + name
 
-    def alloc(self, addr: int, size: int, sites: tuple[int, int, int, int] = SITES) -> None:
+    def alloc(self, addr: int, size: int, sites: tuple[int, ...] = SITES) -> None:
         self.bytes += struct.pack("<BII4I", 3, addr, size, *sites)
 
     def free(self, addr: int) -> None:
@@ -57,9 +59,9 @@ class Trace:
 
     def made(
         self, lines: int, objects: int = 0, sites: int = 0, object: str = "", settings: str = ""
-    ) -> Made:
+    ) -> TraceCaseFile:
         end = struct.pack("<B8xQQ", 6, self.accesses, self.accesses)
-        return Made(
+        return TraceCaseFile(
             bytes(self.bytes) + end,
             self.harts,
             self.accesses,
@@ -78,7 +80,7 @@ def shuffled(n: int) -> list[int]:
     return numbers
 
 
-def rest_of(made: Made) -> bytes:
+def rest_of_trace(made: TraceCaseFile) -> bytes:
     """The trace without an access that goes on behind another one."""
     return Trace(made.harts, made.accesses).made(0).trace
 
@@ -86,7 +88,7 @@ def rest_of(made: Made) -> bytes:
 # ---- Symbols.
 
 
-def symbols_apart(n: int) -> Made:
+def symbols_apart(n: int) -> TraceCaseFile:
     """Each on a line of its own."""
     trace = Trace()
     for i in range(n):
@@ -96,8 +98,8 @@ def symbols_apart(n: int) -> Made:
     return trace.made(n, objects=n, object=f"symbol{n - 1}")
 
 
-def symbols_shuffled(n: int) -> Made:
-    """The same, neither told nor used in the order of their addresses; each reaches over three lines."""
+def symbols_shuffled(n: int) -> TraceCaseFile:
+    """The same, neither declared nor used in the order of their addresses; each reaches over three lines."""
     trace = Trace()
     for i in shuffled(n):
         trace.symbol(OBJECT, LINES + LINE * i, 3 * LINE, b"symbol%d" % i)
@@ -106,7 +108,7 @@ def symbols_shuffled(n: int) -> Made:
     return trace.made(n, objects=3 * n - 3, object="symbol0")
 
 
-def symbols_nested(n: int) -> Made:
+def symbols_nested(n: int) -> TraceCaseFile:
     """A tree of them, as structures in structures: each but those of one line holds two others."""
     trace = Trace()
     objects, length = 0, n // 2
@@ -120,7 +122,7 @@ def symbols_nested(n: int) -> Made:
     return trace.made(n // 2, objects=objects, object="node0.1")
 
 
-def symbols_under_one(n: int) -> Made:
+def symbols_under_one(n: int) -> TraceCaseFile:
     """One lies over all the others."""
     trace = Trace()
     trace.symbol(OBJECT, LINES, LINE * n + 4, b"all")
@@ -131,7 +133,7 @@ def symbols_under_one(n: int) -> Made:
     return trace.made(n, objects=2 * n, object="all")
 
 
-def symbols_equal(n: int) -> Made:
+def symbols_equal(n: int) -> TraceCaseFile:
     """Told four times each, and those of every eighth line begin at one place."""
     trace = Trace()
     for i in range(4 * n):
@@ -142,7 +144,7 @@ def symbols_equal(n: int) -> Made:
     return trace.made(n, objects=n, object="symbol0")
 
 
-def symbols_at_one_place(n: int) -> Made:
+def symbols_at_one_place(n: int) -> TraceCaseFile:
     """All of them begin at one line, which is listed, and so are as many lines where none is."""
     trace = Trace()
     for i in range(n):
@@ -153,7 +155,7 @@ def symbols_at_one_place(n: int) -> Made:
     return trace.made(n + 1, objects=n, object=f"symbol{n - 1}")
 
 
-def names_long(n: int) -> Made:
+def names_long(n: int) -> TraceCaseFile:
     """Symbols apart, with names of 1024 bytes that aren't printed as they are."""
     trace = Trace()
     for i in range(n):
@@ -165,7 +167,7 @@ def names_long(n: int) -> Made:
 # ---- Functions and call sites.
 
 
-def functions(n: int) -> Made:
+def functions(n: int) -> TraceCaseFile:
     """Blocks on lines of their own, each with four sites in four functions."""
     trace = Trace()
     for i in range(n):
@@ -178,7 +180,7 @@ def functions(n: int) -> Made:
     return trace.made(n, objects=n, sites=4 * n, object=f"0x{LINES:x}")
 
 
-def functions_nested(n: int) -> Made:
+def functions_nested(n: int) -> TraceCaseFile:
     """The same with one function around all of them, which comes last, and sites that no function holds."""
     trace = Trace()
     for i in range(n):
@@ -193,22 +195,22 @@ def functions_nested(n: int) -> Made:
 # ---- Blocks.
 
 
-def blocks_apart(n: int) -> Made:
+def blocks_apart(n: int) -> TraceCaseFile:
     """Each on a line of its own, and freed in the order of making."""
     return blocks_freed(n, list(range(n)))
 
 
-def blocks_reversed(n: int) -> Made:
+def blocks_reversed(n: int) -> TraceCaseFile:
     """The same, freed from the last one on."""
     return blocks_freed(n, list(range(n))[::-1])
 
 
-def blocks_shuffled(n: int) -> Made:
+def blocks_shuffled(n: int) -> TraceCaseFile:
     """The same, freed at random."""
     return blocks_freed(n, shuffled(n))
 
 
-def blocks_freed(n: int, order: list[int]) -> Made:
+def blocks_freed(n: int, order: list[int]) -> TraceCaseFile:
     trace = Trace()
     for i in range(n):
         trace.alloc(LINES + LINE * i, 48)
@@ -218,7 +220,7 @@ def blocks_freed(n: int, order: list[int]) -> Made:
     return trace.made(n, objects=n, object=f"0x{LINES:x}")
 
 
-def blocks_wide(n: int) -> Made:
+def blocks_wide(n: int) -> TraceCaseFile:
     """Each reaches over eight lines, on which seven others live."""
     trace = Trace()
     for i in range(n):
@@ -231,7 +233,7 @@ def blocks_wide(n: int) -> Made:
     return trace.made(n, objects=objects, object=f"0x{LINES:x}")
 
 
-def blocks_under_one(n: int) -> Made:
+def blocks_under_one(n: int) -> TraceCaseFile:
     """One lives as long as all the others, and lies over them."""
     trace = Trace()
     trace.alloc(LINES - LINE, LINE * (n + 2))
@@ -243,7 +245,7 @@ def blocks_under_one(n: int) -> Made:
     return trace.made(n, objects=2 * n, object=f"0x{LINES - LINE:x}")
 
 
-def blocks_at_one_place(n: int) -> Made:
+def blocks_at_one_place(n: int) -> TraceCaseFile:
     """Many lives at one address, and as many lines elsewhere."""
     trace = Trace()
     for i in range(n):
@@ -254,7 +256,7 @@ def blocks_at_one_place(n: int) -> Made:
     return trace.made(n + 1, objects=n)
 
 
-def blocks_before(n: int) -> Made:
+def blocks_before(n: int) -> TraceCaseFile:
     """Each lies over all lines, and is dead before they are used."""
     trace = Trace()
     for _ in range(n):
@@ -269,7 +271,7 @@ def blocks_before(n: int) -> Made:
 # ---- Lines and accesses.
 
 
-def lines(n: int) -> Made:
+def lines(n: int) -> TraceCaseFile:
     """Next to each other, in any order, and taken twice to eight times."""
     trace = Trace()
     for i in shuffled(n):
@@ -278,12 +280,12 @@ def lines(n: int) -> Made:
     return trace.made(n)
 
 
-def lines_turned(n: int) -> Made:
+def lines_turned(n: int) -> TraceCaseFile:
     """The same, for a table whose places fall."""
     return lines(n)._replace(is_turned=True)
 
 
-def lines_apart(n: int) -> Made:
+def lines_apart(n: int) -> TraceCaseFile:
     """Each on 64 KiB of its own."""
     trace = Trace()
     for i in range(n):
@@ -291,9 +293,9 @@ def lines_apart(n: int) -> Made:
     return trace.made(n)
 
 
-def borders(n: int) -> Made:
-    """The words at each border are used by two harts, each line by one: a shifted line is predicted at each border, and a doubled one of
-    each two lines."""
+def borders(n: int) -> TraceCaseFile:
+    """The words at each border are used by two harts, each line by one: a shifted line is predicted at each
+    border, and a doubled one of each two lines."""
     trace = Trace()
     for i in range(n):
         for _ in range(4):
@@ -307,7 +309,7 @@ def borders(n: int) -> Made:
     return trace.made(n + n // 2, settings="prediction=1")
 
 
-def harts(n: int) -> Made:
+def harts(n: int) -> TraceCaseFile:
     """256 harts on one line, which read and write it."""
     trace = Trace(256)
     for i in range(n):
@@ -316,7 +318,7 @@ def harts(n: int) -> Made:
     return trace.made(1)
 
 
-def large_object(n: int) -> Made:
+def large_object(n: int) -> TraceCaseFile:
     """A block of so many words, each of which one of 256 harts uses, and many use some."""
     trace = Trace(256)
     trace.alloc(LINES, 4 * n)
@@ -327,7 +329,7 @@ def large_object(n: int) -> Made:
     return trace.made(n // 16, objects=n // 16, object=f"0x{LINES:x}")
 
 
-def instructions(n: int) -> Made:
+def instructions(n: int) -> TraceCaseFile:
     """Two harts take a line from each other by so many pairs of instructions."""
     trace = Trace()
     for i in range(n):
@@ -335,7 +337,7 @@ def instructions(n: int) -> Made:
     return trace.made(1)._replace(pcs=n // 2)
 
 
-def instructions_of_lines(n: int) -> Made:
+def instructions_of_lines(n: int) -> TraceCaseFile:
     """So many lines with a few pairs each, all of them different."""
     trace = Trace()
     for i in shuffled(n):
@@ -344,12 +346,12 @@ def instructions_of_lines(n: int) -> Made:
 
 
 class TraceCase(NamedTuple):
-    """A trace of two sizes, of which `size` is the lesser one, and the commands that it is made for; the greatest size that it may have; a
-    size that costs next to nothing, if another trace can't stand for that; and commands whose text of it is a square.
-    """
+    """A trace of two sizes, of which `size` is the lesser one, and the commands that it is made for; the
+    greatest size that it may have; a size that costs next to nothing, if another trace can't stand for that;
+    and commands whose text of it is a square."""
 
     name: str
-    make: Callable[[int], Made]
+    make: Callable[[int], TraceCaseFile]
     size: int
     commands: str
     most: int = 1 << 20

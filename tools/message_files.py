@@ -1,12 +1,12 @@
-"""The files that messages.py gives to the program, each of them wrong in one way, and what is to be said of it by docs/FORMATS.md and
-crates/command_files. `*` stands for a report, which isn't looked at."""
+"""The files that messages.py gives to the program, each of them wrong in one way, and what is to be said of
+it by docs/FORMATS.md and crates/command_files. `*` stands for a report, which isn't looked at."""
 
 import os
 import shutil
 import struct
 from typing import Iterator
 
-from rv32 import CODE, Code, Segment, elf, named
+from rv32 import CODE, Code, Segment, elf, symbol_table
 from traces import OBJECT
 
 DATA = os.path.join(
@@ -45,7 +45,7 @@ def symbol(size: int, name: bytes, addr: int = 0x1000) -> bytes:
 def program(names: bytes = b"") -> bytes:
     code = Code()
     code.call("exit_group", 0)
-    symbols, own = named([("words", WORDS, 4, OBJECT)])
+    symbols, own = symbol_table([("words", WORDS, 4, OBJECT)])
     return elf(
         [Segment(CODE, code.bytes(), 4 * len(code.words), 5), Segment(WORDS, b"\1\0\0\0", 4, 6)],
         symbols,
@@ -53,7 +53,7 @@ def program(names: bytes = b"") -> bytes:
     )
 
 
-def patched(place: int, form: str, value: int) -> bytes:
+def patch_program(place: int, form: str, value: int) -> bytes:
     """The program with another number at a place of its file."""
     made = bytearray(program())
     struct.pack_into(form, made, place, value)
@@ -64,96 +64,96 @@ def patched(place: int, form: str, value: int) -> bytes:
 SECOND = 52 + 32
 SYMBOLS = 40 + int.from_bytes(program()[32:36], "little")
 PROGRAMS = {
-    "magic.elf": (patched(0, "<B", 1), "BadMagic", f"the file is not an ELF file: {BUILD}"),
+    "magic.elf": (patch_program(0, "<B", 1), "BadMagic", f"the file is not an ELF file: {BUILD}"),
     "empty.elf": (b"", "TooShort", f"the file is not an ELF file: {BUILD}"),
     "script": (b"#!/bin/sh\n", "TooShort", f"the file is a script: {BUILD}"),
-    "wide.elf": (patched(4, "<B", 2), "BadClass", f"the file is an ELF file for RV64: {BUILD}"),
+    "wide.elf": (patch_program(4, "<B", 2), "BadClass", f"the file is an ELF file for RV64: {BUILD}"),
     "turned.elf": (
-        patched(5, "<B", 2),
+        patch_program(5, "<B", 2),
         "BadData",
         f"the file is an ELF file for another machine: {BUILD}",
     ),
     "version.elf": (
-        patched(6, "<B", 2),
+        patch_program(6, "<B", 2),
         "BadVersion",
         f"the file has an unknown ELF version: {AGAIN}",
     ),
     "object.elf": (
-        patched(16, "<H", 1),
+        patch_program(16, "<H", 1),
         "BadType",
         f"the file is an object file, not linked yet: {LINK}",
     ),
     "shared.elf": (
-        patched(16, "<H", 3),
+        patch_program(16, "<H", 3),
         "BadType",
         f"the file is a shared object or a position-independent program: {LINK}",
     ),
     "core.elf": (
-        patched(16, "<H", 4),
+        patch_program(16, "<H", 4),
         "BadType",
         f"the file is not an executable with fixed addresses: {LINK}",
     ),
-    "x86.elf": (patched(18, "<H", 3), "BadMachine", f"the file is an ELF file for x86: {BUILD}"),
-    "arm.elf": (patched(18, "<H", 40), "BadMachine", f"the file is an ELF file for ARM: {BUILD}"),
+    "x86.elf": (patch_program(18, "<H", 3), "BadMachine", f"the file is an ELF file for x86: {BUILD}"),
+    "arm.elf": (patch_program(18, "<H", 40), "BadMachine", f"the file is an ELF file for ARM: {BUILD}"),
     "arm64.elf": (
-        patched(18, "<H", 183),
+        patch_program(18, "<H", 183),
         "BadMachine",
         f"the file is an ELF file for AArch64: {BUILD}",
     ),
     "flags.elf": (
-        patched(36, "<I", 1),
+        patch_program(36, "<I", 1),
         "BadFlags",
         "the program uses compressed instructions, floating-point registers or RV32E registers: "
         "compile it for little-endian RV32 with -march=rv32ima -mabi=ilp32",
     ),
     "headers.elf": (
-        patched(42, "<H", 31),
+        patch_program(42, "<H", 31),
         "BadHeaderSize",
         f"the ELF headers have the wrong size for RV32: {AGAIN}",
     ),
     "outside.elf": (
-        patched(28, "<I", 1 << 20),
+        patch_program(28, "<I", 1 << 20),
         "HeadersOutside",
         f"the ELF headers extend past the end of the file: {AGAIN}",
     ),
     "dynamic.elf": (
-        patched(SECOND, "<I", 2),
+        patch_program(SECOND, "<I", 2),
         "Dynamic",
         f"the program is linked dynamically: {LINK}",
     ),
     "segment.elf": (
-        patched(SECOND + 4, "<I", 1 << 20),
+        patch_program(SECOND + 4, "<I", 1 << 20),
         "SegmentOutsideFile",
         f"a segment extends past the end of the file: {AGAIN}",
     ),
     "sizes.elf": (
-        patched(SECOND + 20, "<I", 3),
+        patch_program(SECOND + 20, "<I", 3),
         "SegmentSizes",
         f"a segment is larger in the file than in memory, or ends above 2^32: {SCRIPT}",
     ),
     "overlap.elf": (
-        patched(SECOND + 8, "<I", CODE),
+        patch_program(SECOND + 8, "<I", CODE),
         "SegmentOverlap",
         f"two segments overlap: {SCRIPT}",
     ),
     "high.elf": (
-        patched(SECOND + 8, "<I", 1 << 31),
+        patch_program(SECOND + 8, "<I", 1 << 31),
         "SegmentOutsideMemory",
         "the segments, the stacks and a heap do not fit in memory: "
         "set a larger `memory`, fewer `harts` or a smaller `stack` in the settings",
     ),
     "odd.elf": (
-        patched(24, "<I", CODE + 2),
+        patch_program(24, "<I", CODE + 2),
         "EntryMisaligned",
         f"the entry address is not a multiple of 4: {ENTRY}",
     ),
     "entry.elf": (
-        patched(24, "<I", WORDS),
+        patch_program(24, "<I", WORDS),
         "EntryNotExecutable",
         f"the entry address is not executable: {ENTRY}",
     ),
     "table.elf": (
-        patched(SYMBOLS + 20, "<I", 17),
+        patch_program(SYMBOLS + 20, "<I", 17),
         "BadSymbols",
         "the symbol table is damaged: remove the symbols with llvm-strip",
     ),
@@ -299,23 +299,23 @@ FILES: dict[str, bytes] = {
 def put_files() -> None:
     for kind in (PROGRAMS, TRACES, SCHEDULES, TABLES):
         for name, row in kind.items():
-            put(name, row[0])
+            put_file(name, row[0])
     for at, (wrong, right) in enumerate(LINES.items()):
-        put(f"wrong.{at}", wrong)
-        put(f"right.{at}", right)
+        put_file(f"wrong.{at}", wrong)
+        put_file(f"right.{at}", right)
     for name, content in FILES.items():
-        put(name, content)
-    put("state", b"bad")
+        put_file(name, content)
+    put_file("state", b"bad")
     for name in ("waits_for_ever.elf", "traps.elf", "plain.elf"):
         shutil.copy(os.path.join(DATA, name), name)
 
 
-def put(name: str, content: bytes) -> None:
+def put_file(name: str, content: bytes) -> None:
     with open(name, "wb") as file:
         file.write(content)
 
 
-def faults() -> Iterator[Fault]:
+def list_faults() -> Iterator[Fault]:
     """Each fault. The file `saved` is the state of `t`."""
     for name, row in PROGRAMS.items():
         yield ["check", name], 2, f"elf {row[1]}", f"{name}: {row[2]}"

@@ -3,14 +3,16 @@
 
 usage: tools/messages.py PROGRAM [--planted]
 
-Each key of the settings and each number among the words is given its bounds and what lies just beyond them, the keys by a file, by `--set`,
-and by one of them where the other is right: which file is named, or that none is. The ranges and names in what is to be said are put
-together from commands.toml, so that a message that tells another range than the one that is kept is found. Then each command gets words
-that are missing, twice or too many, and files with each fault. Of each call the status, the text and the line on standard error are
-compared, and no control character is to be in the line. tools/edges tries what is said where the system fails.
+Each key of the settings and each number among the words is given its bounds and what lies just beyond them,
+the keys by a file, by `--set`, and by one of them where the other is right: which file is named, or that none
+is. The ranges and names in what is to be said are put together from commands.toml, so that a message that
+tells another range than the one that is kept is found. Then each command gets words that are missing, twice
+or too many, and files with each fault. Of each call the status, the text and the line on standard error are
+compared, and no control character is to be in the line. tools/edges tries what is said where the system
+fails.
 
-With --planted each range of commands.toml is then widened, one after the other, as if the program kept another one or told another one than
-it keeps, and each must be found."""
+With --planted each range of commands.toml is then widened, one after the other, as if the program kept
+another one or told another one than it keeps, and each must be found."""
 
 import os
 import subprocess
@@ -20,8 +22,8 @@ from concurrent.futures import ThreadPoolExecutor
 from typing import Iterable, Iterator, NamedTuple
 
 import commands
-from commands import Row, bounds, flags, known, names_of, number, options_of
-from message_files import FORM, faults, put_files
+from commands import Row, boundary_values, flag_names, read_commands, operand_names, parse_number, option_names
+from message_files import FORM, list_faults, put_files
 
 USUAL = {
     "PROGRAM": "p",
@@ -46,9 +48,9 @@ LINES = "write a key and a whole number on each line, like `quantum = 1`"
 
 
 class Try(NamedTuple):
-    """A call: its words, its status, the line that it prints, nothing for the usage and `*` for any text, and what it says. A status of
-    None stands for each that isn't that of refused words or settings, of which the text and what is said aren't looked at.
-    """
+    """A call: its words, its status, the line that it prints, nothing for the usage and `*` for any text, and
+    what it says. A status of None stands for each that isn't that of refused words or settings, of which the
+    text and what is said aren't looked at."""
 
     words: list[str]
     status: int | None
@@ -56,18 +58,18 @@ class Try(NamedTuple):
     said: str = ""
 
 
-TABLE = known()
+TABLE = read_commands()
 COMMANDS = {it["name"]: it for it in TABLE["command"]}
 USAGE = commands.renew_usage("", TABLE)
-SPACE = {it["name"]: options_of(it) for it in TABLE["command"]}
+SPACE = {it["name"]: option_names(it) for it in TABLE["command"]}
 # The options without a value.
-BARE = set(flags(TABLE))
+BARE = set(flag_names(TABLE))
 
 
-def call(name: str, **others: str) -> list[str]:
+def least_call(name: str, **others: str) -> list[str]:
     """The least call of a command, with other words in the place of some."""
     given = USUAL | others
-    return [name, *(given[it] for it in names_of(COMMANDS[name])), *WANTED.get(name, [])]
+    return [name, *(given[it] for it in operand_names(COMMANDS[name])), *WANTED.get(name, [])]
 
 
 def usage(words: list[str], said: str) -> Try:
@@ -77,13 +79,13 @@ def usage(words: list[str], said: str) -> Try:
 # ---- Settings.
 
 
-def range_of(row: Row) -> str:
+def range_message(row: Row) -> str:
     """What is said of a key that is out of its range."""
     if "only" in row:
-        return f"`{row['key']}` must be {commands.values(row)}"
+        return f"`{row['key']}` must be {commands.value_text(row)}"
     least = f"`{row['least']}`" if isinstance(row["least"], str) else row["least"]
     kind = f"a multiple of {row['step']}" if "step" in row else "a whole number"
-    return f"`{row['key']}` must be {kind} from {least} to {number(row['greatest'])}"
+    return f"`{row['key']}` must be {kind} from {least} to {parse_number(row['greatest'])}"
 
 
 def settings_file(key: str, value: int) -> str:
@@ -95,47 +97,49 @@ def settings_file(key: str, value: int) -> str:
     return name
 
 
-def of_key(row: Row, usual: dict[str, int]) -> Iterator[Try]:
+def key_tries(row: Row, usual: dict[str, int]) -> Iterator[Try]:
     """A key with each value beside its bounds, by a file and by `--set`."""
-    key, allowed = row["key"], row["only"][0] if "only" in row else number(row["greatest"])
+    key, allowed = row["key"], row["only"][0] if "only" in row else parse_number(row["greatest"])
     other = "harts" if key != "harts" else "quantum"
-    for value, is_allowed in bounds(row, usual):
+    for value, is_allowed in boundary_values(row, usual):
         status, printed = (None, "") if is_allowed else (4, f"settings OutOfRange {key}")
         file, changed = settings_file(key, value), f"--set={key}={value}"
-        yield Try(["check", "p", changed], status, printed, range_of(row))
-        yield Try(["check", "p", "--settings", file], status, printed, f"{file}: {range_of(row)}")
-        # One of them is right: `--set` is to blame though there is a file, and the file though something else is changed.
+        yield Try(["check", "p", changed], status, printed, range_message(row))
+        yield Try(["check", "p", "--settings", file], status, printed, f"{file}: {range_message(row)}")
+        # One of them is right: `--set` is to blame though there is a file, and the file though something else
+        # is changed.
         yield Try(
             ["check", "p", "--settings", settings_file(other, 1), changed],
             status,
             printed,
-            range_of(row),
+            range_message(row),
         )
         yield Try(
             ["check", "p", "--settings", settings_file(key, allowed), changed],
             status,
             printed,
-            range_of(row),
+            range_message(row),
         )
         yield Try(
             ["check", "p", "--settings", file, f"--set={other}=1"],
             status,
             printed,
-            f"{file}: {range_of(row)}",
+            f"{file}: {range_message(row)}",
         )
-        # The file is judged by itself first, so it is to blame also where its number is replaced, by a right one or by a wrong one.
+        # The file is judged by itself first, so it is to blame also where its number is replaced, by a right
+        # one or by a wrong one.
         yield Try(
             ["check", "p", "--settings", file, f"--set={key}={allowed}"],
             status,
             printed,
-            f"{file}: {range_of(row)}",
+            f"{file}: {range_message(row)}",
         )
         yield Try(
-            ["check", "p", "--settings", file, changed], status, printed, f"{file}: {range_of(row)}"
+            ["check", "p", "--settings", file, changed], status, printed, f"{file}: {range_message(row)}"
         )
 
 
-def of_both(row: Row) -> Iterator[Try]:
+def tracking_tries(row: Row) -> Iterator[Try]:
     """A prediction below its tracking: in a file, which a change would mend, and by a change alone."""
     low = {"low": "tracking = 100\nprediction = 50\n", "well": "prediction = 50\n"}
     for name, text in low.items():
@@ -146,23 +150,23 @@ def of_both(row: Row) -> Iterator[Try]:
         ["check", "p", "--settings", "low", "--set=tracking=10"],
         4,
         printed,
-        f"low: {range_of(row)}",
+        f"low: {range_message(row)}",
     )
     yield Try(
         ["check", "p", "--settings", "low", "--set=prediction=200"],
         4,
         printed,
-        f"low: {range_of(row)}",
+        f"low: {range_message(row)}",
     )
-    yield Try(["check", "p", "--settings", "well", "--set=tracking=60"], 4, printed, range_of(row))
+    yield Try(["check", "p", "--settings", "well", "--set=tracking=60"], 4, printed, range_message(row))
 
 
-def settings() -> Iterator[Try]:
+def setting_tries() -> Iterator[Try]:
     usual = {it["key"]: it["usual"] for it in TABLE["setting"]}
     keys = ", ".join(it["key"] for it in TABLE["setting"])
     for row in TABLE["setting"]:
-        yield from of_key(row, usual)
-    yield from of_both(next(it for it in TABLE["setting"] if it["key"] == "prediction"))
+        yield from key_tries(row, usual)
+    yield from tracking_tries(next(it for it in TABLE["setting"] if it["key"] == "prediction"))
     for name in (it for it, options in SPACE.items() if "--settings" in options):
         for file, printed, said in (
             ("harts.0", "OutOfRange harts", "`harts` must be a whole number from 1 to 256"),
@@ -177,7 +181,7 @@ def settings() -> Iterator[Try]:
             ),
         ):
             yield Try(
-                [*call(name), "--settings", file], 4, f"settings {printed}", f"{file}: {said}"
+                [*least_call(name), "--settings", file], 4, f"settings {printed}", f"{file}: {said}"
             )
         for part, why in (
             ("quantum", "is not KEY=N"),
@@ -192,9 +196,9 @@ def settings() -> Iterator[Try]:
                 "needs a whole number below 2^64, in decimal digits without leading zeros",
             ),
         ):
-            yield usage([*call(name), f"--set={part}"], f"'{part}' in --set {why}")
+            yield usage([*least_call(name), f"--set={part}"], f"'{part}' in --set {why}")
         yield usage(
-            [*call(name), "--set", "line=64,line=64"],
+            [*least_call(name), "--set", "line=64,line=64"],
             "'line=64' in --set repeats a key",
         )
 
@@ -202,40 +206,40 @@ def settings() -> Iterator[Try]:
 # ---- Numbers among the words.
 
 
-def numbers_of(word: str, name: str) -> Row:
+def number_options(word: str, name: str) -> Row:
     return next(it for it in TABLE["number"] if it["word"] == word and name in it["commands"])
 
 
-def told(word: str, name: str) -> str:
+def range_text(word: str, name: str) -> str:
     """A range, as it is said behind the word."""
-    row = numbers_of(word, name)
-    least, greatest = number(row["least"]), number(row["greatest"])
+    row = number_options(word, name)
+    least, greatest = parse_number(row["least"]), parse_number(row["greatest"])
     if "power" in row:
         return f"a power of two from {least} to {greatest}"
     return f"from {least} to {greatest}" if least else f"a whole number up to {greatest}"
 
 
 def power(word: str, name: str) -> str:
-    return f"2^{(number(numbers_of(word, name)['greatest']) + 4).bit_length() - 1}"
+    return f"2^{(parse_number(number_options(word, name)['greatest']) + 4).bit_length() - 1}"
 
 
-def number_said(name: str, at: str, value: int) -> str:
+def number_message(name: str, at: str, value: int) -> str:
     """What is said of a number of a command that is out of its range, where all others are as usual."""
     if name == "gen":
-        return f"'{value}' is not a count: N must be {told('N', name)}"
+        return f"'{value}' is not a count: N must be {range_text('N', name)}"
     if name == "split":
-        return f"'{value}' is not a position: K must be {told('K', name)}"
+        return f"'{value}' is not a position: K must be {range_text('K', name)}"
     if name == "explain":
         words = " ".join(str(value) if it == at else USUAL[it] for it in ("BASE", "SIZE", "START"))
         return (
             f"'{words}' is not a line and a start: "
-            f"BASE must be a multiple of {numbers_of('BASE', name)['step']} below {power('BASE', name)}, "
-            f"SIZE {told('SIZE', name)}, START a number below {power('START', name)}"
+            f"BASE must be a multiple of {number_options('BASE', name)['step']} below {power('BASE', name)}, "
+            f"SIZE {range_text('SIZE', name)}, START a number below {power('START', name)}"
         )
     if name == "sweep":
-        return f"'--size {value}' is not a size that sweep takes: it must be {told('--size', name)}"
+        return f"'--size {value}' is not a size that sweep takes: it must be {range_text('--size', name)}"
     if name == "place":
-        return f"'--size {value}' is not a line size: it must be {told('--size', name)}"
+        return f"'--size {value}' is not a line size: it must be {range_text('--size', name)}"
     if name == "caches":
         given = dict(zip(WANTED[name][::2], WANTED[name][1::2])) | {at: str(value)}
         return f"'{' '.join(f'{it} {word}' for it, word in given.items())}' is not a cache shape: {shapes()}"
@@ -244,20 +248,20 @@ def number_said(name: str, at: str, value: int) -> str:
 
 
 def shapes() -> str:
-    sets = told("--sets", "caches").removeprefix("a power of two ")
+    sets = range_text("--sets", "caches").removeprefix("a power of two ")
     return (
-        f"--size must be {told('--size', 'caches')}, --sets one {sets}, "
-        f"--ways {told('--ways', 'caches')}, and sets times ways at most 4096"
+        f"--size must be {range_text('--size', 'caches')}, --sets one {sets}, "
+        f"--ways {range_text('--ways', 'caches')}, and sets times ways at most 4096"
     )
 
 
 def layouts(name: str) -> str:
-    return f"--size must be {told('--size', name)}, --shift a multiple of {numbers_of('--shift', name)['step']} below the size"
+    return f"--size must be {range_text('--size', name)}, --shift a multiple of {number_options('--shift', name)['step']} below the size"
 
 
-def beside(row: Row) -> Iterator[tuple[int, bool]]:
+def boundary_numbers(row: Row) -> Iterator[tuple[int, bool]]:
     """The bounds of a number and what lies beside them, each with whether it is allowed."""
-    least, greatest, step = number(row["least"]), number(row["greatest"]), row.get("step", 1)
+    least, greatest, step = parse_number(row["least"]), parse_number(row["greatest"]), row.get("step", 1)
     if "power" in row:
         yield from (
             (least, True),
@@ -274,34 +278,34 @@ def beside(row: Row) -> Iterator[tuple[int, bool]]:
         yield from ((least + 1, False), (greatest - 1, False))
 
 
-def of_number(row: Row) -> Iterator[Try]:
+def number_tries(row: Row) -> Iterator[Try]:
     """A number with each value beside its bounds, in each of its commands."""
-    for name, (value, is_allowed) in ((name, it) for name in row["commands"] for it in beside(row)):
+    for name, (value, is_allowed) in ((name, it) for name in row["commands"] for it in boundary_numbers(row)):
         word = row["word"]
         # (what is made for the greatest count would fill the disk)
         others = {"FILE": "missing/a"} if name == "gen" else {}
-        if word in names_of(COMMANDS[name]):
-            words = call(name, **{word: str(value)}, **others)
+        if word in operand_names(COMMANDS[name]):
+            words = least_call(name, **{word: str(value)}, **others)
         elif word in WANTED.get(name, []):
-            words = call(name)
+            words = least_call(name)
             words[words.index(word) + 1] = str(value)
         else:
-            words = [*call(name), word, str(value)]
-        yield Try(words, None) if is_allowed else usage(words, number_said(name, word, value))
+            words = [*least_call(name), word, str(value)]
+        yield Try(words, None) if is_allowed else usage(words, number_message(name, word, value))
 
 
-def numbers() -> Iterator[Try]:
+def all_number_tries() -> Iterator[Try]:
     for row in TABLE["number"]:
-        yield from of_number(row)
+        yield from number_tries(row)
     yield usage(
         ["caches", "t", "--size", "64", "--sets", "128", "--ways", "33"],
         f"'--size 64 --sets 128 --ways 33' is not a cache shape: {shapes()}",
     )
     yield Try(["caches", "t", "--size", "64", "--sets", "64", "--ways", "64"], None)
     for word, wrong in (("03", "has a leading zero"), ("+3", "has a sign")):
-        yield usage(["gen", word, "a"], f"'{word}' {wrong}: N must be {told('N', 'gen')}")
+        yield usage(["gen", word, "a"], f"'{word}' {wrong}: N must be {range_text('N', 'gen')}")
         yield usage(
-            ["split", "t", word, "a", "b"], f"'{word}' {wrong}: K must be {told('K', 'split')}"
+            ["split", "t", word, "a", "b"], f"'{word}' {wrong}: K must be {range_text('K', 'split')}"
         )
         yield usage(["replay", "t", "--size", word], f"'{word}' {wrong}: {layouts('replay')}")
         yield usage(
@@ -310,13 +314,13 @@ def numbers() -> Iterator[Try]:
         )
     yield usage(["gen", "-3", "a"], "unexpected argument '-3' found: numbers cannot be negative")
     yield usage(["replay", "t", "--shift=-4"], f"'-4' is negative: {layouts('replay')}")
-    yield usage(["sweep", "t"], f"--size is missing: it must be {told('--size', 'sweep')}")
+    yield usage(["sweep", "t"], f"--size is missing: it must be {range_text('--size', 'sweep')}")
 
 
 # ---- Words.
 
 
-def words_of_all() -> Iterator[Try]:
+def word_tries() -> Iterator[Try]:
     yield usage([], "the command is missing: see predator --help")
     yield usage([HIDDEN], f"'{SHOWN}' is not a command: see predator --help")
     yield Try(
@@ -327,22 +331,22 @@ def words_of_all() -> Iterator[Try]:
     )
     options = {it["name"] for it in TABLE["option"]} | {"--set"}
     for name in COMMANDS:
-        names, own = names_of(COMMANDS[name]), set(SPACE[name])
-        given = call(name)[1 : len(names) + 1]
+        names, own = operand_names(COMMANDS[name]), set(SPACE[name])
+        given = least_call(name)[1 : len(names) + 1]
         for count in range(len(names)):
             lacking = " ".join(f"<{CALLED.get(it, it.lower())}>" for it in names[count:])
             yield usage(
                 [name, *given[:count]],
                 f"the following required arguments were not provided: {lacking}",
             )
-        yield usage([*call(name), "more"], "unexpected argument 'more' found")
-        yield usage([*call(name), HIDDEN], f"unexpected argument '{SHOWN}' found")
-        yield usage([*call(name), "--", "more"], "unexpected argument 'more' found")
+        yield usage([*least_call(name), "more"], "unexpected argument 'more' found")
+        yield usage([*least_call(name), HIDDEN], f"unexpected argument '{SHOWN}' found")
+        yield usage([*least_call(name), "--", "more"], "unexpected argument 'more' found")
         for option in sorted(options - own):
-            yield usage([*call(name), option, "4"], f"unexpected argument '{option}' found")
+            yield usage([*least_call(name), option, "4"], f"unexpected argument '{option}' found")
         for option in sorted(own & BARE):
             yield usage(
-                [*call(name), option, option],
+                [*least_call(name), option, option],
                 f"the argument '{option}' cannot be used multiple times",
             )
         for option in sorted(own - BARE):
@@ -356,67 +360,67 @@ def words_of_all() -> Iterator[Try]:
             )
     yield usage(["run", "p", "--pcs"], "--pcs needs --trace")
     for missing in ("--size", "--sets", "--ways"):
-        at = call("caches").index(missing)
-        yield usage(call("caches")[:at] + call("caches")[at + 2 :], f"{missing} is missing")
+        at = least_call("caches").index(missing)
+        yield usage(least_call("caches")[:at] + least_call("caches")[at + 2 :], f"{missing} is missing")
 
 
 # ---- Files.
 
 
-def files() -> Iterator[Try]:
+def file_tries() -> Iterator[Try]:
     """Each fault of a file once, and one for each command that reads such a file, whose name is told."""
-    for words, status, printed, said in faults():
+    for words, status, printed, said in list_faults():
         yield Try(words, status, printed, said)
     cut = "the trace is cut off after 10 bytes: record or copy it again"
     for name, row in COMMANDS.items():
         if "TRACE" in row.get("reads", ()):
-            yield Try(call(name, TRACE="short"), 5, "trace Truncated 10", f"short: {cut}")
+            yield Try(least_call(name, TRACE="short"), 5, "trace Truncated 10", f"short: {cut}")
             yield Try(
-                call(name, TRACE="missing"), 7, "read fault", "missing: No such file or directory"
+                least_call(name, TRACE="missing"), 7, "read fault", "missing: No such file or directory"
             )
         if "TABLE" in row.get("reads", ()):
             yield Try(
-                call(name, TABLE="missing"), 7, "read fault", "missing: No such file or directory"
+                least_call(name, TABLE="missing"), 7, "read fault", "missing: No such file or directory"
             )
             # (the table is judged before the trace)
             yield Try(
-                call(name, TABLE="odd.moves", TRACE="short"),
+                least_call(name, TABLE="odd.moves", TRACE="short"),
                 14,
                 "table BadLine 2",
                 f"odd.moves: line 2 {FORM}",
             )
         if "PROGRAM" in row.get("reads", ()):
             yield Try(
-                call(name, PROGRAM="script"),
+                least_call(name, PROGRAM="script"),
                 2,
                 "elf TooShort",
                 "script: the file is a script: build it for RV32IMA with guest/build.sh",
             )
             yield Try(
-                call(name, PROGRAM="x86.elf"),
+                least_call(name, PROGRAM="x86.elf"),
                 2,
                 "elf BadMachine",
                 "x86.elf: the file is an ELF file for x86: build it for RV32IMA with guest/build.sh",
             )
             yield Try(
-                call(name, PROGRAM="missing"), 7, "read fault", "missing: No such file or directory"
+                least_call(name, PROGRAM="missing"), 7, "read fault", "missing: No such file or directory"
             )
         if "--schedule" in SPACE[name]:
             yield Try(
-                [*call(name), "--schedule", "short"],
+                [*least_call(name), "--schedule", "short"],
                 3,
                 "schedule BadLine 1",
                 "short: line 1 is not a hart, one space and a count: write it like `0 500`",
             )
             yield Try(
-                [*call(name), "--schedule", "missing"],
+                [*least_call(name), "--schedule", "missing"],
                 7,
                 "read fault",
                 "missing: No such file or directory",
             )
         if "--settings" in SPACE[name]:
             yield Try(
-                [*call(name), "--settings", "missing"],
+                [*least_call(name), "--settings", "missing"],
                 7,
                 "read fault",
                 "missing: No such file or directory",
@@ -426,7 +430,7 @@ def files() -> Iterator[Try]:
 # ---- All of them.
 
 
-def fault_of(program: str, attempt: Try) -> str:
+def find_fault(program: str, attempt: Try) -> str:
     """What is wrong with a call, if anything is."""
     ran = subprocess.run(
         [program, *attempt.words],
@@ -454,22 +458,22 @@ def fault_of(program: str, attempt: Try) -> str:
     return f"it ended with {ran.returncode}, printed {printed[:80]!r}, said {said!r}; wanted are {attempt.status}, {text[:80]!r}, {wanted[2]!r}"
 
 
-def failures(program: str, tries: Iterable[Try]) -> Iterator[str]:
+def find_failures(program: str, tries: Iterable[Try]) -> Iterator[str]:
     """What is wrong with some calls."""
     all_of = list(tries)
     with ThreadPoolExecutor(len(os.sched_getaffinity(0))) as pool:
         for attempt, fault in zip(
-            all_of, pool.map(lambda attempt: fault_of(program, attempt), all_of)
+            all_of, pool.map(lambda attempt: find_fault(program, attempt), all_of)
         ):
             if fault:
                 yield f"{' '.join(attempt.words)[:200]!r}: {fault}"
 
 
-def widened(row: Row) -> Row:
+def widen_range(row: Row) -> Row:
     """A row with another range."""
     if "only" in row:
         return row | {"only": [*row["only"], 2 * row["only"][-1]]}
-    greatest = number(row["greatest"])
+    greatest = parse_number(row["greatest"])
     return row | {"greatest": 2 * greatest if "power" in row else greatest + row.get("step", 1)}
 
 
@@ -477,17 +481,17 @@ def try_planted(program: str) -> Iterator[str]:
     """What isn't found of ranges that are widened."""
     usual = {it["key"]: it["usual"] for it in TABLE["setting"]}
     for row in TABLE["setting"]:
-        if not any(failures(program, of_key(widened(row), usual))):
+        if not any(find_failures(program, key_tries(widen_range(row), usual))):
             yield f"another range of `{row['key']}` isn't found"
     rows = TABLE["number"]
     for at, row in enumerate(rows):
-        rows[at] = widened(row)
-        if not any(failures(program, of_number(rows[at]))):
+        rows[at] = widen_range(row)
+        if not any(find_failures(program, number_tries(rows[at]))):
             yield f"another range of {row['word']} isn't found"
         rows[at] = row
 
 
-KINDS = {"settings": settings, "numbers": numbers, "words": words_of_all, "files": files}
+KINDS = {"settings": setting_tries, "numbers": all_number_tries, "words": word_tries, "files": file_tries}
 
 
 def main(words: list[str]) -> int:
@@ -504,7 +508,7 @@ def main(words: list[str]) -> int:
         )
         for what, kind in KINDS.items():
             tried[what] = len(list(kind()))
-            failed += failures(program, kind())
+            failed += find_failures(program, kind())
         if "--planted" in words:
             tried["planted"] = len(TABLE["setting"]) + len(TABLE["number"])
             failed += try_planted(program)

@@ -3,9 +3,10 @@
 
 usage: tools/meter.py PROGRAM [SECONDS]
 
-lets PROGRAM make a trace, replay it, and run a guest that never ends, each of a size that lasts some SECONDS (3) here, with a pseudo
-terminal as standard error. A line is wanted about once a second: its second number is the whole, and its first one grows towards it as
-time goes by. Into a file nothing may be shown. It ends with 1 where a line is wrong, or none came."""
+lets PROGRAM make a trace, replay it, and run a guest that never ends, each of a size that lasts some SECONDS
+(3) here, with a pseudo terminal as standard error. A line is wanted about once a second: its second number is
+the whole, and its first one grows towards it as time goes by. Into a file nothing may be shown. It ends with
+1 where a line is wrong, or none came."""
 
 import os
 import pty
@@ -16,7 +17,10 @@ import sys
 import tempfile
 import threading
 import time
+from typing import Callable, Iterator
 
+# A name, the words of a call, its status, the form of its lines, what the work comes to, and whether a line has that.
+Try = tuple[str, list[str], int, re.Pattern[str], Callable[[], int], bool]
 READ = re.compile(r"predator: (\d+) of (\d+) MiB read")
 WRITTEN = re.compile(r"predator: (\d+) MiB written")
 STEPS = re.compile(r"predator: (\d+) of at most (\d+) million steps")
@@ -27,12 +31,12 @@ LOOP = struct.pack(
 LOOP += struct.pack("<IIIIIIII", 1, 84, 0x10000, 0, 4, 4, 5, 4) + struct.pack("<I", 0x6F)
 
 
-def shown_by(words):
+def record_terminal(words: list[str]) -> tuple[str, float, int]:
     """What the program shows on a terminal, the seconds that it took, and its status."""
     ours, theirs = pty.openpty()
     said = []
 
-    def listen():
+    def listen() -> None:
         try:
             while part := os.read(ours, 4096):
                 said.append(part)
@@ -53,14 +57,17 @@ def shown_by(words):
     return b"".join(said).decode(errors="replace"), took, status
 
 
-def faults_of(what, shown, took, form, whole, told):
-    """What is wrong with the lines of a form. `whole` is what the work comes to, and `told` whether a line tells that too."""
+def find_faults(
+    what: str, shown: str, took: float, form: re.Pattern[str], whole: int, has_total: bool
+) -> list[str]:
+    """What is wrong with the lines of a form. `whole` is what the work comes to, and `has_total` whether a line
+    has that too."""
     lines = [list(map(int, it.groups())) for it in form.finditer(shown)]
     if not lines:
         return [f"{what}: no line in {took:.1f} s, but {shown[:200]!r}"]
     done = [it[0] for it in lines]
     found = []
-    if told and any(it[1] != whole for it in lines):
+    if has_total and any(it[1] != whole for it in lines):
         found.append(f"{what}: {lines} don't tell the whole, {whole}")
     if done != sorted(set(done)) or done[-1] > whole:
         found.append(f"{what}: {done} don't grow towards {whole}")
@@ -72,7 +79,7 @@ def faults_of(what, shown, took, form, whole, told):
     return found
 
 
-def enough(seconds, few, words):
+def scale_work(seconds: float, few: int, words: Callable[[int], list[str]]) -> int:
     """How much work lasts so many seconds here, by the time that little of it takes."""
     began = time.monotonic()
     subprocess.run(
@@ -85,16 +92,18 @@ def enough(seconds, few, words):
     return int(few * seconds / (time.monotonic() - began))
 
 
-def tries(program, seconds, folder):
+def list_tries(program: str, seconds: float, folder: str) -> Iterator[Try]:
     trace, guest = (os.path.join(folder, it) for it in ("trace", "guest"))
     with open(guest, "wb") as file:
         file.write(LOOP)
-    accesses = enough(seconds, 4_000_000, lambda n: [program, "gen", str(n), trace])
+    accesses = scale_work(seconds, 4_000_000, lambda n: [program, "gen", str(n), trace])
     yield "gen", ["gen", str(accesses), trace], 0, WRITTEN, lambda: os.path.getsize(
         trace
     ) // 2**20, False
     yield "replay", ["replay", trace], 0, READ, lambda: os.path.getsize(trace) // 2**20, True
-    steps = enough(seconds, 64_000_000, lambda n: [program, "run", guest, "--set", f"budget={n}"])
+    steps = scale_work(
+        seconds, 64_000_000, lambda n: [program, "run", guest, "--set", f"budget={n}"]
+    )
     yield "run", [
         "run",
         guest,
@@ -103,14 +112,16 @@ def tries(program, seconds, folder):
     ], 10, STEPS, lambda: steps // 1_000_000, True
 
 
-def main(program, seconds=3.0):
+def main(program: str, seconds: str | float = 3.0) -> int:
     found = []
     with tempfile.TemporaryDirectory() as folder:
-        for what, words, wanted, form, whole, told in tries(program, float(seconds), folder):
-            shown, took, status = shown_by([program, *words])
+        for what, words, wanted, form, whole, has_total in list_tries(
+            program, float(seconds), folder
+        ):
+            shown, took, status = record_terminal([program, *words])
             if status != wanted:
                 found.append(f"{what}: it ended with {status}")
-            faults = faults_of(what, shown, took, form, whole(), told)
+            faults = find_faults(what, shown, took, form, whole(), has_total)
             found += faults
             print(
                 f"{what}: {len(form.findall(shown))} lines in {took:.1f} s{', wrong' if faults else ''}"

@@ -3,8 +3,9 @@
 
 usage: tools/pictures.py [NAME ..]
 
-Each picture is a PNG of at most 100 KB in docs/pictures. Those that are named are made, or all. Nothing in them is drawn by hand.
-It needs the program, chromium and what `predator view` needs: without chromium the status is 77, and no picture is changed."""
+Each picture is a PNG of at most 100 KB in docs/pictures. Those that are named are made, or all. Nothing in
+them is drawn by hand. It needs the program, chromium and what `predator view` needs: without chromium the
+status is 77, and no picture is changed."""
 
 import os
 import shutil
@@ -13,7 +14,8 @@ import sys
 import tempfile
 
 TOP = os.path.abspath(os.path.join(os.path.dirname(os.path.abspath(__file__)), ".."))
-# Of each picture the calls that make its page, in a folder of their own, and the width and height that are shown.
+# Of each picture the calls that make its page, in a folder of their own, and the width and height that are
+# shown.
 PICTURES = {
     "view": (
         [["view", "run", f"{TOP}/guest/built/counters.elf", "--html", "page.html"]],
@@ -38,7 +40,7 @@ MOST = 100_000
 SAID = 2000
 
 
-def ran(words: list[str], folder: str) -> None:
+def run(words: list[str], folder: str) -> None:
     """Runs a command, and gives up with what it said if it fails."""
     done = subprocess.run(
         words, cwd=folder, capture_output=True, encoding="utf-8", errors="replace", timeout=600
@@ -48,12 +50,13 @@ def ran(words: list[str], folder: str) -> None:
 
 
 def draw(name: str, browser: str) -> str:
-    """Makes a picture, and says what it takes. One that is too large or can't be made leaves the old one as it is."""
+    """Makes a picture, and says what it takes. One that is too large or can't be made leaves the old one as
+    it is."""
     calls, width, height = PICTURES[name]
     to = os.path.join(TOP, "docs/pictures", f"{name}.png")
     with tempfile.TemporaryDirectory() as folder:
         for words in calls:
-            ran([os.path.join(TOP, "bin/predator"), *words], folder)
+            run([os.path.join(TOP, "bin/predator"), *words], folder)
         made = os.path.join(folder, "picture.png")
         options = [
             "--headless",
@@ -63,7 +66,7 @@ def draw(name: str, browser: str) -> str:
             "--force-device-scale-factor=0.9",
             f"--user-data-dir={folder}/user",
         ]
-        ran(
+        run(
             [
                 browser,
                 *options,

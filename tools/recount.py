@@ -3,18 +3,24 @@
 
 usage: tools/recount.py TRACE [SIZE SHIFT TRACKING REPORT]      (64 0 16 100 unless they are given)
 
-Written from docs/RULES.md and the trace of docs/FORMATS.md alone, as slow and plain as they are: one cache without bounds for each hart,
-and a write takes its line out of all others. It prints each observed line that is listed as a report does, up to its count."""
+Written from docs/RULES.md and the trace of docs/FORMATS.md alone, as slow and plain as they are: one cache
+without bounds for each hart, and a write takes its line out of all others. It prints each observed line that
+is listed as a report does, up to its count."""
 
 import sys
 
-from traces import accesses
+from traces import read_accesses
 
 
-def recount(trace, size=64, shift=0, tracking=16, report=100):
+def recount_lines(
+    trace: bytes, size: int = 64, shift: int = 0, tracking: int = 16, report: int = 100
+) -> list[tuple[int, int, int]]:
     """The listed observed lines, as (base, start, count), by count falling and then by base rising."""
-    holders, writes, starts, counts = {}, {}, {}, {}
-    for position, (hart, addr, is_write) in enumerate(accesses(trace)):
+    holders: dict[int, set[int]] = {}
+    writes: dict[int, int] = {}
+    starts: dict[int, int] = {}
+    counts: dict[int, int] = {}
+    for position, (hart, addr, is_write) in enumerate(read_accesses(trace)):
         base = (addr - shift) // size * size + shift
         held = holders.setdefault(base, set())
         if is_write:
@@ -31,15 +37,17 @@ def recount(trace, size=64, shift=0, tracking=16, report=100):
     )
 
 
-def main(words):
+def main(words: list[str]) -> int:
     if not words or words[0] in ("--help", "-h"):
         print(__doc__)
         return 0 if words else 1
     numbers = [int(it) for it in words[1:]]
     with open(words[0], "rb") as file:
-        for base, start, count in recount(file.read(), *numbers):
+        for base, start, count in recount_lines(file.read(), *numbers):
             print(
-                f"line observed {'-' if base < 0 else ''}0x{abs(base):08x} {(numbers + [64])[0]} start {start} count {count}"
+                "line observed"
+                f" {'-' if base < 0 else ''}0x{abs(base):08x} {(numbers + [64])[0]} start"
+                f" {start} count {count}"
             )
     return 0
 

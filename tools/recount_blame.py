@@ -4,18 +4,19 @@
 usage: tools/recount_blame.py TRACE [--size N] [--shift N]       (64 and 0 unless they are given)
        tools/recount_blame.py --try                              the worked lists below, and what they are to give
 
-Written from docs/RULES.md and the trace of docs/FORMATS.md alone: of each line the harts whose caches hold it, and the latest access of
-each hart that came. It prints what `predator blame` prints, also where the trace has no pcs."""
+Written from docs/RULES.md and the trace of docs/FORMATS.md alone: of each line the harts whose caches hold
+it, and the latest access of each hart that came. It prints what `predator blame` prints, also where the trace
+has no pcs."""
 
 import sys
 from collections import Counter
-from typing import NamedTuple
+from typing import Iterable, Iterator, NamedTuple
 
-from judge_report import address
-from traces import Access, sited
+from judge_report import address_text
+from traces import Access, read_accesses_with_pcs
 
-# Accesses, each with its pc. Hart 0 writes a word, and then three harts add three times to a byte each, two of which lie in one word: when
-# each hart makes one step at a time, and when it makes three.
+# Accesses, each with its pc. Hart 0 writes a word, and then three harts add three times to a byte each, two
+# of which lie in one word: when each hart makes one step at a time, and when it makes three.
 BY_ONE = (
     "W0 11008 10004, R1 11004 1003c, W1 11004 10044, R2 11005 1003c, R1 11004 1003c, R0 11000 1003c, W2 11005 10044, "
     "W1 11004 10044, W0 11000 10044, R2 11005 1003c, R1 11004 1003c, R0 11000 1003c, W2 11005 10044, W1 11004 10044, "
@@ -38,7 +39,8 @@ WORKED = [
     (BY_ONE, (128, 32), [(0x10FA0, 9, PAIRS, HARTS)]),
     ("", (64, 0), []),
     ("R1 1000 4, W0 1000 8", (64, 0), [(0x1000, 1, [(4, 8, 1, 1)], [(1, 0, 1)])]),
-    # Of the two readers that lose the line the later one is the victim; the earlier one's last access is of another line.
+    # Of the two readers that lose the line the later one is the victim; the earlier one's last access is of
+    # another line.
     (
         "R1 1000 4, R2 1004 8, R1 2000 c, W0 1000 10",
         (64, 0),
@@ -56,17 +58,27 @@ WORKED = [
 ]
 
 
+# Two instructions, how often the second takes a line from the first, and how often for the same word.
+Pair = tuple[int, int, int, int]
+# Two harts, and how often the second takes a line from the first.
+Handover = tuple[int, int, int]
+# A line that is taken: its address, how often, its pairs and its harts.
+LineRow = tuple[int, int, list[Pair], list[Handover]]
+
+
 class Line(NamedTuple):
-    """A line: the harts whose caches hold it; the pc and the word of each hart's latest access, in the order of these; and its takings, by
-    the pcs of victim and taker, those of one word among them, and by their harts."""
+    """A line: the harts whose caches hold it; the pc and the word of each hart's latest access, in the order
+    of these; and its takings, by the pcs of victim and taker, those of one word among them, and by their
+    harts."""
 
-    holders: set
-    latest: dict
-    pairs: Counter
-    same: Counter
-    harts: Counter
+    holders: set[int]
+    latest: dict[int, tuple[int, int]]
+    pairs: Counter[tuple[int, int]]
+    same: Counter[tuple[int, int]]
+    harts: Counter[tuple[int, int]]
 
-    def note(self, access):
+    def note(self, access: Access) -> None:
+        assert access.pc is not None, "the trace has pcs"
         if access.writes:
             if self.holders - {access.hart}:
                 victim = next(hart for hart in reversed(self.latest) if hart != access.hart)
@@ -80,7 +92,7 @@ class Line(NamedTuple):
         self.latest.pop(access.hart, None)
         self.latest[access.hart] = access.pc, access.addr // 4
 
-    def rows(self):
+    def rows(self) -> tuple[int, list[Pair], list[Handover]]:
         """How many takings there are, and the pairs and the harts in the order of the text."""
         pairs = ((*both, count, self.same[both]) for both, count in self.pairs.items())
         harts = ((*both, count) for both, count in self.harts.items())
@@ -91,9 +103,13 @@ class Line(NamedTuple):
         )
 
 
-def takings(accesses, size=64, shift=0):
-    """How many accesses there are, and each line that is taken as (base, takings, pairs, harts), in the order of the text."""
-    lines, count = {}, 0
+def count_invalidations(
+    accesses: Iterable[Access], size: int = 64, shift: int = 0
+) -> tuple[int, list[LineRow]]:
+    """How many accesses there are, and each line that is taken as (base, takings, pairs, harts), in the order
+    of the text."""
+    lines: dict[int, Line] = {}
+    count = 0
     for access in accesses:
         count += 1
         base = (access.addr - shift) // size * size + shift
@@ -105,38 +121,38 @@ def takings(accesses, size=64, shift=0):
     return count, sorted(found, key=lambda row: (-row[1], row[0]))
 
 
-def told(trace, size=64, shift=0):
+def blame_text(trace: bytes, size: int = 64, shift: int = 0) -> Iterator[str]:
     """The whole text, or what is said of a trace without pcs."""
     if trace[:8] in (b"PRDTRC01", b"PRDTRC02"):
         yield "predator: trace NoPcs"
         return
-    count, lines = takings(sited(trace), size, shift)
+    count, lines = count_invalidations(read_accesses_with_pcs(trace), size, shift)
     yield "predator blame 1"
     yield f"accesses {count}"
     yield f"layout {size} {shift}"
     yield f"lines {len(lines)}"
     for base, taken, pairs, harts in lines:
-        yield f"line {address(base)} takings {taken} pairs {len(pairs)} harts {len(harts)}"
+        yield f"line {address_text(base)} takings {taken} pairs {len(pairs)} harts {len(harts)}"
         for victim, taker, number, same in pairs:
-            yield f"pair {address(victim)} {address(taker)} taken {number} same {same}"
+            yield f"pair {address_text(victim)} {address_text(taker)} taken {number} same {same}"
         for victim, taker, number in harts:
             yield f"from {victim} to {taker} taken {number}"
     yield f"total takings {sum(it[1] for it in lines)}"
     yield "end"
 
 
-def listed(text):
+def parse_accesses(text: str) -> Iterator[Access]:
     """A worked list."""
     for touch in text.split(", ") if text else ():
         hart, addr, pc = touch.split()
         yield Access(int(hart[1:]), int(addr, 16), hart[0] == "W", int(pc, 16))
 
 
-def try_worked():
+def try_worked() -> int:
     """How many of the worked lists give something else."""
     wrong = 0
     for text, layout, wanted in WORKED:
-        _, found = takings(listed(text), *layout)
+        _, found = count_invalidations(parse_accesses(text), *layout)
         if found != wanted:
             wrong += 1
             print(f"{text} in lines of {layout}: {found}, and {wanted} is wanted")
@@ -144,7 +160,7 @@ def try_worked():
     return wrong
 
 
-def main(words):
+def main(words: list[str]) -> int:
     if words == ["--try"]:
         return 1 if try_worked() else 0
     options = {"--size": 64, "--shift": 0}
@@ -154,7 +170,7 @@ def main(words):
         print(__doc__)
         return 0 if words in (["--help"], ["-h"]) else 1
     with open(words[0], "rb") as file:
-        sys.stdout.writelines(f"{it}\n" for it in told(file.read(), *options.values()))
+        sys.stdout.writelines(f"{it}\n" for it in blame_text(file.read(), *options.values()))
     return 0
 
 

@@ -4,16 +4,22 @@
 usage: tools/recount_misses.py TRACE [--size N] [--shift N]      (64 and 0 unless they are given)
        tools/recount_misses.py --try                             the worked lists below, and what they are to give
 
-Written from docs/RULES.md and the trace of docs/FORMATS.md alone, over whole lists: of each line the harts whose caches hold it,
-and beside them, for each hart's copy of a line, the position at which it was loaded. It prints what `predator misses` prints."""
+Written from docs/RULES.md and the trace of docs/FORMATS.md alone, over whole lists: of each line the harts
+whose caches hold it, and beside them, for each hart's copy of a line, the position at which it was loaded. It
+prints what `predator misses` prints."""
 
 import sys
 from bisect import bisect_left, bisect_right
+from typing import Iterable, Iterator, TypeVar
 
-from judge_report import Line, address, objects_on, site_names, table_of
-from traces import Alloc, Free, Symbol, records
+from judge_report import Line, address_text, object_rows, site_names, object_table
+from traces import Alloc, Free, Symbol, Touch, read_records
 
-# Accesses, words of the call, and for each line its base with its cold, useful and useless misses, by what docs/RULES.md says.
+# A record that is no access, after so many accesses.
+Placed = tuple[int, Alloc | Free | Symbol]
+Own = TypeVar("Own")
+# Accesses, words of the call, and for each line its base with its cold, useful and useless misses, by what
+# docs/RULES.md says.
 WORKED = [
     ("W0 1000, W1 1004, W0 1000, W1 1004", 64, {0x1000: (2, 0, 2)}),
     ("W0 1000, R1 1000, W0 1000, R1 1000", 64, {0x1000: (2, 1, 0)}),
@@ -27,9 +33,15 @@ WORKED = [
 ]
 
 
-def misses(accesses, size=64, shift=0):
+def count_misses(
+    accesses: Iterable[Touch], size: int = 64, shift: int = 0
+) -> dict[int, tuple[int, ...]]:
     """Of each line its cold, useful and useless misses, in the order of the first accesses."""
-    holders, came, loaded, written, counts = {}, set(), {}, {}, {}
+    holders: dict[int, set[int]] = {}
+    came: set[tuple[int, int]] = set()
+    loaded: dict[tuple[int, int], int] = {}
+    written: dict[int, dict[int, int]] = {}
+    counts: dict[int, list[int]] = {}
     for position, (hart, addr, is_write) in enumerate(accesses):
         line, word = (addr - shift) // size, addr // 4
         own = (hart, line)
@@ -53,21 +65,24 @@ def misses(accesses, size=64, shift=0):
     return {base: tuple(row) for base, row in counts.items()}
 
 
-def parted(trace, others):
-    """The accesses of a trace, while the other records are put to the others, each behind so many accesses."""
+def split_accesses(trace: bytes, others: list[Placed]) -> Iterator[Touch]:
+    """The accesses of a trace, while the other records are put to the others, each behind so many
+    accesses."""
     count = 0
-    for record in records(trace):
+    for record in read_records(trace):
         if isinstance(record, (Symbol, Alloc, Free)):
             others.append((count, record))
         else:
             count += 1
             yield record
-    others.append((count, None))
+    others.append((count, Free(0)))
 
 
-def by_lines(objects, bases, size):
+def objects_by_line(
+    objects: Iterable[tuple[Symbol | Alloc, Own]], bases: list[int], size: int
+) -> dict[int, list[Own]]:
     """Of each line those objects that meet it, each given with its record, in their order; the bases rise."""
-    found = {base: [] for base in bases}
+    found: dict[int, list[Own]] = {base: [] for base in bases}
     for record, own in objects:
         for at in range(
             bisect_right(bases, record.addr - size), bisect_left(bases, record.addr + record.size)
@@ -76,43 +91,46 @@ def by_lines(objects, bases, size):
     return found
 
 
-def told(trace, size, shift):
+def misses_text(trace: bytes, size: int, shift: int) -> Iterator[str]:
     """The whole text."""
-    others = []
-    counts = misses(parted(trace, others), size, shift)
+    others: list[Placed] = []
+    counts = count_misses(split_accesses(trace, others), size, shift)
     end, _ = others.pop()
     rows = sorted(((-row[2], -row[1], base) for base, row in counts.items() if row[1] or row[2]))
     bases = sorted(base for _, _, base in rows)
-    symbols, blocks = table_of(others)
+    symbols, blocks = object_table(others)
     name_of = site_names(symbols)
-    symbols, blocks = by_lines([(it, it) for it in symbols], bases, size), by_lines(
-        [(it[0], it) for it in blocks], bases, size
-    )
+    symbols_of = objects_by_line([(it, it) for it in symbols], bases, size)
+    blocks_of = objects_by_line([(it[0], it) for it in blocks], bases, size)
     yield f"misses {size} {shift}"
     yield f"accesses {end}"
     yield f"lines {len(rows)}"
     for useless, useful, base in rows:
-        yield f"line {address(base)} cold {counts[base][0]} useful {-useful} useless {-useless}"
-        yield from objects_on(Line(0, base, size, 0), symbols[base], blocks[base], end, name_of)
+        yield f"line {address_text(base)} cold {counts[base][0]} useful {-useful} useless {-useless}"
+        yield from object_rows(
+            Line(0, base, size, 0), symbols_of[base], blocks_of[base], end, name_of
+        )
     yield "total cold {} useful {} useless {}".format(
         *(sum(row[at] for row in counts.values()) for at in range(3))
     )
     yield "end"
 
 
-def try_worked():
+def try_worked() -> int:
     """How many of the worked lists give something else."""
     wrong = 0
     for text, size, wanted in WORKED:
         accesses = [(int(it[1]), int(it.split()[1], 16), it[0] == "W") for it in text.split(", ")]
-        if misses(accesses, size) != wanted:
+        if count_misses(accesses, size) != wanted:
             wrong += 1
-            print(f"{text} in lines of {size}: {misses(accesses, size)}, and {wanted} is wanted")
+            print(
+                f"{text} in lines of {size}: {count_misses(accesses, size)}, and {wanted} is wanted"
+            )
     print(f"{len(WORKED)} lists, {wrong} wrong")
     return wrong
 
 
-def main(words):
+def main(words: list[str]) -> int:
     if words == ["--try"]:
         return 1 if try_worked() else 0
     options = {"--size": 64, "--shift": 0}
@@ -122,7 +140,7 @@ def main(words):
         print(__doc__)
         return 0 if words in (["--help"], ["-h"]) else 1
     with open(words[0], "rb") as file:
-        sys.stdout.writelines(f"{it}\n" for it in told(file.read(), *options.values()))
+        sys.stdout.writelines(f"{it}\n" for it in misses_text(file.read(), *options.values()))
     return 0
 
 

@@ -1,18 +1,19 @@
 #!/usr/bin/env python3
 """Moves the accesses of a trace by a table anew.
 
-usage: tools/recount_move.py TRACE TABLE FILE      writes FILE, and prints what `predator move` prints, also where it refuses
+usage: tools/recount_move.py TRACE TABLE FILE      writes FILE, and prints what `predator move` prints, also
+where it refuses
        tools/recount_move.py --try                 the worked lists below, and what they are to give
 
-Written from docs/RULES.md and docs/FORMATS.md alone: each access is looked for in all ranges, and in all places. Of a file that is no trace
-it says nothing."""
+Written from docs/RULES.md and docs/FORMATS.md alone: each access is looked for in all ranges, and in all
+places. Of a file that is no trace it says nothing."""
 
 import re
 import struct
 import sys
 from typing import NamedTuple
 
-from traces import Access, groups, placed
+from traces import Access, encode_distance, located_records
 
 NUMBER = re.compile(rb"0x[0-9a-fA-F]{1,8}|0|[1-9][0-9]*")
 # A table, the addresses of accesses, where these are then, and how many are moved; or the refusal.
@@ -35,7 +36,7 @@ class Move(NamedTuple):
     size: int
     to: int
 
-    def place_of(self, addr: int) -> int | None:
+    def target(self, addr: int) -> int | None:
         return addr - self.begin + self.to if self.begin <= addr < self.begin + self.size else None
 
     def meets(self, other: "Move") -> bool:
@@ -47,7 +48,7 @@ class Refused(Exception):
     """What is printed."""
 
 
-def table_of(text: bytes) -> list[Move]:
+def parse_table(text: bytes) -> list[Move]:
     if len(text) > 1 << 20:
         raise Refused("predator: table TooLong")
     found: list[Move] = []
@@ -71,46 +72,47 @@ def table_of(text: bytes) -> list[Move]:
     return found
 
 
-def moved_addr(table: list[Move], addr: int) -> int | None:
+def target_address(table: list[Move], addr: int) -> int | None:
     """Where an access goes, None where it stays. It is refused where it stays and lies in a place."""
-    places = [place for it in table if (place := it.place_of(addr)) is not None]
+    places = [place for it in table if (place := it.target(addr)) is not None]
     if not places and any(it.to <= addr < it.to + it.size for it in table):
         raise Refused(f"predator: table Occupied {addr:#010x}")
     return places[0] if places else None
 
 
-def spelled(
+def access_bytes(
     version: int, tag: int, size: int, touch: Access, last: int, pcs: dict[int, int]
 ) -> bytes:
-    """An access of a trace of a version behind one of another address, with the pcs of the harts' accesses before."""
+    """An access of a trace of a version behind one of another address, with the pcs of the harts' accesses
+    before."""
     if version == 1:
         return struct.pack("<BHIB", tag, touch.hart, touch.addr, size)
-    found = bytes((tag, touch.hart)) + groups(touch.addr - last)
+    found = bytes((tag, touch.hart)) + encode_distance(touch.addr - last)
     if touch.pc is not None:
-        found += groups(touch.pc - pcs.get(touch.hart, 0))
+        found += encode_distance(touch.pc - pcs.get(touch.hart, 0))
         pcs[touch.hart] = touch.pc
     return found
 
 
-def move(trace: bytes, text: bytes) -> tuple[str, bytes | None]:
+def move_trace(trace: bytes, text: bytes) -> tuple[str, bytes | None]:
     """What is printed, and what the file has then: nothing where the table is refused."""
     try:
-        table = table_of(text)
+        table = parse_table(text)
     except Refused as refused:
         return str(refused), None
     made, version, last, pcs = bytearray(trace[:20]), int(trace[6:8]), 0, dict[int, int]()
     accesses, count, end = 0, 0, 20
-    for start, end, record in placed(trace):
+    for start, end, record in located_records(trace):
         if not isinstance(record, Access):
             made += trace[start:end]
             continue
         try:
-            place = moved_addr(table, record.addr)
+            place = target_address(table, record.addr)
         except Refused as refused:
             return str(refused), bytes(made)
         accesses, count = accesses + 1, count + (place is not None)
         record = record if place is None else record._replace(addr=place)
-        made += spelled(version, trace[start], trace[end - 1], record, last, pcs)
+        made += access_bytes(version, trace[start], trace[end - 1], record, last, pcs)
         last = record.addr
     return f"move {accesses} {count}", bytes(made + trace[end:])
 
@@ -119,7 +121,7 @@ def try_worked() -> int:
     wrong = 0
     for text, addrs, wanted, line in WORKED:
         records = [struct.pack("<BHIB", 2, 0, int(it, 16), 1) for it in addrs.split()]
-        told, made = move(
+        printed, made = move_trace(
             b"PRDTRC01" + bytes(8) + b"\1\0\0\0" + b"".join(records) + b"\6" + bytes(24),
             text.encode(),
         )
@@ -128,9 +130,9 @@ def try_worked() -> int:
             for at in range(20, len(made) - 7, 8)
             if made[at] == 2
         ]
-        if (told, addrs_of) != (line, wanted and [int(it, 16) for it in wanted.split()]):
+        if (printed, addrs_of) != (line, wanted and [int(it, 16) for it in wanted.split()]):
             wrong += 1
-            print(f"{text!r} over {addrs}: {told}, {addrs_of}")
+            print(f"{text!r} over {addrs}: {printed}, {addrs_of!r}")
     print(f"{len(WORKED)} worked lists, {wrong} wrong")
     return 1 if wrong else 0
 
@@ -142,7 +144,7 @@ def main(words: list[str]) -> int:
         print(__doc__)
         return 0 if words in (["--help"], ["-h"]) else 1
     with open(words[0], "rb") as trace, open(words[1], "rb") as table:
-        line, made = move(trace.read(), table.read())
+        line, made = move_trace(trace.read(), table.read())
     print(line)
     if made is not None:
         with open(words[2], "wb") as file:

@@ -4,17 +4,19 @@
 usage: tools/recount_place.py TRACE NAME [--size N]              (64 unless it is given)
        tools/recount_place.py --try                              the worked lists below, and what they are to give
 
-Written from docs/RULES.md and the trace of docs/FORMATS.md alone, over whole lists: the harts that touch each word, the groups one behind
-the other, and the list with its accesses moved, counted by plain caches. It prints what `predator place` prints, also where it refuses."""
+Written from docs/RULES.md and the trace of docs/FORMATS.md alone, over whole lists: the harts that touch each
+word, the groups one behind the other, and the list with its accesses moved, counted by plain caches. It
+prints what `predator place` prints, also where it refuses."""
 
 import re
 import sys
+from typing import Iterable, Mapping, Sequence
 
-from judge_report import address, printed
-from traces import OBJECT, Alloc, Free, Symbol, records
+from judge_report import address_text, printable_name
+from traces import OBJECT, Alloc, Free, Symbol, Touch, read_records
 
-# The address and size of an object, accesses, the size of a line, and by docs/RULES.md the places of its words, the area and the three
-# sums.
+# The address and size of an object, accesses, the size of a line, and by docs/RULES.md the places of its
+# words, the area and the three sums.
 WORKED = [
     ((0x1000, 8), "W0 1000, W1 1004, W0 1000", 64, [0x1040, 0x1080], (0x1040, 128), (2, 0, 0)),
     ((0x1000, 4), "W0 1000, W1 1000", 64, [0x1040], (0x1040, 64), (1, 1, 1)),
@@ -37,7 +39,7 @@ WORKED = [
 ]
 
 
-def object_of(name, items):
+def find_object(name: bytes, items: Iterable[object]) -> tuple[int, int] | None:
     """The address and the size of the object that a name means."""
     for item in items:
         if isinstance(item, Symbol) and item.kind == OBJECT and item.name == name:
@@ -48,9 +50,10 @@ def object_of(name, items):
     return blocks[0] if len(blocks) == 1 and blocks[0][1] else None
 
 
-def counts(accesses, size):
+def count_lines(accesses: Iterable[Touch], size: int) -> dict[int, int]:
     """Of each line that is written its count since its first write, by where the line begins."""
-    holders, found = {}, {}
+    holders: dict[int, set[int]] = {}
+    found: dict[int, int] = {}
     for hart, addr, is_write in accesses:
         base = addr // size * size
         held = holders.setdefault(base, set())
@@ -61,16 +64,21 @@ def counts(accesses, size):
     return found
 
 
-def placed(accesses, begin, length, size):
-    """Who touches each word of the object, and the place of each; with them the area and the lines of the words of many harts."""
+def place_words(
+    accesses: Iterable[Touch], begin: int, length: int, size: int
+) -> tuple[dict[int, set[int]], dict[int, int], tuple[int, int], range]:
+    """Who touches each word of the object, and the place of each; with them the area and the lines of the
+    words of many harts."""
     words = range(begin // 4 * 4, min(begin + length, 2**32), 4)
-    touched = {}
+    touched: dict[int, set[int]] = {}
     for hart, addr, _ in accesses:
         touched.setdefault(addr // 4 * 4, set()).add(hart)
     start = at = -(-max((word + 4 for word in touched), default=0) // size) * size
-    many, places, groups = range(0), {}, {}
+    many = range(0)
+    places: dict[int, int] = {}
+    groups: dict[int, list[int]] = {}
     for word in words:
-        harts = touched.get(word, ())
+        harts = touched.get(word, set())
         group = 257 if not harts else 256 if len(harts) > 1 else min(harts)
         groups.setdefault(group, []).append(word)
     for group in sorted(groups):
@@ -80,54 +88,57 @@ def placed(accesses, begin, length, size):
     return touched, dict(sorted(places.items())), (start, at - start), many
 
 
-def sums(accesses, places, many, size):
-    """What the list counts, what the moved one does, and the part of that on the lines of the words of many harts."""
+def sum_counts(
+    accesses: Sequence[Touch], places: Mapping[int, int], many: range, size: int
+) -> tuple[int, int, int]:
+    """What the list counts, what the moved one does, and the part of that on the lines of the words of many
+    harts."""
     moved = [
         (hart, places.get(addr // 4 * 4, addr // 4 * 4) + addr % 4, is_write)
         for hart, addr, is_write in accesses
     ]
-    after = counts(moved, size)
+    after = count_lines(moved, size)
     return (
-        sum(counts(accesses, size).values()),
+        sum(count_lines(accesses, size).values()),
         sum(after.values()),
         sum(it for base, it in after.items() if base in many),
     )
 
 
-def told(trace, name, size):
+def place_text(trace: bytes, name: bytes, size: int) -> list[str]:
     """The whole text, or why there is none."""
-    items = list(records(trace))
+    items = list(read_records(trace))
     accesses = [it for it in items if not isinstance(it, (Symbol, Alloc, Free))]
-    found = object_of(name, items)
+    found = find_object(name, items)
     if not found or found[1] > 2**24:
         return [f"predator: place {'TooLarge' if found else 'NoObject'}"]
-    touched, places, area, many = placed(accesses, *found, size)
+    touched, places, area, many = place_words(accesses, *found, size)
     if sum(area) > 2**32:
         return ["predator: place NoRoom"]
     owners = {
         word: "many" if len(harts) > 1 else f"hart {min(harts)}" for word, harts in touched.items()
     }
-    before, after, many = sums(accesses, places, many, size)
+    before, after, rest = sum_counts(accesses, places, many, size)
     return [
-        f"place {printed(name)} {address(found[0])} {found[1]} line {size}",
+        f"place {printable_name(name)} {address_text(found[0])} {found[1]} line {size}",
         f"words {len(places)}",
         *(
-            f"word {address(word)} to {address(to)} {owners[word]}"
+            f"word {address_text(word)} to {address_text(to)} {owners[word]}"
             for word, to in places.items()
             if word in owners
         ),
-        f"area {address(area[0])} {area[1]}",
-        *(f"before {before}", f"after {after}", f"many {many}", "end"),
+        f"area {address_text(area[0])} {area[1]}",
+        *(f"before {before}", f"after {after}", f"many {rest}", "end"),
     ]
 
 
-def try_worked():
+def try_worked() -> int:
     """How many of the worked lists give something else."""
     wrong = 0
     for (begin, length), text, size, *wanted in WORKED:
         accesses = [(int(it[1]), int(it.split()[1], 16), it[0] == "W") for it in text.split(", ")]
-        _, places, area, many = placed(accesses, begin, length, size)
-        given = [list(places.values()), area, sums(accesses, places, many, size)]
+        _, places, area, many = place_words(accesses, begin, length, size)
+        given = [list(places.values()), area, sum_counts(accesses, places, many, size)]
         if given != wanted:
             wrong += 1
             print(f"{text} in lines of {size}: {given}, and {wanted} is wanted")
@@ -135,7 +146,7 @@ def try_worked():
     return wrong
 
 
-def main(words):
+def main(words: list[str]) -> int:
     if words == ["--try"]:
         return 1 if try_worked() else 0
     if len(words) not in (2, 4) or words[2:3] not in ([], ["--size"]):
@@ -143,7 +154,8 @@ def main(words):
         return 0 if words in (["--help"], ["-h"]) else 1
     with open(words[0], "rb") as file:
         sys.stdout.writelines(
-            f"{it}\n" for it in told(file.read(), words[1].encode(), int((words[3:] or [64])[0]))
+            f"{line}\n"
+            for line in place_text(file.read(), words[1].encode(), int((words[3:] or ["64"])[0]))
         )
     return 0
 

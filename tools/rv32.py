@@ -1,11 +1,15 @@
-"""Small programs for growth.py: an assembler of the few RV32IM instructions that they want, and a writer of program files."""
+"""Small programs for growth.py: an assembler of the few RV32IM instructions that they want, and a writer of
+program files."""
 
 import struct
 from contextlib import contextmanager
 from typing import Iterator, NamedTuple
 
 CODE = 0x10000
-REGISTERS = "zero ra sp gp tp t0 t1 t2 s0 s1 a0 a1 a2 a3 a4 a5 a6 a7 s2 s3 s4 s5 s6 s7 s8 s9 s10 s11 t3 t4 t5 t6".split()
+REGISTERS = (
+    "zero ra sp gp tp t0 t1 t2 s0 s1 a0 a1 a2 a3 a4 a5 a6 a7 "
+    "s2 s3 s4 s5 s6 s7 s8 s9 s10 s11 t3 t4 t5 t6"
+).split()
 NUMBERS = {name: number for number, name in enumerate(REGISTERS)}
 # What of an R instruction its register fields leave: funct7 << 25 | funct3 << 12.
 OPERATIONS = {"add": 0, "sub": 1 << 30, "mul": 1 << 25, "and": 7 << 12, "srl": 5 << 12}
@@ -179,7 +183,7 @@ def elf(segments: list[Segment], symbols: list[Symbol] = [], names: bytes = b"\0
     return header + rows + content + table + names + sections
 
 
-def named(places: list[tuple[str, int, int, int]]) -> tuple[list[Symbol], bytes]:
+def symbol_table(places: list[tuple[str, int, int, int]]) -> tuple[list[Symbol], bytes]:
     """The symbols of names, addresses, sizes and kinds, and the bytes of their names."""
     symbols, names = [], bytearray(b"\0")
     for name, *fields in places:

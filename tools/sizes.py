@@ -1,15 +1,16 @@
 #!/usr/bin/env python3
-"""Gives the program much of everything, and little memory: long traces through every command that passes over one, runs of many steps, many
-lines, large files. No want of memory, no cut and no wrong count may come of it.
+"""Gives the program much of everything, and little memory: long traces through every command that passes over
+one, runs of many steps, many lines, large files. No want of memory, no cut and no wrong count may come of it.
 
 usage: tools/sizes.py PROGRAM [--long]
 
-Each call has an address space of so many bytes as its row says, so that one that holds a trace, or takes pieces of a GiB, ends with want of
-memory. What it prints is known: two harts take one line from each other at each access, or write so many lines. The short form takes a
-trace of more than 2^24 accesses through every command that passes over one, one of more than 256 MiB through `replay`, a run and `explain`
-of more than 2^24 accesses, more than 65,536 blocks, noted blocks and lines, programs of 16 MiB and of a byte less, a table of 1 MiB, and a
-state, an output and a trace of more than 32 MiB. The long form takes the longer trace through every command. Memory that
-is refused at any one place is tried by guest/refuse_memory.py."""
+Each call has an address space of so many bytes as its row says, so that one that holds a trace, or takes
+pieces of a GiB, ends with want of memory. What it prints is known: two harts take one line from each other at
+each access, or write so many lines. The short form takes a trace of more than 2^24 accesses through every
+command that passes over one, one of more than 256 MiB through `replay`, a run and `explain` of more than 2^24
+accesses, more than 65,536 blocks, noted blocks and lines, programs of 16 MiB and of a byte less, a table of 1
+MiB, and a state, an output and a trace of more than 32 MiB. The long form takes the longer trace through
+every command. Memory that is refused at any one place is tried by guest/refuse_memory.py."""
 
 import hashlib
 import os
@@ -22,7 +23,7 @@ from typing import Iterator, NamedTuple
 
 sys.path.insert(0, os.path.join(os.path.dirname(os.path.abspath(__file__)), "edges"))
 import files  # noqa: E402
-from files import lines, report  # noqa: E402
+from files import join_lines, report_text  # noqa: E402
 from made_guests import DATA  # noqa: E402
 from rv32 import CODE, Code, Segment, elf  # noqa: E402
 
@@ -36,8 +37,8 @@ PIECE = 1 << 16
 
 
 class Try(NamedTuple):
-    """A call, the text that it prints, or how its lines begin, in their order, the files that it writes by their sums, and how many MiB of
-    addresses it has."""
+    """A call, the text that it prints, or how its lines begin, in their order, the files that it writes by
+    their sums, and how many MiB of addresses it has."""
 
     words: str
     printed: bytes | tuple[str, ...]
@@ -49,42 +50,45 @@ class Try(NamedTuple):
 # ---- Traces in which two harts write neighbouring words of a line in turn.
 
 
-def fight(name: str, count: int, first: int = 0, with_symbol: bool = True) -> None:
-    piece = files.records([(0, "W", BASE), (1, "W", BASE + 4)] * PIECE)
+def contended_trace(name: str, count: int, first: int = 0, with_symbol: bool = True) -> None:
+    piece = files.access_records([(0, "W", BASE), (1, "W", BASE + 4)] * PIECE)
     with open(name, "wb") as file:
         file.write(
-            files.header(first=first) + (files.symbol(BASE, 8, b"pair") if with_symbol else b"")
+            files.trace_header(first=first)
+            + (files.symbol_record(BASE, 8, b"pair") if with_symbol else b"")
         )
         left = 8 * count
         while left:
             left -= file.write(piece[:left])
-        file.write(files.ending(count))
+        file.write(files.trace_end(count))
 
 
-def fight_by(name: str, count: int) -> None:
+def contended_trace_with_pcs(name: str, count: int) -> None:
     """The same in version 3, by an instruction of each hart."""
     piece = files.TURN * PIECE
     with open(name, "wb") as file:
-        file.write(files.header(version=3) + files.sited(files.in_turn(2))[20:-25])
+        file.write(
+            files.trace_header(version=3) + files.trace_version_3(files.alternate(2))[20:-25]
+        )
         left = len(files.TURN) * (count // 2 - 1)
         while left:
             left -= file.write(piece[:left])
-        file.write(files.ending(count))
+        file.write(files.trace_end(count))
 
 
-def sum_of(pieces: Iterator[bytes]) -> str:
+def digest(pieces: Iterator[bytes]) -> str:
     made = hashlib.sha256()
     for piece in pieces:
         made.update(piece)
     return made.hexdigest()
 
 
-def sum_of_file(name: str) -> str:
+def file_digest(name: str) -> str:
     with open(name, "rb") as file:
-        return sum_of(iter(lambda: file.read(MIB), b""))
+        return digest(iter(lambda: file.read(MIB), b""))
 
 
-def often(piece: bytes, count: int) -> Iterator[bytes]:
+def repeat(piece: bytes, count: int) -> Iterator[bytes]:
     """A piece so often, in larger pieces."""
     many = piece * (PIECE // len(piece) + 1)
     left = len(piece) * count
@@ -93,47 +97,47 @@ def often(piece: bytes, count: int) -> Iterator[bytes]:
         left -= min(left, len(many) // len(piece) * len(piece))
 
 
-def converted(count: int) -> str:
+def converted_digest(count: int) -> str:
     """The sum of the trace in version 2."""
 
     def pieces() -> Iterator[bytes]:
-        yield files.header(version=2) + files.symbol(BASE, 8, b"pair") + files.converted(
-            [(0, "W", BASE), (1, "W", BASE + 4)]
-        )[20:-25]
-        yield from often(b"\x24\0\7\x24\1\x08", count // 2 - 1)
-        yield files.ending(count)
+        yield files.trace_header(version=2) + files.symbol_record(
+            BASE, 8, b"pair"
+        ) + files.trace_version_2([(0, "W", BASE), (1, "W", BASE + 4)])[20:-25]
+        yield from repeat(b"\x24\0\7\x24\1\x08", count // 2 - 1)
+        yield files.trace_end(count)
 
-    return sum_of(pieces())
+    return digest(pieces())
 
 
-def moved(count: int) -> str:
+def moved_digest(count: int) -> str:
     """The sum of the trace with the second word 64 bytes behind its line's begin."""
 
     def pieces() -> Iterator[bytes]:
-        yield files.header() + files.symbol(BASE, 8, b"pair")
-        yield from often(files.records([(0, "W", BASE), (1, "W", BASE + 64)]), count // 2)
-        yield files.ending(count)
+        yield files.trace_header() + files.symbol_record(BASE, 8, b"pair")
+        yield from repeat(files.access_records([(0, "W", BASE), (1, "W", BASE + 64)]), count // 2)
+        yield files.trace_end(count)
 
-    return sum_of(pieces())
+    return digest(pieces())
 
 
-def halves(count: int, at: int) -> dict[str, str]:
-    pair = files.records([(0, "W", BASE), (1, "W", BASE + 4)])
+def half_digests(count: int, at: int) -> dict[str, str]:
+    pair = files.access_records([(0, "W", BASE), (1, "W", BASE + 4)])
 
     def first() -> Iterator[bytes]:
-        yield files.header() + files.symbol(BASE, 8, b"pair")
-        yield from often(pair, at // 2)
-        yield files.ending(at, 0, 4)
+        yield files.trace_header() + files.symbol_record(BASE, 8, b"pair")
+        yield from repeat(pair, at // 2)
+        yield files.trace_end(at, 0, 4)
 
     def second() -> Iterator[bytes]:
-        yield files.header(first=at)
-        yield from often(pair, (count - at) // 2)
-        yield files.ending(count - at, count)
+        yield files.trace_header(first=at)
+        yield from repeat(pair, (count - at) // 2)
+        yield files.trace_end(count - at, count)
 
-    return {"a": sum_of(first()), "b": sum_of(second())}
+    return {"a": digest(first()), "b": digest(second())}
 
 
-def fought(count: int, steps: int | None = None) -> bytes:
+def contended_report(count: int, steps: int | None = None) -> bytes:
     """The report of `replay --size 64` with each line tracked and listed."""
     rows = [
         f"line observed {BASE:#010x} 64 start 0 count {count - 1} verdict false",
@@ -142,11 +146,13 @@ def fought(count: int, steps: int | None = None) -> bytes:
     rows += [
         f"word {BASE + 4 * hart:#010x} reads 0 writes {count // 2} hart {hart}" for hart in (0, 1)
     ]
-    return report("exit 0", count if steps is None else steps, count, "64 0", "1 none 1", rows, 1)
+    return report_text(
+        "exit 0", count if steps is None else steps, count, "64 0", "1 none 1", rows, 1
+    )
 
 
-def placed(count: int) -> bytes:
-    return lines(
+def place_text(count: int) -> bytes:
+    return join_lines(
         f"place pair {BASE:#010x} 8 line 64",
         "words 2",
         f"word {BASE:#010x} to 0x00001080 hart 0",
@@ -159,14 +165,14 @@ def placed(count: int) -> bytes:
     )
 
 
-def of_trace(name: str, count: int) -> Iterator[Try]:
+def trace_tries(name: str, count: int) -> Iterator[Try]:
     """Every command that passes over a trace."""
     at, listed = count // 2, "--size 64 --set tracking=1,report=1"
     total = f"total cold 2 useful 0 useless {count - 2}"
-    yield Try(f"replay {name} {listed}", fought(count), 40)
+    yield Try(f"replay {name} {listed}", contended_report(count), 40)
     yield Try(
         f"misses {name}",
-        lines(
+        join_lines(
             "misses 64 0",
             f"accesses {count}",
             "lines 1",
@@ -179,7 +185,7 @@ def of_trace(name: str, count: int) -> Iterator[Try]:
     )
     yield Try(
         f"sweep {name} --size 8",
-        lines(
+        join_lines(
             "sweep 8",
             f"accesses {count}",
             f"shift 0 total {count - 1} lines 1",
@@ -191,7 +197,7 @@ def of_trace(name: str, count: int) -> Iterator[Try]:
     )
     yield Try(
         f"caches {name} --size 64 --sets 1 --ways 1",
-        lines(
+        join_lines(
             "caches 64 1 1",
             f"accesses {count}",
             "lines 1",
@@ -201,19 +207,31 @@ def of_trace(name: str, count: int) -> Iterator[Try]:
         ),
         40,
     )
-    yield Try(f"place {name} pair", placed(count), 40)
-    put("apart", b"%d 4 %d\n" % (BASE + 4, BASE + 64))
-    yield Try(f"move {name} apart m", lines(f"move {count} {count // 2}"), 40, {"m": moved(count)})
-    yield Try(f"convert {name} c", lines(f"convert 2 {count}"), 40, {"c": converted(count)})
-    yield Try(f"split {name} {at} a b", lines(f"split {at} {count - at}"), 40, halves(count, at))
+    yield Try(f"place {name} pair", place_text(count), 40)
+    put_file("apart", b"%d 4 %d\n" % (BASE + 4, BASE + 64))
+    yield Try(
+        f"move {name} apart m",
+        join_lines(f"move {count} {count // 2}"),
+        40,
+        {"m": moved_digest(count)},
+    )
+    yield Try(
+        f"convert {name} c", join_lines(f"convert 2 {count}"), 40, {"c": converted_digest(count)}
+    )
+    yield Try(
+        f"split {name} {at} a b",
+        join_lines(f"split {at} {count - at}"),
+        40,
+        half_digests(count, at),
+    )
 
 
-def blamed(count: int) -> Iterator[Try]:
+def blame_tries(count: int) -> Iterator[Try]:
     """Each access but the first takes the line."""
     one, other = (f"{pc:#010x}" for pc in files.PCS)
     yield Try(
         "blame blamed",
-        lines(
+        join_lines(
             "predator blame 1",
             f"accesses {count}",
             "layout 64 0",
@@ -230,7 +248,7 @@ def blamed(count: int) -> Iterator[Try]:
     )
 
 
-def long_table() -> Iterator[Try]:
+def long_table_tries() -> Iterator[Try]:
     """A table as long as one may be, of which each word goes to the place that another one leaves."""
     size = len("0x00100000 4 0x00100000\n")
     count = (MIB - 1) // size
@@ -238,28 +256,28 @@ def long_table() -> Iterator[Try]:
         f"{0x100000 + 4 * at:#010x} 4 {0x100000 + 4 * (count - 1 - at):#010x}\n"
         for at in range(count)
     )
-    put("table", rows.encode().ljust(MIB, b"\n"))
-    put("words", files.trace([(0, "W", 0x100000 + 4 * at) for at in range(count)]))
-    moved_to = files.trace([(0, "W", 0x100000 + 4 * at) for at in reversed(range(count))])
+    put_file("table", rows.encode().ljust(MIB, b"\n"))
+    put_file("words", files.trace_bytes([(0, "W", 0x100000 + 4 * at) for at in range(count)]))
+    moved_to = files.trace_bytes([(0, "W", 0x100000 + 4 * at) for at in reversed(range(count))])
     yield Try(
         "move words table m",
-        lines(f"move {count} {count}"),
+        join_lines(f"move {count} {count}"),
         40,
         {"m": hashlib.sha256(moved_to).hexdigest()},
     )
 
 
-def parts(count: int) -> Iterator[Try]:
+def merge_tries(count: int) -> Iterator[Try]:
     """The halves that were just written."""
     listed = "--size 64 --set tracking=1,report=1"
     yield Try(f"replay a --save s {listed}", ("predator report 1",), 40)
-    yield Try(f"replay b --resume s {listed}", fought(count), 40)
+    yield Try(f"replay b --resume s {listed}", contended_report(count), 40)
 
 
 # ---- Runs.
 
 
-def fighting(times: int) -> bytes:
+def contending_code(times: int) -> bytes:
     """Two harts each write a word of the line at DATA so often, and read it."""
     code = Code()
     code.jump("start")
@@ -281,7 +299,7 @@ def fighting(times: int) -> bytes:
     return elf([Segment(CODE, code.bytes(), 4 * len(code.words), 5), Segment(DATA, b"", 4096, 6)])
 
 
-def calling(times: int, *calls: tuple[str, int | str, int | str]) -> bytes:
+def calling_code(times: int, *calls: tuple[str, int | str, int | str]) -> bytes:
     """Makes calls so often, of an address in s0 that goes on by 64."""
     code = Code()
     code.set("s0", DATA)
@@ -293,59 +311,64 @@ def calling(times: int, *calls: tuple[str, int | str, int | str]) -> bytes:
     return elf([Segment(CODE, code.bytes(), 4 * len(code.words), 5)])
 
 
-def runs() -> Iterator[Try]:
-    """More than 2^24 accesses of a run and of `explain`, and more blocks, and notes of blocks, than 65,536."""
+def run_tries() -> Iterator[Try]:
+    """More than 2^24 accesses of a run and of `explain`, and more blocks, and notes of blocks, than
+    65,536."""
     half = LONG // 4 + 1
-    put("fights.elf", fighting(half))
+    put_file("contending.elf", contending_code(half))
     rows = [
         f"word {DATA + 4 * hart:#010x} reads {half} writes {half} hart {hart}" for hart in (0, 1)
     ]
     counted = ("predator report 1", "outcome exit 0", f"accesses {4 * half}", *rows)
-    yield Try("run fights.elf --set quantum=4,tracking=1,report=1", counted, 80)
+    yield Try("run contending.elf --set quantum=4,tracking=1,report=1", counted, 80)
     yield Try(
-        f"explain fights.elf {DATA:#010x} 64 0 --set quantum=4",
+        f"explain contending.elf {DATA:#010x} 64 0 --set quantum=4",
         (f"line {DATA:#010x} 64 start 0 count ", "end"),
         80,
     )
-    put("notes.elf", calling(MANY, ("block", "s0", 8)))
-    put("blocks.elf", calling(MANY, ("alloc", 8, 0)))
+    put_file("notes.elf", calling_code(MANY, ("block", "s0", 8)))
+    put_file("blocks.elf", calling_code(MANY, ("alloc", 8, 0)))
     for name in ("notes", "blocks"):
         yield Try(f"run {name}.elf", ("outcome exit 0", "end"), 160)
 
 
-def programs() -> Iterator[Try]:
+def program_tries() -> Iterator[Try]:
     """Programs of 16 MiB, less a byte and as they may be at most."""
     code = Code()
     code.call("exit_group", 0)
     for size in (16 * MIB - 1, 16 * MIB):
         name = f"large.{size}.elf"
-        put(name, elf([Segment(CODE, code.bytes(), 4 * len(code.words), 5)]).ljust(size, b"\0"))
+        put_file(
+            name, elf([Segment(CODE, code.bytes(), 4 * len(code.words), 5)]).ljust(size, b"\0")
+        )
         yield Try(f"run {name}", ("outcome exit 0", "end"), 120)
         yield Try(f"check {name}", ("entry 0x00010000",), 120)
         yield Try(f"explain {name} 0x00011000 64 0", ("end",), 120)
 
 
-def many_lines(count: int) -> Iterator[Try]:
-    put("fought", files.trace(files.fought(count)))
-    yield Try("replay fought --size 64 --set tracking=1,report=1", files.fought_report(count), 400)
-    yield Try("misses fought", files.fought_misses(count), 400)
-    put("sited", files.sited(files.by_line(files.fought(count))))
-    yield Try("blame sited", files.fought_blame(count), 400)
+def many_line_tries(count: int) -> Iterator[Try]:
+    put_file("contended", files.trace_bytes(files.contended_accesses(count)))
+    yield Try(
+        "replay contended --size 64 --set tracking=1,report=1", files.contended_report(count), 400
+    )
+    yield Try("misses contended", files.contended_misses(count), 400)
+    put_file("sited", files.trace_version_3(files.by_line(files.contended_accesses(count))))
+    yield Try("blame sited", files.contended_blame(count), 400)
     if count > 32 * 64:
         # (these caches have no room for more)
         return
-    yield Try("caches fought --size 64 --sets 64 --ways 64", files.fought_caches(count), 400)
+    yield Try("caches contended --size 64 --sets 64 --ways 64", files.contended_caches(count), 400)
 
 
-def large_files() -> Iterator[Try]:
+def large_file_tries() -> Iterator[Try]:
     """Files of more than 32 MiB: a state, what a run puts out, its trace, and what is made."""
     count = 600_000
-    put("written", files.trace([(0, "W", 0x100000 + 4 * it) for it in range(count)]))
-    state = hashlib.sha256(files.written_state(count)).hexdigest()
+    put_file("written", files.trace_bytes([(0, "W", 0x100000 + 4 * it) for it in range(count)]))
+    state = hashlib.sha256(files.state_bytes(count)).hexdigest()
     yield Try(
         "replay written --size 4 --set tracking=1 --save s", ("accesses 600000",), 600, {"s": state}
     )
-    put("rest", files.header(first=count) + files.ending(0))
+    put_file("rest", files.trace_header(first=count) + files.trace_end(0))
     yield Try(
         "replay rest --size 4 --set tracking=1 --resume s --save r",
         ("accesses 600000",),
@@ -353,7 +376,7 @@ def large_files() -> Iterator[Try]:
         {"r": state},
     )
     guest = files.guest(33 * MIB // 8, 33 * 256, 1)
-    put("guest.elf", guest.file)
+    put_file("guest.elf", guest.file)
     sums = {
         "t": hashlib.sha256(guest.trace).hexdigest(),
         "o": hashlib.sha256(guest.output).hexdigest(),
@@ -363,7 +386,7 @@ def large_files() -> Iterator[Try]:
     yield Try("run guest.elf --trace t --pcs --output o", ("outcome exit 0",), 80, sums)
 
 
-def put(name: str, content: bytes) -> None:
+def put_file(name: str, content: bytes) -> None:
     with open(name, "wb") as file:
         file.write(content)
 
@@ -371,7 +394,7 @@ def put(name: str, content: bytes) -> None:
 # ---- All of them.
 
 
-def fault_of(program: str, attempt: Try) -> str:
+def find_fault(program: str, attempt: Try) -> str:
     """What is wrong with a call, if anything is."""
 
     def limit() -> None:
@@ -394,28 +417,28 @@ def fault_of(program: str, attempt: Try) -> str:
         for begin in attempt.printed:
             if not any(row.startswith(begin) for row in rows):
                 return f"no line begins with '{begin}' in {ran.stdout[:400]!r}"
-    wrong = [name for name, wanted in attempt.writes.items() if sum_of_file(name) != wanted]
+    wrong = [name for name, wanted in attempt.writes.items() if file_digest(name) != wanted]
     return f"{', '.join(wrong)}: other bytes" if wrong else ""
 
 
-def kinds(is_long: bool) -> Iterator[list[Try]]:
+def tries_by_kind(is_long: bool) -> Iterator[list[Try]]:
     """The tries of each kind, when their files are there. Those that stand together may be made at once."""
-    fight("fight", LONG)
-    yield list(of_trace("fight", LONG))
-    yield list(parts(LONG))[:1]
-    yield list(parts(LONG))[1:]
-    os.remove("fight")
-    fight_by("blamed", LONG)
-    yield list(blamed(LONG))
+    contended_trace("long", LONG)
+    yield list(trace_tries("long", LONG))
+    yield list(merge_tries(LONG))[:1]
+    yield list(merge_tries(LONG))[1:]
+    os.remove("long")
+    contended_trace_with_pcs("blamed", LONG)
+    yield list(blame_tries(LONG))
     os.remove("blamed")
-    yield list(long_table())
-    yield [*runs(), *programs(), Try(f"gen {LONG} f", (f"generated {LONG}",), 40)]
-    yield [*many_lines(MANY)]
-    yield [*many_lines(TRACKS)]
-    for attempt in large_files():
+    yield list(long_table_tries())
+    yield [*run_tries(), *program_tries(), Try(f"gen {LONG} f", (f"generated {LONG}",), 40)]
+    yield [*many_line_tries(MANY)]
+    yield [*many_line_tries(TRACKS)]
+    for attempt in large_file_tries():
         yield [attempt]
-    fight("fight", LONGER)
-    yield list(of_trace("fight", LONGER)) if is_long else list(of_trace("fight", LONGER))[:1]
+    contended_trace("long", LONGER)
+    yield list(trace_tries("long", LONGER)) if is_long else list(trace_tries("long", LONGER))[:1]
 
 
 def main(words: list[str]) -> int:
@@ -425,10 +448,10 @@ def main(words: list[str]) -> int:
     program, tried, failed = os.path.abspath(words[0]), 0, 0
     with tempfile.TemporaryDirectory() as folder:
         os.chdir(folder)
-        for tries in kinds("--long" in words):
+        for tries in tries_by_kind("--long" in words):
             with ThreadPoolExecutor(len(os.sched_getaffinity(0))) as pool:
                 for attempt, fault in zip(
-                    tries, pool.map(lambda attempt: fault_of(program, attempt), tries)
+                    tries, pool.map(lambda attempt: find_fault(program, attempt), tries)
                 ):
                     tried += 1
                     if fault:

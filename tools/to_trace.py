@@ -1,32 +1,37 @@
 #!/usr/bin/env python3
-"""Makes a trace that `predator replay` reads of lines of text, as other tracers print them after a line of awk.
+"""Makes a trace that `predator replay` reads of lines of text, as other tracers print them after a line of
+awk.
 
 usage: tools/to_trace.py LINES OUT.trace [--split] [--table FILE]
        tools/to_trace.py --back FILE ADDRESS ..
 
-Each line is `HART KIND ADDRESS SIZE`, in the order in which the accesses were made: HART is any word that names a thread, KIND
-is `R` or `W`, ADDRESS is hexadecimal, with `0x` or without, and SIZE is in bytes. LINES may be `-`, for standard input.
+Each line is `HART KIND ADDRESS SIZE`, in the order in which the accesses were made: HART is any word that
+names a thread, KIND is `R` or `W`, ADDRESS is hexadecimal, with `0x` or without, and SIZE is in bytes. LINES
+may be `-`, for standard input.
 
-Threads become harts 0, 1, 2, .. in the order in which they come, at most 256. Pages of 4096 bytes of a 64-bit address space become
-pages of 32 bits: those that lie side by side stay so, and at least one page is left out between any others, so that no two
-lines become neighbours that weren't. --table FILE writes which page became which, and to_trace.py --back FILE ADDRESS .. says
-what addresses of a report were.
+Threads become harts 0, 1, 2, .. in the order in which they come, at most 256. Pages of 4096 bytes of a 64-bit
+address space become pages of 32 bits: those that lie side by side stay so, and at least one page is left out
+between any others, so that no two lines become neighbours that weren't. --table FILE writes which page became
+which, and to_trace.py --back FILE ADDRESS .. says what addresses of a report were.
 
-An access of 1, 2 or 4 bytes that is a multiple of its size is taken as it is. Any other is refused with its line, or, with
---split, taken apart into such accesses from its lowest byte on."""
+An access of 1, 2 or 4 bytes that is a multiple of its size is taken as it is. Any other is refused with its
+line, or, with --split, taken apart into such accesses from its lowest byte on."""
 
 import struct
 import sys
+from typing import Iterable, Iterator, NoReturn
 
 PAGE = 4096
 MOST = 2**40
+# The hart, tag, address and size of an access.
+TaggedAccess = tuple[int, int, int, int]
 
 
-def stop(why):
+def fail(why: str) -> NoReturn:
     sys.exit(f"to_trace.py: {why}")
 
 
-def pieces(addr, size):
+def split_access(addr: int, size: int) -> Iterator[tuple[int, int]]:
     """The aligned accesses of 4, 2 or 1 bytes that an access is made of."""
     while size > 0:
         piece = 4 if addr % 4 == 0 and size >= 4 else 2 if addr % 2 == 0 and size >= 2 else 1
@@ -34,45 +39,49 @@ def pieces(addr, size):
         addr, size = addr + piece, size - piece
 
 
-def accesses(lines, splits):
+def read_accesses(lines: Iterable[str], splits: bool) -> tuple[list[TaggedAccess], int]:
     """The hart, tag, address and size of each access, and how many harts there are."""
-    found, harts = [], {}
+    found: list[TaggedAccess] = []
+    harts: dict[str, int] = {}
     for number, line in enumerate(lines, 1):
         words = line.split()
         if not words:
             continue
         try:
-            hart, kind, addr, size = words
-            tag, addr, size = {"R": 1, "W": 2}[kind], int(addr, 16), int(size)
-        except (ValueError, KeyError):
-            stop(f"line {number} is no `HART KIND ADDRESS SIZE`: {line.strip()}")
+            hart, kind, *numbers = words
+            tag, addr, size = {"R": 1, "W": 2}[kind], int(numbers[0], 16), int(numbers[1])
+            if len(words) != 4:
+                raise ValueError
+        except (ValueError, KeyError, IndexError):
+            fail(f"line {number} is no `HART KIND ADDRESS SIZE`: {line.strip()}")
         if not 0 <= addr < addr + size <= 2**64:
-            stop(f"line {number} lies outside 64 bits, or has no bytes: {line.strip()}")
+            fail(f"line {number} lies outside 64 bits, or has no bytes: {line.strip()}")
         if not splits and (size not in (1, 2, 4) or addr % size != 0):
-            stop(
+            fail(
                 f"line {number} isn't 1, 2 or 4 bytes at a multiple of them (--split takes it apart): {line.strip()}"
             )
         number_of = harts.setdefault(hart, len(harts))
-        found += [(number_of, tag, at, piece) for at, piece in pieces(addr, size)]
+        found += [(number_of, tag, at, piece) for at, piece in split_access(addr, size)]
     if len(harts) > 256:
-        stop(f"{len(harts)} threads, and a trace has at most 256 harts")
+        fail(f"{len(harts)} threads, and a trace has at most 256 harts")
     return found, max(len(harts), 1)
 
 
-def table_of(found):
+def page_table(found: list[TaggedAccess]) -> dict[int, int]:
     """Which page of 32 bits each page becomes. The first is page 16, at 0x10000."""
-    table, free, last = {}, 15, None
+    table: dict[int, int] = {}
+    free, last = 15, None
     for page in sorted({addr // PAGE for _, _, addr, _ in found}):
         free += 1 if last == page - 1 else 2 if last is not None else 1
         table[page], last = free, page
     if free >= 2**20:
-        stop("more pages than 32 bits have")
+        fail("more pages than 32 bits have")
     return table
 
 
-def write(found, harts, table, path):
+def write_trace(found: list[TaggedAccess], harts: int, table: dict[int, int], path: str) -> None:
     if len(found) > MOST:
-        stop(f"{len(found)} accesses, and a trace has at most {MOST}")
+        fail(f"{len(found)} accesses, and a trace has at most {MOST}")
     with open(path, "wb") as out:
         out.write(struct.pack("<8sQHH", b"PRDTRC01", 0, harts, 0))
         for hart, tag, addr, size in found:
@@ -83,17 +92,18 @@ def write(found, harts, table, path):
         out.write(struct.pack("<B8xQQ", 6, 0, len(found)))
 
 
-def back(path, words):
-    pages, code = {}, {}
+def translate_back(path: str, words: list[str]) -> None:
+    pages: dict[int, int] = {}
+    code: dict[int, int] = {}
     with open(path, errors="surrogateescape") as file:
         # (of a program of this machine other lines say more, and some name instructions: docs/FORMATS.md)
         for line in file:
             if line.startswith("0x"):
-                place, was = line.split()
-                pages[int(place, 16)] = int(was, 16)
+                place, former = line.split()
+                pages[int(place, 16)] = int(former, 16)
             elif line.startswith("site "):
-                _, number, was, *_ = line.split()
-                code[int(number, 16)] = int(was, 16)
+                _, number, former, *_ = line.split()
+                code[int(number, 16)] = int(former, 16)
     for word in words:
         addr = int(word, 16)
         page = pages.get(addr // PAGE * PAGE)
@@ -101,12 +111,12 @@ def back(path, words):
         print(word, "is no address of the trace" if was is None else f"was {was:#x}")
 
 
-def main(words):
+def main(words: list[str]) -> None:
     if words[:1] in (["--help"], ["-h"]):
         print(__doc__)
         return
     if words[:1] == ["--back"] and len(words) > 2:
-        return back(words[1], words[2:])
+        return translate_back(words[1], words[2:])
     splits = "--split" in words
     words = [it for it in words if it != "--split"]
     table_path = None
@@ -115,13 +125,13 @@ def main(words):
         table_path = words[at + 1]
         del words[at : at + 2]
     if len(words) != 2 or any(it.startswith("--") for it in words):
-        stop(
+        fail(
             "usage: to_trace.py LINES OUT.trace [--split] [--table FILE] | to_trace.py --back FILE ADDRESS .."
         )
     with sys.stdin if words[0] == "-" else open(words[0]) as lines:
-        found, harts = accesses(lines, splits)
-    table = table_of(found)
-    write(found, harts, table, words[1])
+        found, harts = read_accesses(lines, splits)
+    table = page_table(found)
+    write_trace(found, harts, table, words[1])
     if table_path:
         with open(table_path, "w") as out:
             for page, new in table.items():

@@ -1,5 +1,7 @@
-"""What is told of measured pairs: slowdowns beside counts, rank correlations, bands, and whether a bound held. Nothing is measured here."""
+"""Numbers of measured pairs: slowdowns beside counts, rank correlations, bands, and whether a bound
+held. Nothing is measured here."""
 
+import functools
 from statistics import median
 from typing import Callable, NamedTuple, Sequence
 
@@ -11,13 +13,14 @@ from view.model.rate_bands import BANDS, at_most, band_of
 
 QUANTA = (1, 10, 100, 1000)
 USUAL = 100
-# Useless misses by 1000 steps under the usual quantum: where the bands begin.
+# False-sharing misses per 1,000 steps under the usual quantum: where the bands begin.
 EDGES = tuple(it.least for it in BANDS)
 Cell = str | int | float | None
 
 
 class Row(NamedTuple):
-    """A pair with so many threads: what both forms took, what each has under each quantum, and as recorded on this machine."""
+    """A pair with so many threads: what both forms took, what each has under each quantum, and as recorded on
+    this machine."""
 
     program: Program
     threads: int
@@ -38,7 +41,7 @@ class Row(NamedTuple):
         return all(it.is_quiet() for it in self.timed)
 
     def rate(self, quantum: int = USUAL, form: str = FORMS[0]) -> float | None:
-        """Useless misses by 1000 steps."""
+        """False-sharing misses per 1,000 steps."""
         found = self.counts.get((form, quantum))
         return found.rate() if found else None
 
@@ -56,7 +59,8 @@ class Row(NamedTuple):
         return 1 - 1 / self.slowdown()
 
     def step(self) -> float | None:
-        """The nanoseconds that a thread of the padded form takes for what is a step of the guest's, where none waits for another."""
+        """The nanoseconds that a thread of the padded form takes for what is a step of the guest's, where
+        none waits for another."""
         found = self.counts.get((FORMS[1], USUAL))
         if not found or self.program.kind == "handover":
             return None
@@ -65,7 +69,7 @@ class Row(NamedTuple):
         )
 
     def bound(self, latency: float) -> float | None:
-        """Useless misses under quantum 1 times the nanoseconds of one."""
+        """False-sharing misses under quantum 1 times the nanoseconds of one."""
         found = self.counts.get((FORMS[0], 1))
         return found.useless * latency if found else None
 
@@ -106,7 +110,7 @@ def band_name(at: int) -> str:
     )
 
 
-def bands(rows: Sequence[Row]) -> list[list[Cell]]:
+def band_summary(rows: Sequence[Row]) -> list[list[Cell]]:
     """For each band: its cases, and the least, the middle and the greatest slowdown in it."""
     found: list[list[float]] = [[] for _ in EDGES]
     for case in rows:
@@ -120,30 +124,37 @@ def bands(rows: Sequence[Row]) -> list[list[Cell]]:
     return made
 
 
-# The numbers that are held against the slowdown: what they are called, and what they are of a row.
+def false_sharing_rate(row: Row, quantum: int) -> float | None:
+    return row.rate(quantum)
+
+
+# The numbers that are correlated with the slowdown, by their names, each as a function of a row.
 def numbers() -> dict[str, Callable[[Row], float | None]]:
     found: dict[str, Callable[[Row], float | None]] = {}
     for quantum in QUANTA:
-        found[f"useless misses by 1000 steps, quantum {quantum}"] = lambda row, quantum=quantum: row.rate(quantum)  # type: ignore[misc]
-    found["useless misses less those of the padded form, quantum 100"] = less
-    found["useful and useless misses by 1000 steps, quantum 100"] = both
-    found["useful and useless misses less those of the padded form, quantum 100"] = gained
-    found["the report's count by 1000 steps, quantum 100"] = reported
-    found["recorded here: useless misses by 1000 accesses, quantum 100"] = recorded
+        name = f"false-sharing misses per 1,000 steps, quantum {quantum}"
+        found[name] = functools.partial(false_sharing_rate, quantum=quantum)
+    found["false-sharing misses less those of the padded form, quantum 100"] = miss_difference
+    found["true-sharing and false-sharing misses per 1,000 steps, quantum 100"] = total_misses
+    found[
+        "true-sharing and false-sharing misses less those of the padded form, quantum 100"
+    ] = saved_time
+    found["the report's invalidations per 1,000 steps, quantum 100"] = invalidation_rate
+    found["recorded here: false-sharing misses per 1,000 accesses, quantum 100"] = recorded_rate
     return found
 
 
-def less(row: Row) -> float | None:
+def miss_difference(row: Row) -> float | None:
     own, padded = row.rate(), row.rate(form=FORMS[1])
     return None if own is None or padded is None else own - padded
 
 
-def both(row: Row) -> float | None:
+def total_misses(row: Row) -> float | None:
     found = row.counts.get((FORMS[0], USUAL))
     return 1000 * (found.useless + found.useful) / found.steps if found else None
 
 
-def gained(row: Row) -> float | None:
+def saved_time(row: Row) -> float | None:
     own, padded = (row.counts.get((form, USUAL)) for form in FORMS)
     return (
         1000 * (own.useless + own.useful - padded.useless - padded.useful) / own.steps
@@ -152,38 +163,42 @@ def gained(row: Row) -> float | None:
     )
 
 
-def reported(row: Row) -> float | None:
+def invalidation_rate(row: Row) -> float | None:
     found = row.counts.get((FORMS[0], USUAL))
     return found.listed_rate() if found else None
 
 
-def recorded(row: Row) -> float | None:
+def recorded_rate(row: Row) -> float | None:
     found = row.recorded.get(FORMS[0])
     return found.rate() if found else None
 
 
-def correlated(rows: Sequence[Row], number: Callable[[Row], float | None]) -> float | None:
+def rank_correlation(rows: Sequence[Row], number: Callable[[Row], float | None]) -> float | None:
     return spearman(
         [(value, row.slowdown()) for row in rows for value in [number(row)] if value is not None]
     )
 
 
 def correlations(rows: Sequence[Row], threads: Sequence[int]) -> list[list[Cell]]:
-    """For each number its rank correlation with the slowdown: with each count of threads, over all, and over all that hand nothing over."""
+    """For each number its rank correlation with the slowdown: with each count of threads, over all, and over
+    all that hand nothing over."""
     free = [it for it in rows if it.program.kind != "handover"]
     return [
         [
             name,
-            *[correlated([it for it in rows if it.threads == count], number) for count in threads],
+            *[
+                rank_correlation([it for it in rows if it.threads == count], number)
+                for count in threads
+            ],
         ]
-        + [correlated(rows, number), correlated(free, number)]
+        + [rank_correlation(rows, number), rank_correlation(free, number)]
         for name, number in numbers().items()
     ]
 
 
-def bound_told(rows: Sequence[Row], latency: float, step: float) -> list[str]:
+def bound_sentences(rows: Sequence[Row], latency: float, step: float) -> list[str]:
     """Sentences on the upper bound."""
-    told, held, above = [], 0, []
+    sentences, held, above = [], 0, []
     much = []
     for row in rows:
         bound = row.bound(latency)
@@ -196,21 +211,22 @@ def bound_told(rows: Sequence[Row], latency: float, step: float) -> list[str]:
         if bound > 0 and row.slowdown() > 1.05 and row.saved() > 0:
             much.append(bound / row.saved())
     if held or above:
-        told.append(
-            f"Useless misses under quantum 1 times {latency:.0f} ns, over all threads, were at least what padding saved in {held} of "
-            f"{held + len(above)} cases" + (f", not in {', '.join(above)}." if above else ".")
+        sentences.append(
+            f"False-sharing misses under quantum 1 times {latency:.0f} ns, over all threads, were"
+            f" at least what padding saved in {held} of {held + len(above)} cases"
+            + (f", not in {', '.join(above)}." if above else ".")
         )
     if much:
-        told.append(
-            f"Where padding saved a twentieth or more, the bound was {min(much):.1f} to {max(much):.1f} times what it saved, "
-            f"in the middle {median(much):.1f} times."
+        sentences.append(
+            f"Where padding saved a twentieth or more, the bound was {min(much):.1f} to"
+            f" {max(much):.1f} times what it saved, in the middle {median(much):.1f} times."
         )
     shares = [(row, row.at_most(latency, step)) for row in rows]
     over = [
         row.program.name for row, most in shares if most is not None and row.share() > most + 0.02
     ]
-    told.append(
-        f"As a part of the time, with {step:g} ns for a step, it was passed by more than 2 percent in {len(over)} cases"
-        + (f": {', '.join(over)}." if over else ".")
+    sentences.append(
+        f"As a part of the time, with {step:g} ns for a step, it was passed by more than 2 percent"
+        f" in {len(over)} cases" + (f": {', '.join(over)}." if over else ".")
     )
-    return told
+    return sentences

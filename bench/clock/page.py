@@ -1,12 +1,13 @@
-"""The page of some studies, side by side: useless misses by 1000 steps against the slowdown that padding took away, each program a named
-point. One file of HTML, which needs no network and no script; its template, which extends that of view/, escapes every name."""
+"""The page of some studies, side by side: false-sharing misses per 1,000 steps against the slowdown that padding took
+away, each program a named point. One file of HTML, which needs no network and no script; its template, which
+extends that of view/, escapes every name."""
 
 import math
 from typing import Any, Iterator, Mapping, NamedTuple, Sequence
 
-from judge import EDGES, Row, bands
+from judge import EDGES, Row, band_summary, bound_sentences
 from pairs import HERE, KINDS
-from tables import Study, bound_told, shown
+from tables import Study, number_text
 
 from view.model.rate_bands import BANDS
 
@@ -16,7 +17,7 @@ WIDTH, HEIGHT, LEFT, LOWER, EDGE = 640, 600, 44, 44, 14
 # A point is within so many points of its place, a line of text is so high, and letters are so wide.
 POINT, LINE, LETTER = 5, 11, 6.9
 LETTERS = {**dict.fromkeys("ijl", 3.2), "f": 4.0, "t": 4.4, "r": 4.6, "_": 5.6, "w": 9.1, "m": 10.8}
-# What is below this, by 1000 steps, is drawn at it.
+# A rate per 1,000 steps below this is drawn at it.
 LEAST = 0.01
 COLOURS = {
     "false": "#d55e00",
@@ -62,12 +63,12 @@ class Scale(NamedTuple):
         return round(self.begin + part * (self.end - self.begin), 1)
 
 
-def width(name: str) -> float:
+def label_width(name: str) -> float:
     """How wide a name is drawn."""
     return sum(LETTERS.get(it, LETTER) for it in name)
 
 
-def around(x: float, y: float, wide: float) -> Iterator[tuple[float, float]]:
+def label_places(x: float, y: float, wide: float) -> Iterator[tuple[float, float]]:
     """Where a name of that width may begin, its baseline below its text, the nearest places first."""
     for far in (9, 14, 22, 32, 44, 58, 74, 92, 112):
         for turn in (0, 8, 2, 6, 1, 7, 3, 5, 4, 9, 10, 11, 12, 13, 14, 15):
@@ -80,14 +81,15 @@ def around(x: float, y: float, wide: float) -> Iterator[tuple[float, float]]:
             yield at, y + far * math.sin(angle) + LINE / 3
 
 
-def named(points: Sequence[tuple[float, float, str]]) -> list[Given]:
-    """A place for the name of each point, where it covers no point and no other name if there is one; a line leads to it from afar."""
+def place_labels(points: Sequence[tuple[float, float, str]]) -> list[Given]:
+    """A place for the name of each point, where it covers no point and no other name if there is one; a line
+    leads to it from afar."""
     taken = [Box(x - POINT, y - POINT, x + POINT, y + POINT) for x, y, _ in points]
     made = []
     for x, y, name in points:
-        wide = width(name)
+        wide = label_width(name)
         best = None
-        for left, base in around(x, y, wide):
+        for left, base in label_places(x, y, wide):
             box = Box(left - 1, base - LINE + 2, left + wide + 1, base + 3)
             inside = (
                 box.left > LEFT
@@ -107,7 +109,7 @@ def named(points: Sequence[tuple[float, float, str]]) -> list[Given]:
     return made
 
 
-def scales(rows: Sequence[Row]) -> tuple[Scale, Scale]:
+def shared_scales(rows: Sequence[Row]) -> tuple[Scale, Scale]:
     """Of all pictures, so that they can be compared."""
     rates = [it.rate() or LEAST for it in rows]
     slow = [it.slowdown() for it in rows]
@@ -119,7 +121,7 @@ def scales(rows: Sequence[Row]) -> tuple[Scale, Scale]:
 def picture(rows: Sequence[Row], along: Scale, up: Scale) -> Given:
     """The points of one count of threads, with their names and the ticks of both axes."""
     places = [(along.place(max(it.rate() or 0.0, LEAST)), up.place(it.slowdown())) for it in rows]
-    names = named([(x, y, it.program.name) for (x, y), it in zip(places, rows)])
+    names = place_labels([(x, y, it.program.name) for (x, y), it in zip(places, rows)])
     points = [
         {
             "x": x,
@@ -127,7 +129,7 @@ def picture(rows: Sequence[Row], along: Scale, up: Scale) -> Given:
             "shape": SHAPES[point.program.kind],
             "colour": COLOURS[point.program.kind],
             "name": name,
-            "told": told_of(point),
+            "title": point_text(point),
         }
         for (x, y), point, name in zip(places, rows, names)
     ]
@@ -149,35 +151,38 @@ def picture(rows: Sequence[Row], along: Scale, up: Scale) -> Given:
     }
 
 
-def told_of(row: Row) -> str:
+def point_text(row: Row) -> str:
     low, high = row.range()
-    how = f"slowdown {shown(row.slowdown())} ({low:.2f} to {high:.2f})"
-    return f"{row.program.name}, {row.threads} threads: {how}, {shown(row.rate())} useless misses by 1000 steps; {row.program.text}"
+    how = f"slowdown {number_text(row.slowdown())} ({low:.2f} to {high:.2f})"
+    return (
+        f"{row.program.name}, {row.threads} threads: {how}, {number_text(row.rate())} false-sharing"
+        f" misses per 1,000 steps; {row.program.text}"
+    )
 
 
-def title_of(studies: Mapping[str, Study]) -> str:
+def page_title(studies: Mapping[str, Study]) -> str:
     """What is seen, in a sentence."""
     parts = []
     for name, study in studies.items():
-        found = bands(study.judged())
+        found = band_summary(study.quiet_rows())
         if found[0][1] and found[-1][1]:
-            most, fewest = shown(found[-1][3]), shown(found[0][3])
+            most, fewest = number_text(found[-1][3]), number_text(found[0][3])
             parts.append(f"{most} times as fast, and {fewest} times with the fewest ({name})")
     if not parts:
-        return "What padding is worth, by useless misses"
-    return f"With the most useless misses, padding made the middle program {'; '.join(parts)}"
+        return "What padding is worth, by false-sharing misses"
+    return f"With the most false-sharing misses, padding made the middle program {'; '.join(parts)}"
 
 
-def pictures_of(studies: Mapping[str, Study]) -> list[Given]:
+def page_pictures(studies: Mapping[str, Study]) -> list[Given]:
     """A picture for each count of threads and study, all with the same axes."""
     drawn = {
         (count, name): [
-            row for row in study.judged() if row.threads == count and row.rate() is not None
+            row for row in study.quiet_rows() if row.threads == count and row.rate() is not None
         ]
         for count in sorted({it for study in studies.values() for it in study.threads()})
         for name, study in studies.items()
     }
-    along, up = scales([it for own in drawn.values() for it in own])
+    along, up = shared_scales([it for own in drawn.values() for it in own])
     return [
         {"threads": count, "study": name, **picture(own, along, up)}
         for (count, name), own in drawn.items()
@@ -185,7 +190,7 @@ def pictures_of(studies: Mapping[str, Study]) -> list[Given]:
     ]
 
 
-def rows_of(studies: Mapping[str, Study]) -> list[Given]:
+def page_rows(studies: Mapping[str, Study]) -> list[Given]:
     """All pairs, with what each study has of them, the greatest slowdown first."""
     found: dict[tuple[int, str], dict[str, Row]] = {}
     for name, study in studies.items():
@@ -201,12 +206,13 @@ def rows_of(studies: Mapping[str, Study]) -> list[Given]:
         for name in studies:
             row = own.get(name)
             low, high = row.range() if row else (0.0, 0.0)
-            told = (
-                f"{shown(row.slowdown())} ({low:.2f} to {high:.2f}{'' if row.is_quiet() else '; disturbed'})"
+            slowdown = (
+                f"{number_text(row.slowdown())} ({low:.2f} to"
+                f" {high:.2f}{'' if row.is_quiet() else '; disturbed'})"
                 if row
                 else "-"
             )
-            cells.append({"rate": shown(row.rate()) if row else "-", "told": told})
+            cells.append({"rate": number_text(row.rate()) if row else "-", "slowdown": slowdown})
         made.append({"program": program, "threads": threads, "cells": cells})
     return made
 
@@ -221,9 +227,9 @@ def page(studies: Mapping[str, Study]) -> str | None:
     except Fault:
         return None
     given = {
-        "title": title_of(studies),
+        "title": page_title(studies),
         "studies": studies,
-        "pictures": pictures_of(studies),
+        "pictures": page_pictures(studies),
         "width": WIDTH,
         "height": HEIGHT,
         "left": LEFT,
@@ -231,14 +237,14 @@ def page(studies: Mapping[str, Study]) -> str | None:
         "edge": EDGE,
         "kinds": [{"name": it, "shape": SHAPES[it], "colour": COLOURS[it]} for it in KINDS],
         "bands": {
-            name: [[shown(cell) for cell in row] for row in bands(study.judged())]
+            name: [[number_text(cell) for cell in row] for row in band_summary(study.quiet_rows())]
             for name, study in studies.items()
         },
-        "told": [it.told for it in BANDS],
+        "advice": [band.told for band in BANDS],
         "bound": {
-            name: bound_told(study.judged(), study.latency(), study.step)
+            name: bound_sentences(study.quiet_rows(), study.latency(), study.step)
             for name, study in studies.items()
         },
-        "rows": rows_of(studies),
+        "rows": page_rows(studies),
     }
     return found.get_template("study.html").render(given)

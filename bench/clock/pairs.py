@@ -1,4 +1,5 @@
-"""The pairs of programs/: what they are, and how both forms of each are built, for this machine and for predator's harts."""
+"""The pairs of programs/: what they are, and how both forms of each are built, for this machine and for
+predator's harts."""
 
 import os
 import subprocess
@@ -9,7 +10,7 @@ from typing import Iterable, NamedTuple, Sequence
 HERE = os.path.dirname(os.path.abspath(__file__))
 TOP = os.path.dirname(os.path.dirname(HERE))
 PROGRAMS = os.path.join(HERE, "programs")
-# (whose bands view tells, and whose templates are used here)
+# (for the bands and the templates of view)
 sys.path.append(TOP)
 GUESTS = os.path.join(HERE, "guests.sh")
 # What a first line may say that its program is.
@@ -32,7 +33,8 @@ class Program(NamedTuple):
 
 
 class Built(NamedTuple):
-    """A form of a pair for so many threads and lines of so many bytes: the files of both machines, of which the guest's may be missing."""
+    """A form of a pair for so many threads and lines of so many bytes: the files of both machines, of which
+    the guest's may be missing."""
 
     program: Program
     form: str
@@ -42,8 +44,9 @@ class Built(NamedTuple):
     guest: str
 
 
-def programs(only: Sequence[str] = ()) -> list[Program]:
-    """All pairs, by their kinds and names, or those that are named. Trouble where a name isn't there, or a first line says no kind."""
+def find_programs(only: Sequence[str] = ()) -> list[Program]:
+    """All pairs, by their kinds and names, or those that are named. Trouble where a name isn't there, or a
+    first line says no kind."""
     found = []
     for file in sorted(os.listdir(PROGRAMS)):
         name, ending = os.path.splitext(file)
@@ -51,17 +54,17 @@ def programs(only: Sequence[str] = ()) -> list[Program]:
             continue
         source = os.path.join(PROGRAMS, file)
         with open(source, encoding="utf-8") as text:
-            kind, _, told = text.readline().removeprefix("// ").strip().partition(": ")
+            kind, _, summary = text.readline().removeprefix("// ").strip().partition(": ")
         if kind not in KINDS:
             raise Trouble(f"{source}: the first line names none of {', '.join(KINDS)}")
-        found.append(Program(name, kind, told, source))
+        found.append(Program(name, kind, summary, source))
     missing = set(only) - {it.name for it in found}
     if missing:
         raise Trouble(f"there is no {', '.join(sorted(missing))} in {PROGRAMS}")
     return sorted(found, key=lambda pair: (KINDS.index(pair.kind), pair.name))
 
 
-def called(words: Sequence[str], seconds: float = 300, given: str = "") -> str:
+def run_command(words: Sequence[str], seconds: float = 300, given: str = "") -> str:
     """What a command prints that is given a text. Trouble where it fails or takes longer."""
     try:
         done = subprocess.run(words, capture_output=True, text=True, timeout=seconds, input=given)
@@ -85,7 +88,7 @@ def build(target: Built) -> None:
         *(["-DPADDED"] if target.form == FORMS[1] else []),
     ]
     if target.native:
-        called(
+        run_command(
             [
                 "gcc",
                 "-O2",
@@ -101,7 +104,7 @@ def build(target: Built) -> None:
             ]
         )
     if target.guest:
-        called(
+        run_command(
             [GUESTS, os.path.dirname(target.guest)],
             given=" ".join([target.guest, target.program.source, *own]) + "\n",
         )
@@ -110,7 +113,8 @@ def build(target: Built) -> None:
 def build_all(
     chosen: Iterable[Program], threads: Sequence[int], line: int, folder: str, guests: bool
 ) -> list[Built]:
-    """Each form of each pair for each number of threads, in the folder, as many at a time as there are processors."""
+    """Each form of each pair for each number of threads, in the folder, as many at a time as there are
+    processors."""
     made = []
     for program in chosen:
         for count in threads:
@@ -120,7 +124,7 @@ def build_all(
                     Built(program, form, count, line, path, f"{path}.elf" if guests else "")
                 )
     if guests:
-        called([GUESTS, folder, "--kit"])
+        run_command([GUESTS, folder, "--kit"])
     with ThreadPoolExecutor(os.cpu_count()) as pool:
         list(pool.map(build, made))
     return made

@@ -1,12 +1,14 @@
 #!/usr/bin/env python3
 """What a miss is worth in time, on this machine.
 
-usage: bench/clock/run.py [OPTIONS]           measures all, for some fifteen minutes or until it is interrupted, and prints what was found
+usage: bench/clock/run.py [OPTIONS]           measures all, for some fifteen minutes or until it is
+interrupted, and prints what was found
        bench/clock/run.py --again FOLDER      makes the texts and the page of a study anew, and measures nothing
        bench/clock/run.py --check             tries the study itself without timing
 
-Each pair of programs/ is a program as it is, and padded. Both are timed here, in turn, each thread on a processor of its own; the same
-sources are counted as guests of predator and, where valgrind is installed, recorded on this machine.
+Each pair of programs/ is a program as it is, and padded. Both are timed here, in turn, each thread on a
+processor of its own; the same sources are counted as guests of predator and, where valgrind is installed,
+recorded on this machine.
 
 Options:
   --cpus A,B,..     the processors, of which each thread gets one (all that this call may use)
@@ -21,7 +23,8 @@ Options:
   --disturbed       takes runs whose threads were switched, too: to see on a busy machine that all works
   --out FOLDER      where study.md, study.tsv, study.html and what they are made from go (bench/clock/out)
 
-Wants gcc, clang with lld and llvm, and the built program; for the page python3-jinja2. The machine has to be quiet."""
+Wants gcc, clang with lld and llvm, and the built program; for the page python3-jinja2. The machine has to be
+quiet."""
 
 import os
 import sys
@@ -30,23 +33,23 @@ import time
 from concurrent.futures import Future, ThreadPoolExecutor
 from typing import Iterator, Sequence
 
-from counts import Count, can_run, guest_count, recorded_count
+from counts import Count, can_run, count_guest, count_recording
 from judge import QUANTA, Row
 from page import page
-from pairs import FORMS, HERE, Built, Trouble, build_all, called, programs
+from pairs import FORMS, HERE, Built, Trouble, build_all, run_command, find_programs
 from tables import (
     RECORDED,
     Counted,
     Study,
-    counts_of,
-    kept,
-    key_of,
-    markdown,
-    saved,
-    told_counts,
-    values,
+    parse_counts,
+    parse_study,
+    count_key,
+    study_markdown,
+    study_json,
+    counts_json,
+    study_values,
 )
-from timing import ping_pong, stolen, time_pair, usual_rounds
+from timing import measure_latencies, read_steal_seconds, time_pair, default_rounds
 
 OPTIONS = {
     "--cpus": "",
@@ -98,99 +101,105 @@ class Call:
         self.out, self.again, self.counted = given["--out"], given["--again"], given["--counted"]
         if not self.threads or any(it % 2 for it in self.threads) or self.runs < 1:
             raise Trouble(
-                "--threads are even numbers, none above that of the processors, and --runs is 1 or more"
+                "--threads are even numbers, none above that of the processors, and --runs is 1 or"
+                " more"
             )
 
 
-def say(text: str) -> None:
+def warn(text: str) -> None:
     print(text, file=sys.stderr, flush=True)
 
 
-def machine(call: Call) -> dict[str, str]:
+def describe_machine(call: Call) -> dict[str, str]:
     """What the measured times are of."""
     with open("/proc/cpuinfo", encoding="utf-8") as text:
         models = [it.partition(": ")[2].strip() for it in text if it.startswith("model name")]
     return {
         "date": time.strftime("%Y-%m-%d %H:%M"),
-        "processor": f"{models[0] if models else os.uname().machine}, of which {','.join(map(str, call.cpus))} were used",
+        "processor": (
+            f"{models[0] if models else os.uname().machine}, of which"
+            f" {','.join(map(str, call.cpus))} were used"
+        ),
         "system": f"{os.uname().sysname} {os.uname().release}",
-        "compiler": called(["gcc", "--version"]).splitlines()[0],
+        "compiler": run_command(["gcc", "--version"]).splitlines()[0],
         "runs": f"{call.runs} of each form, padded to {call.line} bytes",
     }
 
 
-def in_pairs(built: Sequence[Built]) -> Iterator[tuple[Built, Built]]:
+def pair_forms(built: Sequence[Built]) -> Iterator[tuple[Built, Built]]:
     """Both forms of each."""
     return zip(built[::2], built[1::2])
 
 
-def measured(call: Call, built: Sequence[Built]) -> list[Row]:
-    """The times, one pair after the other. A pair that fails is told, and left out."""
+def measure_pairs(call: Call, built: Sequence[Built]) -> list[Row]:
+    """The times, one pair after the other. A pair that fails is reported, and left out."""
     rows: list[Row] = []
-    for at, pair in enumerate(in_pairs(built), 1):
+    for at, pair in enumerate(pair_forms(built), 1):
         name = (
             f"{at:>3} of {len(built) // 2}  {pair[0].program.name} with {pair[0].threads} threads"
         )
         try:
             timed = time_pair(pair, call.cpus, call.runs, "--disturbed" in call.switches)
         except Trouble as error:
-            say(f"{name}: left out: {error}")
+            warn(f"{name}: left out: {error}")
             continue
         except KeyboardInterrupt:
-            say("stopped: the study is of the pairs so far")
+            warn("stopped: the study is of the pairs so far")
             break
-        rows.append(Row(pair[0].program, pair[0].threads, usual_rounds(pair[0]), timed, {}, {}))
+        rows.append(Row(pair[0].program, pair[0].threads, default_rounds(pair[0]), timed, {}, {}))
         kept_runs = (
             f", disturbed: {', '.join(f'{it.kept} of {it.runs} runs are left' for it in timed)}"
         )
-        say(f"{name}: {rows[-1].slowdown():.2f}{'' if rows[-1].is_quiet() else kept_runs}")
+        warn(f"{name}: {rows[-1].slowdown():.2f}{'' if rows[-1].is_quiet() else kept_runs}")
     return rows
 
 
-def outcome(job: "Future[Count]") -> Count | None:
+def count_outcome(job: "Future[Count]") -> Count | None:
     """What a count gave; where it failed that is said, and the study goes on without it."""
     try:
         return job.result()
     except Trouble as error:
-        say(str(error))
+        warn(str(error))
         return None
 
 
 def count_all(call: Call, built: Sequence[Built]) -> Counted:
-    """What predator counts of each, as many at a time as there are processors. Trouble where both forms compute otherwise."""
+    """What predator counts of each, as many at a time as there are processors. Trouble where both forms
+    compute otherwise."""
     made: Counted = {}
     with ThreadPoolExecutor(os.cpu_count()) as pool:
         jobs = [
-            (form, quantum, pool.submit(guest_count, form, quantum))
+            (form, quantum, pool.submit(count_guest, form, quantum))
             for form in built
             if form.guest
             for quantum in QUANTA
         ]
         records = "--no-recording" not in call.switches
         jobs += [
-            (form, RECORDED, pool.submit(recorded_count, form))
+            (form, RECORDED, pool.submit(count_recording, form))
             for form in built
             if form.guest and records
         ]
         for task, quantum, job in jobs:
-            found = outcome(job)
+            found = count_outcome(job)
             if found:
-                made.setdefault(key_of(task), {})[task.form, quantum] = found
+                made.setdefault(count_key(task), {})[task.form, quantum] = found
     for key, own in made.items():
         results = {it.result for it in own.values()}
         if len(results) > 1:
             raise Trouble(f"{key} computes {sorted(results)}")
-    say(f"counted {len(jobs)} runs" if jobs else "nothing was counted")
+    warn(f"counted {len(jobs)} runs" if jobs else "nothing was counted")
     return made
 
 
 def put_counts(counted: Counted, pairs: Sequence[Built], rows: Sequence[Row]) -> None:
-    """Puts to each row what was counted of it. What is told where there is nothing: the sources changed, or the count failed."""
-    keys = {(it.program.name, it.threads): key_of(it) for it in pairs}
+    """Puts its counts to each row. A row without counts is reported: the sources changed, or
+    the count failed."""
+    keys = {(it.program.name, it.threads): count_key(it) for it in pairs}
     for row in rows:
         found = counted.get(keys[row.program.name, row.threads], {})
         if not found:
-            say(
+            warn(
                 f"nothing was counted of {row.program.name} with {row.threads} threads as it is now"
             )
         row.counts.update({key: it for key, it in found.items() if key[1] != RECORDED})
@@ -199,68 +208,80 @@ def put_counts(counted: Counted, pairs: Sequence[Built], rows: Sequence[Row]) ->
         )
 
 
-def read(folder: str, name: str) -> str:
+def read_file(folder: str, name: str) -> str:
     with open(os.path.join(folder, name), encoding="utf-8") as text:
         return text.read()
 
 
-def study_in(folder: str) -> Study:
-    return kept(read(folder, STUDY))
+def read_study(folder: str) -> Study:
+    return parse_study(read_file(folder, STUDY))
 
 
-def keep(text: str, folder: str, name: str) -> None:
+def store_text(text: str, folder: str, name: str) -> None:
     os.makedirs(folder, exist_ok=True)
     with open(os.path.join(folder, name), "w", encoding="utf-8") as file:
         file.write(text)
 
 
-def write(study: Study, out: str) -> None:
+def write_study(study: Study, out: str) -> None:
     """The four files, and what was found on standard output."""
-    text = markdown(study)
+    text = study_markdown(study)
     seen = page({study.machine.get("date", "this study"): study})
-    made = {STUDY: saved(study), "study.tsv": values(study), "study.md": text, "study.html": seen}
+    made = {
+        STUDY: study_json(study),
+        "study.tsv": study_values(study),
+        "study.md": text,
+        "study.html": seen,
+    }
     for name, own in made.items():
         if own is None:
-            say(
-                f"{name} wants python3-jinja2: apt-get install python3-jinja2, and then --again {out}"
+            warn(
+                f"{name} wants python3-jinja2: apt-get install python3-jinja2, and then --again"
+                f" {out}"
             )
         else:
-            keep(own, out, name)
+            store_text(own, out, name)
     print(text)
-    say(f"written to {out}")
+    warn(f"written to {out}")
 
 
-def study_of(call: Call) -> Study:
+def make_study(call: Call) -> Study:
     """Measures and counts."""
-    chosen = programs(call.only)
+    chosen = find_programs(call.only)
     guests = not call.counted and can_run()
     if not guests and not call.counted:
-        say(
-            "bin/predator has no program for these sources (PREDATOR_PROGRAM names one), so nothing is counted"
+        warn(
+            "bin/predator has no program for these sources (PREDATOR_PROGRAM names one), so nothing"
+            " is counted"
         )
     with tempfile.TemporaryDirectory() as folder:
-        say(f"building {len(chosen)} pairs for {' and '.join(map(str, call.threads))} threads")
+        warn(f"building {len(chosen)} pairs for {' and '.join(map(str, call.threads))} threads")
         built = build_all(chosen, call.threads, call.line, folder, guests)
-        counted = counts_of(read(call.counted, COUNTS)) if call.counted else count_all(call, built)
-        keep(told_counts(counted), call.out, COUNTS)
+        counted = (
+            parse_counts(read_file(call.counted, COUNTS))
+            if call.counted
+            else count_all(call, built)
+        )
+        store_text(counts_json(counted), call.out, COUNTS)
         if "--count-only" in call.switches:
             return Study({}, {}, call.step, [])
-        before, began = stolen(), time.monotonic()
+        before, began = read_steal_seconds(), time.monotonic()
         lines = {
             f"{a} and {b}": ns
-            for (a, b), ns in ping_pong(call.cpus[: max(call.threads)], folder).items()
+            for (a, b), ns in measure_latencies(call.cpus[: max(call.threads)], folder).items()
         }
-        say(
+        warn(
             "from one processor to another, in nanoseconds: "
             + ", ".join(f"{it} {ns:.0f}" for it, ns in lines.items())
         )
-        rows = measured(call, built)
-        told = machine(call)
-        told[
-            "timing"
-        ] = f"{time.monotonic() - began:.0f} s, in which the host kept the processors for others for {stolen() - before:.1f} s"
+        rows = measure_pairs(call, built)
+        machine = describe_machine(call)
+        machine["timing"] = (
+            f"{time.monotonic() - began:.0f} s, in which the host kept the processors for others"
+            f" for {read_steal_seconds() - before:.1f} s"
+        )
         put_counts(counted, built, rows)
-    return Study(told, lines, call.step, rows)
+    return Study(machine, lines, call.step, rows)
 
 
 def main(words: Sequence[str]) -> int:
@@ -273,13 +294,13 @@ def main(words: Sequence[str]) -> int:
 
             return check(call.only)
         elif call.again:
-            write(study_in(call.again), call.again)
+            write_study(read_study(call.again), call.again)
         else:
-            study = study_of(call)
+            study = make_study(call)
             if study.rows:
-                write(study, call.out)
+                write_study(study, call.out)
             else:
-                say(f"{COUNTS} is written to {call.out}")
+                warn(f"{COUNTS} is written to {call.out}")
     except (Trouble, OSError) as error:
         print(f"run.py: {error}", file=sys.stderr)
         return 2

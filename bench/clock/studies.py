@@ -15,33 +15,43 @@ from statistics import median
 from typing import Callable, Iterator, Mapping, Sequence
 
 from counts import Count
-from judge import QUANTA, USUAL, Cell, Row, bands, both, correlated, reported
+from judge import (
+    QUANTA,
+    USUAL,
+    Cell,
+    Row,
+    band_summary,
+    total_misses,
+    rank_correlation,
+    invalidation_rate,
+)
 from page import page
-from pairs import FORMS, HERE, TOP, Program, Trouble, programs
-from tables import Study, shown, table
+from pairs import FORMS, HERE, TOP, Program, Trouble, find_programs
+from tables import Study, number_text, table
 from timing import Timed
 
 RESULTS = os.path.join(HERE, "results")
-# The programs of the table: of the first band and of the last, and those on which the bands and the bound mislead.
+# The programs of the table: of the first band and of the last, and those on which the bands and the bound
+# mislead.
 NAMED = ("nodes", "atomics", "readers", "stores", "blocks", "bytes", "guarded", "ring")
 
 
-def number(text: str) -> int:
+def parse_number(text: str) -> int:
     return int(float(text))
 
 
-def count_of(cells: Mapping[str, str]) -> Count:
+def parse_count(cells: Mapping[str, str]) -> Count:
     """A count by what a table has of it."""
-    return Count(*(number(cells.get(it, "0")) for it in Count._fields))
+    return Count(*(parse_number(cells.get(it, "0")) for it in Count._fields))
 
 
-def row_of(cells: Mapping[str, str], texts: Mapping[str, str]) -> Row:
+def parse_row(cells: Mapping[str, str], texts: Mapping[str, str]) -> Row:
     """A row of a table: of its runs the quarters of the slowdown are kept, and not those of both forms."""
     low, high, whole = float(cells["low"]), float(cells["high"]), float(cells[f"{FORMS[1]}: ns"])
     timed = []
     for form, (least, most) in zip(FORMS, ((low * whole, high * whole), (whole, whole))):
         kept, runs, rounds, voluntary, involuntary = (
-            number(cells[f"{form}: {what}"])
+            parse_number(cells[f"{form}: {what}"])
             for what in ("kept", "runs", "rounds", "voluntary", "involuntary")
         )
         timed.append(
@@ -58,7 +68,7 @@ def row_of(cells: Mapping[str, str], texts: Mapping[str, str]) -> Row:
             )
         )
     counts = {
-        (form, quantum): count_of(
+        (form, quantum): parse_count(
             {
                 what: cells[f"{form}, quantum {quantum}: {what}"]
                 for what in ("steps", "useful", "useless", "listed")
@@ -69,7 +79,7 @@ def row_of(cells: Mapping[str, str], texts: Mapping[str, str]) -> Row:
         if cells[f"{form}, quantum {quantum}: steps"]
     }
     recorded = {
-        form: count_of(
+        form: parse_count(
             {what: cells[f"{form}, recorded: {what}"] for what in ("accesses", "useful", "useless")}
         )
         for form in FORMS
@@ -77,11 +87,16 @@ def row_of(cells: Mapping[str, str], texts: Mapping[str, str]) -> Row:
     }
     program = Program(cells["program"], cells["kind"], texts.get(cells["program"], ""), "")
     return Row(
-        program, number(cells["threads"]), number(cells["guest rounds"]), timed, counts, recorded
+        program,
+        parse_number(cells["threads"]),
+        parse_number(cells["guest rounds"]),
+        timed,
+        counts,
+        recorded,
     )
 
 
-def of_values(text: str) -> Study:
+def parse_values(text: str) -> Study:
     """The study of a table that `values` made."""
     notes = dict(re.findall(r"^# ([^:\n]*): (.*)$", text, re.MULTILINE))
     lines = {
@@ -94,44 +109,44 @@ def of_values(text: str) -> Study:
         for name, told in notes.items()
         if not name.startswith("line ") and name != "step"
     }
-    texts = {it.name: it.text for it in programs()}
+    texts = {it.name: it.text for it in find_programs()}
     rows = csv.DictReader((it for it in text.splitlines() if it[:1] != "#"), delimiter="\t")
-    return Study(machine, lines, float(notes["step"]), [row_of(it, texts) for it in rows])
+    return Study(machine, lines, float(notes["step"]), [parse_row(it, texts) for it in rows])
 
 
-def all_kept() -> dict[str, Study]:
+def read_studies() -> dict[str, Study]:
     """The studies by the names of their files, in the order of these."""
     made = {}
     for file in sorted(os.listdir(RESULTS)):
         name, ending = os.path.splitext(file)
         if ending == ".tsv":
             with open(os.path.join(RESULTS, file), encoding="utf-8") as text:
-                made[name] = of_values(text.read())
+                made[name] = parse_values(text.read())
     if not made:
         raise Trouble(f"no study is kept in {RESULTS}")
     return made
 
 
-def bands_beside(studies: Mapping[str, Study]) -> str:
+def bands_table(studies: Mapping[str, Study]) -> str:
     """The bands of all studies: how many cases each has, and its least, middle and greatest slowdown."""
     heads = ["False-sharing misses per 1,000 steps"]
-    rows: list[list[Cell]] = [[it[0]] for it in bands([])]
+    rows: list[list[Cell]] = [[it[0]] for it in band_summary([])]
     for name, study in studies.items():
         heads += [f"{name}: cases", "least", "median", "greatest"]
-        rows = [own + more[1:] for own, more in zip(rows, bands(study.judged()))]
+        rows = [own + more[1:] for own, more in zip(rows, band_summary(study.quiet_rows()))]
     return table(heads, rows)
 
 
-def ranks(study: Study) -> list[tuple[str, Cell]]:
+def rank_table(study: Study) -> list[tuple[str, Cell]]:
     """The rank correlations of the slowdown with some numbers."""
     chosen = {
         "false-sharing misses": rate(USUAL),
         "the same, quantum 10": rate(10),
         "the same, quantum 1": rate(1),
     }
-    chosen |= {"false- and true-sharing misses": both, "invalidations": reported}
+    chosen |= {"false- and true-sharing misses": total_misses, "invalidations": invalidation_rate}
     return [
-        (f"rank correlation with {name}", correlated(study.judged(), entry))
+        (f"rank correlation with {name}", rank_correlation(study.quiet_rows(), entry))
         for name, entry in chosen.items()
     ]
 
@@ -140,17 +155,17 @@ def rate(quantum: int) -> Callable[[Row], float | None]:
     return lambda row: row.rate(quantum)
 
 
-def is_handed(row: Row) -> bool:
+def is_true_sharing(row: Row) -> bool:
     """Whether most misses of a program as it is are useful."""
     found = row.counts[FORMS[0], USUAL]
     return found.useful > found.useless
 
 
-def of_bound(study: Study) -> list[tuple[str, Cell]]:
+def bound_facts(study: Study) -> list[tuple[str, Cell]]:
     """How the bound that view prints did, with the latency of the machine."""
     most = [
         (row, bound)
-        for row in study.judged()
+        for row in study.quiet_rows()
         if (bound := row.at_most(study.latency(), study.step)) is not None
     ]
     passed = sorted({row.program.name for row, it in most if row.share() > it + 0.02})
@@ -168,18 +183,18 @@ def of_bound(study: Study) -> list[tuple[str, Cell]]:
     ]
 
 
-def facts(study: Study) -> list[tuple[str, Cell]]:
+def study_facts(study: Study) -> list[tuple[str, Cell]]:
     """What else the document tells of a study."""
-    rows, ways = study.judged(), sorted(study.lines.values())
-    handed = [it for it in rows if is_handed(it)]
+    rows, ways = study.quiet_rows(), sorted(study.lines.values())
+    handed = [it for it in rows if is_true_sharing(it)]
     slower, gained = sum(it.slowdown() < 0.95 for it in handed), sum(
         it.slowdown() > 1.05 for it in handed
     )
     return [
         ("undisturbed pairs", f"{len(rows)} of {len(study.rows)}"),
         ("ns from one processor to another", f"{ways[0]:.0f} to {ways[-1]:.0f}"),
-        *ranks(study),
-        *of_bound(study),
+        *rank_table(study),
+        *bound_facts(study),
         (
             "of pairs with mostly true sharing, slower by 5% when padded; faster",
             f"{slower}; {gained} of {len(handed)}",
@@ -187,31 +202,32 @@ def facts(study: Study) -> list[tuple[str, Cell]]:
     ]
 
 
-def facts_beside(studies: Mapping[str, Study]) -> str:
+def facts_table(studies: Mapping[str, Study]) -> str:
     rows: dict[str, list[Cell]] = {}
     for study in studies.values():
-        for name, cell in facts(study):
+        for name, cell in study_facts(study):
             rows.setdefault(name, [name]).append(cell)
     return table(["Study", *studies], list(rows.values()))
 
 
-def slowdowns(study: Study, name: str) -> str:
+def slowdown_text(study: Study, name: str) -> str:
     """The slowdowns of a program with each number of threads, those of disturbed runs in brackets."""
     own = sorted((it for it in study.rows if it.program.name == name), key=lambda row: row.threads)
     return ", ".join(
-        shown(it.slowdown()) if it.is_quiet() else f"({shown(it.slowdown())})" for it in own
+        number_text(it.slowdown()) if it.is_quiet() else f"({number_text(it.slowdown())})"
+        for it in own
     )
 
 
-def programs_beside(studies: Mapping[str, Study], names: Sequence[str]) -> str:
+def programs_table(studies: Mapping[str, Study], names: Sequence[str]) -> str:
     """The false-sharing misses of some programs, and their slowdowns."""
     first, rows = next(iter(studies.values())), []
     for name in names:
         own = sorted(
             (it for it in first.rows if it.program.name == name), key=lambda row: row.threads
         )
-        rates = ", ".join(shown(it.rate()) for it in own)
-        rows.append([f"`{name}`", rates, *[slowdowns(it, name) for it in studies.values()]])
+        rates = ", ".join(number_text(it.rate()) for it in own)
+        rows.append([f"`{name}`", rates, *[slowdown_text(it, name) for it in studies.values()]])
     heads = [
         "Program",
         "False-sharing misses per 1,000 steps",
@@ -220,13 +236,13 @@ def programs_beside(studies: Mapping[str, Study], names: Sequence[str]) -> str:
     return table(heads, rows)
 
 
-def parts(studies: Mapping[str, Study]) -> dict[str, dict[str, str]]:
+def document_parts(studies: Mapping[str, Study]) -> dict[str, dict[str, str]]:
     """The texts between the marks of each document."""
-    told = [bands_beside(studies), facts_beside(studies), programs_beside(studies, NAMED)]
+    told = [bands_table(studies), facts_table(studies), programs_table(studies, NAMED)]
     return {"STUDIES.md": {"clock": "\n\n".join(told)}}
 
 
-def renewed(text: str, found: Mapping[str, str], of: str) -> str:
+def renew_parts(text: str, found: Mapping[str, str], of: str) -> str:
     """A document with the texts between its marks `<!-- NAME -->` and the next `<!-- end -->`."""
     for name, own in found.items():
         mark = f"<!-- {name} -->\n"
@@ -237,20 +253,20 @@ def renewed(text: str, found: Mapping[str, str], of: str) -> str:
     return text
 
 
-def documents(studies: Mapping[str, Study]) -> Iterator[tuple[str, str, str]]:
+def renew_documents(studies: Mapping[str, Study]) -> Iterator[tuple[str, str, str]]:
     """The path of each document, its text, and what that is to be."""
-    for name, found in parts(studies).items():
+    for name, found in document_parts(studies).items():
         path = os.path.join(TOP, "docs", name)
         with open(path, encoding="utf-8") as file:
             text = file.read()
-        yield path, text, renewed(text, found, path)
+        yield path, text, renew_parts(text, found, path)
 
 
 def main(words: Sequence[str]) -> int:
     try:
-        studies = all_kept()
+        studies = read_studies()
         if words == ["--renew"]:
-            for path, _, text in documents(studies):
+            for path, _, text in renew_documents(studies):
                 with open(path, "w", encoding="utf-8") as file:
                     file.write(text)
         elif len(words) == 2 and words[0] == "--html":
@@ -260,7 +276,7 @@ def main(words: Sequence[str]) -> int:
             with open(words[1], "w", encoding="utf-8") as file:
                 file.write(made)
         elif not words:
-            for found in parts(studies).values():
+            for found in document_parts(studies).values():
                 print(*found.values(), sep="\n\n", end="\n\n")
         else:
             print(__doc__)

@@ -1,4 +1,5 @@
-"""The study as text: the tables of Markdown, the table of tab-separated values, and the record from which all is made again."""
+"""The study as text: the tables of Markdown, the table of tab-separated values, and the record from which all
+is made again."""
 
 import hashlib
 import json
@@ -6,13 +7,14 @@ import os
 from typing import Any, NamedTuple, Sequence
 
 from counts import Count
-from judge import EDGES, QUANTA, USUAL, Cell, Row, bands, bound_told, correlations
+from judge import EDGES, QUANTA, USUAL, Cell, Row, band_summary, bound_sentences, correlations
 from pairs import FORMS, HERE, Built, Program
 from timing import Timed
 
 
 class Study(NamedTuple):
-    """What was measured, and where: `machine` has names and texts, `lines` the nanoseconds between each two processors."""
+    """What was measured, and where: `machine` has names and texts, `lines` the nanoseconds between each two
+    processors."""
 
     machine: dict[str, str]
     lines: dict[str, float]
@@ -27,12 +29,12 @@ class Study(NamedTuple):
     def threads(self) -> list[int]:
         return sorted({it.threads for it in self.rows})
 
-    def judged(self) -> list[Row]:
+    def quiet_rows(self) -> list[Row]:
         """The rows that nothing disturbed."""
         return [it for it in self.rows if it.is_quiet()]
 
 
-def saved(study: Study) -> str:
+def study_json(study: Study) -> str:
     """The record of a study."""
     rows = [
         {
@@ -56,7 +58,7 @@ def saved(study: Study) -> str:
     )
 
 
-def row_of(fields: dict[str, Any]) -> Row:
+def parse_row(fields: dict[str, Any]) -> Row:
     counts = {(form, quantum): Count(**own) for form, quantum, own in fields["counts"]}
     recorded = {form: Count(**own) for form, own in fields["recorded"].items()}
     timed = [Timed(**own) for own in fields["timed"]]
@@ -71,29 +73,33 @@ def row_of(fields: dict[str, Any]) -> Row:
     )
 
 
-def kept(text: str) -> Study:
+def parse_study(text: str) -> Study:
     """The study of a record."""
     found = json.loads(text)
     return Study(
-        found["machine"], found["lines"], found["step"], [row_of(it) for it in found["rows"]]
+        found["machine"], found["lines"], found["step"], [parse_row(it) for it in found["rows"]]
     )
 
 
-# What was counted of each pair with so many threads, by its key; by form and quantum, where RECORDED is the recording on this machine.
+# What was counted of each pair with so many threads, by its key; by form and quantum, where RECORDED is the
+# recording on this machine.
 RECORDED = 0
 Counted = dict[str, dict[tuple[str, int], Count]]
 
 
-def key_of(counted: Built) -> str:
+def count_key(counted: Built) -> str:
     """What a count belongs to: a pair, its threads, and the sources."""
     made = hashlib.sha256()
     for name in (counted.program.source, os.path.join(HERE, "clock.h")):
         with open(name, "rb") as file:
             made.update(file.read())
-    return f"{counted.program.name} with {counted.threads} threads, lines of {counted.line} bytes, {made.hexdigest()[:12]}"
+    return (
+        f"{counted.program.name} with {counted.threads} threads, lines of {counted.line} bytes,"
+        f" {made.hexdigest()[:12]}"
+    )
 
 
-def told_counts(counted: Counted) -> str:
+def counts_json(counted: Counted) -> str:
     rows = [
         [key, form, quantum, entry._asdict()]
         for key, own in counted.items()
@@ -102,14 +108,14 @@ def told_counts(counted: Counted) -> str:
     return json.dumps(rows, indent=1) + "\n"
 
 
-def counts_of(text: str) -> Counted:
+def parse_counts(text: str) -> Counted:
     made: Counted = {}
     for key, form, quantum, load in json.loads(text):
         made.setdefault(key, {})[form, quantum] = Count(**load)
     return made
 
 
-def shown(value: Cell) -> str:
+def number_text(value: Cell) -> str:
     """A number with two places, or without any from a hundred on; a dash for what isn't there."""
     if value is None:
         return "-"
@@ -123,7 +129,7 @@ def table(heads: Sequence[str], rows: Sequence[Sequence[Cell]], texts: int = 1) 
     marks = ["-" if at < texts else "-:" for at in range(len(heads))]
     return "\n".join(
         "| " + " | ".join(cells) + " |"
-        for cells in [list(heads), marks, *[[shown(it) for it in row] for row in rows]]
+        for cells in [list(heads), marks, *[[number_text(it) for it in row] for row in rows]]
     )
 
 
@@ -139,9 +145,9 @@ def main_table(study: Study) -> str:
         "Threads",
         "Slowdown",
         "quarters",
-        *[f"useless, {it}" for it in QUANTA],
+        *[f"false, {it}" for it in QUANTA],
     ]
-    heads += ["padded, 100", "useful, 100", "recorded, 100", "at most", "saved"]
+    heads += ["padded, 100", "true, 100", "recorded, 100", "at most", "saved"]
     rows: list[list[Cell]] = []
     for own in sorted(study.rows, key=lambda own: -own.slowdown()):
         usual, here = own.counts.get((FORMS[0], USUAL)), own.recorded.get(FORMS[0])
@@ -167,54 +173,60 @@ def main_table(study: Study) -> str:
 def bands_table(study: Study) -> str:
     """The bands, over all and with each count of threads."""
     heads = [
-        "Useless misses by 1000 steps, quantum 100",
+        "False-sharing misses per 1,000 steps, quantum 100",
         "Cases",
         "Least slowdown",
         "Middle",
         "Greatest",
     ]
-    parts = [table(heads, bands(study.judged()))]
+    parts = [table(heads, band_summary(study.quiet_rows()))]
     for count in study.threads():
         parts += [
             f"With {count} threads:",
-            table(heads, bands([it for it in study.judged() if it.threads == count])),
+            table(heads, band_summary([it for it in study.quiet_rows() if it.threads == count])),
         ]
     return "\n\n".join(parts)
 
 
 def ranks_table(study: Study) -> str:
     heads = ["Number", *[f"{it} threads" for it in study.threads()], "all", "without handovers"]
-    return table(heads, correlations(study.judged(), study.threads()))
+    return table(heads, correlations(study.quiet_rows(), study.threads()))
 
 
-def exceptions(study: Study) -> list[str]:
+def exceptional_rows(study: Study) -> list[str]:
     """Rows that the usual rate would mislead on, and those that padding made slower."""
-    told = []
-    for own in study.judged():
+    rows = []
+    for own in study.quiet_rows():
         rate, name = own.rate(), f"{own.program.name} with {own.threads} threads"
         if rate is not None and rate < EDGES[1] and own.range()[0] > 1.2:
-            told.append(
-                f"{name}: {rate:.2f} useless misses by 1000 steps, and a slowdown of {own.slowdown():.2f}"
+            rows.append(
+                f"{name}: {rate:.2f} false-sharing misses per 1,000 steps, and a slowdown of"
+                f" {own.slowdown():.2f}"
             )
         if rate is not None and rate >= EDGES[3] and own.range()[0] < 1.1:
-            told.append(
-                f"{name}: {rate:.2f} useless misses by 1000 steps, and a slowdown of {own.slowdown():.2f} alone"
+            rows.append(
+                f"{name}: {rate:.2f} false-sharing misses per 1,000 steps, and a slowdown of"
+                f" {own.slowdown():.2f} alone"
             )
         if own.range()[1] < 0.97:
-            told.append(f"{name}: padding made it slower, {1 / own.slowdown():.2f} times")
-    return told
+            rows.append(f"{name}: padding made it slower, {1 / own.slowdown():.2f} times")
+    return rows
 
 
-def markdown(study: Study) -> str:
+def study_markdown(study: Study) -> str:
     """The whole text."""
-    quiet = f"{len(study.judged())} of {len(study.rows)} rows are of runs that nothing disturbed; the bands and ranks are of these."
-    steps = sorted(it for row in study.judged() for it in [row.step()] if it is not None)
+    quiet = (
+        f"{len(study.quiet_rows())} of {len(study.rows)} rows are of runs that nothing disturbed;"
+        " the bands and ranks are of these."
+    )
+    steps = sorted(it for row in study.quiet_rows() for it in [row.step()] if it is not None)
     middle = (
-        f"A step of the padded forms without handovers took {steps[0]:.2f} to {steps[-1]:.2f} ns, in the middle "
+        f"A step of the padded forms without handovers took {steps[0]:.2f} to {steps[-1]:.2f} ns,"
+        " in the middle "
         if steps
         else ""
     )
-    told = f"{middle}{steps[len(steps) // 2]:.2f} ns." if steps else ""
+    step_text = f"{middle}{steps[len(steps) // 2]:.2f} ns." if steps else ""
     parts = [
         "# What a miss is worth in time",
         "",
@@ -223,7 +235,7 @@ def markdown(study: Study) -> str:
     ]
     lines = ", ".join(f"{between}: {ns:.0f}" for between, ns in study.lines.items())
     parts += [
-        f"A line's way from one processor to another, in nanoseconds: {lines}. {told}",
+        f"A line's way from one processor to another, in nanoseconds: {lines}. {step_text}",
         "",
         quiet,
         "",
@@ -238,13 +250,18 @@ def markdown(study: Study) -> str:
         ranks_table(study),
         "",
     ]
-    parts += ["## Upper bound", "", *bound_told(study.judged(), study.latency(), study.step), ""]
-    parts += ["## Exceptions", "", *[f"- {it}" for it in exceptions(study)], ""]
+    parts += [
+        "## Upper bound",
+        "",
+        *bound_sentences(study.quiet_rows(), study.latency(), study.step),
+        "",
+    ]
+    parts += ["## Exceptions", "", *[f"- {it}" for it in exceptional_rows(study)], ""]
     parts += ["## All pairs", "", main_table(study), ""]
     return "\n".join(parts)
 
 
-def values(study: Study) -> str:
+def study_values(study: Study) -> str:
     """All numbers as tab-separated values with a head, behind lines that say where they were measured."""
     notes = [
         *study.machine.items(),

@@ -1,9 +1,10 @@
 #!/usr/bin/env python3
-"""Builds Debian's allocators, unchanged, into one workload, runs it, and prints where blocks of two threads meet: run.py [--renew |
---build].
+"""Builds Debian's allocators, unchanged, into one workload, runs it, and prints where blocks of two threads
+meet: run.py [--renew | --build].
 
-fetch.sh has fetched the sources. --renew puts the table into docs/STUDIES.md. --build leaves the two programs of the allocators, where each
-thread asks for its first blocks itself, in guest/built/studies, as `dlmalloc.elf` and `mimalloc.elf`, and runs none."""
+fetch.sh has fetched the sources. --renew puts the table into docs/STUDIES.md. --build leaves the two programs
+of the allocators, where each thread asks for its first blocks itself, in guest/built/studies, as
+`dlmalloc.elf` and `mimalloc.elf`, and runs none."""
 
 import os
 import subprocess
@@ -12,7 +13,7 @@ import tempfile
 
 HERE = os.path.dirname(os.path.abspath(__file__))
 sys.path.insert(0, os.path.join(HERE, "..", "studies"))
-from report import BUILT, PROGRAM, TOP, Run, renew, table  # noqa: E402
+from report import BUILT, PROGRAM, TOP, Run, renew_document, markdown_table  # noqa: E402
 
 SETTINGS = "memory = 67108864\n"
 KIT = "the kit's `malloc`"
@@ -53,13 +54,13 @@ def build(out, sources, flags):
     subprocess.run(words, check=True, env={**os.environ, "KIT": "c", "PLAIN": "yes"})
 
 
-def heap_of(path):
+def heap_begin(path):
     """Where the heap begins."""
     ran = subprocess.run([PROGRAM, "check", path], stdout=subprocess.PIPE, text=True, check=True)
     return next(int(it.split()[1], 16) for it in ran.stdout.split("\n") if it.startswith("heap"))
 
 
-def threads_of(output):
+def threads_by_line(output):
     """The threads whose blocks stand on each line of 64 bytes, at the end."""
     found = {}
     for words in (it.split() for it in output.split("\n") if it.startswith("block ")):
@@ -69,10 +70,10 @@ def threads_of(output):
     return found
 
 
-def row(name, workload, run, heap):
-    threads = threads_of(run.output)
-    of_heap = [it for it in run.report.of_kind("observed") if it.base >= heap]
-    others = [it for it in run.report.of_kind("observed") if it.base < heap]
+def table_row(name, workload, run, heap):
+    threads = threads_by_line(run.output)
+    of_heap = [it for it in run.report.lines_of_kind("observed") if it.base >= heap]
+    others = [it for it in run.report.lines_of_kind("observed") if it.base < heap]
     met = [it for it in threads if len(threads[it]) > 1]
     return [
         name,
@@ -83,7 +84,7 @@ def row(name, workload, run, heap):
         sum(it.count for it in of_heap),
         len(others),
         sum(it.count for it in others),
-        run.told(),
+        run.excerpt_title(),
     ]
 
 
@@ -102,7 +103,7 @@ def main(words):
                 build(path, sources, flags + more)
                 run = Run(path, SETTINGS)
                 wrong += len(run.wrong)
-                rows.append(row(name, workload, run, heap_of(path)))
+                rows.append(table_row(name, workload, run, heap_begin(path)))
     heads = [
         "Allocator",
         "First blocks",
@@ -112,12 +113,14 @@ def main(words):
         "Invalidations",
     ]
     parts = {
-        "allocators": table([*heads, "Observed elsewhere", "Invalidations", "Recount"], rows),
+        "allocators": markdown_table(
+            [*heads, "Observed elsewhere", "Invalidations", "Recount"], rows
+        ),
     }
     for name, text in parts.items():
         print(f"\n== {name}\n\n{text}")
     if "--renew" in words:
-        renew(parts)
+        renew_document(parts)
     return 1 if wrong else 0
 
 

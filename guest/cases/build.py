@@ -1,6 +1,7 @@
 #!/usr/bin/env python3
-"""Assembles each program of programs.S into crates/worked_runs/data/NAME.elf: a header, its segments, its code, and its symbols
-where it has any, as small as can be. It takes clang with the target riscv32, and llvm-objcopy."""
+"""Assembles each program of programs.S into crates/worked_runs/data/NAME.elf: a header, its segments, its
+code, and its symbols where it has any, as small as can be. It takes clang with the target riscv32, and
+llvm-objcopy."""
 
 import os
 import re
@@ -13,7 +14,7 @@ DATA = os.path.join(HERE, "..", "..", "crates", "worked_runs", "data")
 BASE = 0x10000
 
 
-def assembled(text, work):
+def assemble(text, work):
     source, made, code = (os.path.join(work, it) for it in ("it.S", "it.o", "it.bin"))
     with open(source, "w") as out:
         out.write(text)
@@ -24,8 +25,9 @@ def assembled(text, work):
         return file.read()
 
 
-def read_more(text):
-    """What the lines `#+ ..` under a heading say: the rights of the code, the segments of zeros, and the functions."""
+def parse_more(text):
+    """What the lines `#+ ..` under a heading say: the rights of the code, the segments of zeros, and the
+    functions."""
     rights, zeros, functions = 7, [], []
     for words in (line.split()[1:] for line in text.splitlines() if line.startswith("#+")):
         if words[0] == "rights":
@@ -37,7 +39,7 @@ def read_more(text):
     return rights, zeros, functions
 
 
-def sections_of(functions, place):
+def section_bytes(functions, place):
     """The symbols of functions, their names, and the three section headers, from a place in the file on."""
     names, symbols = b"\0", bytes(16)
     for name, addr, size in functions:
@@ -49,10 +51,10 @@ def sections_of(functions, place):
     return symbols + names, bytes(40) + table + strings
 
 
-def elf_of(code, rights, zeros, functions):
+def elf_bytes(code, rights, zeros, functions):
     segments = 1 + len(zeros)
     begin = 52 + 32 * segments
-    content, sections = sections_of(functions, begin + len(code)) if functions else (b"", b"")
+    content, sections = section_bytes(functions, begin + len(code)) if functions else (b"", b"")
     table = begin + len(code) + len(content) if functions else 0
     header = struct.pack(
         "<4sBBB9xHHIIIIIHHHHHH",
@@ -85,4 +87,4 @@ with open(os.path.join(HERE, "programs.S")) as file:
 with tempfile.TemporaryDirectory() as work:
     for name, text in zip(parts[::2], parts[1::2]):
         with open(os.path.join(DATA, f"{name}.elf"), "wb") as out:
-            out.write(elf_of(assembled(text, work), *read_more(text)))
+            out.write(elf_bytes(assemble(text, work), *parse_more(text)))

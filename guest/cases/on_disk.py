@@ -1,8 +1,10 @@
 #!/usr/bin/env python3
-"""Plays the cases of crates/worked_runs/data with the built program over real files: on_disk.py [--renew] [CASE ..].
+"""Plays the cases of crates/worked_runs/data with the built program over real files: on_disk.py [--renew]
+[CASE ..].
 
-It says which calls end otherwise than their case says, and ends with 1 if any does. With --renew it puts into the cases what the
-program printed and answered: read the difference line by line before it is committed, since a case says what is right."""
+It says which calls end otherwise than their case says, and ends with 1 if any does. With --renew it puts into
+the cases what the program printed and answered: read the difference line by line before it is committed,
+since a case says what is right."""
 
 import os
 import struct
@@ -21,19 +23,19 @@ PROGRAM = os.path.abspath(
 )
 
 
-def content(form, lines, words):
+def file_bytes(form, lines, words):
     """The bytes of a file that a case spells."""
     if form == "text":
         return "".join(line + "\n" for line in lines).encode()
     if form == "bytes":
         return bytes.fromhex("".join(lines))
-    made = struct.pack("<8sQHH", b"PRDTRC01", 0, 8, 0) + b"".join(map(record, lines))
+    made = struct.pack("<8sQHH", b"PRDTRC01", 0, 8, 0) + b"".join(map(record_bytes, lines))
     accesses = sum(line[0] in "RW" for line in lines)
     steps = int(words[1]) if len(words) > 1 else accesses
     return made + struct.pack("<B8xQQ", 6, steps, accesses)
 
 
-def record(line):
+def record_bytes(line):
     """The bytes of a record that a case spells."""
     words = line.split()
     if words[0] == "alloc":
@@ -50,19 +52,19 @@ def record(line):
     return struct.pack("<BHIB", 1 + (touch[0] == "W"), int(touch[1:]), int(addr, 16), int(size))
 
 
-def usage():
+def usage_lines():
     """The usage lines, which cases name by one word."""
     return read(os.path.join(DATA, "usage.txt")).decode().splitlines()
 
 
-def spelled(lines):
+def unescape_lines(lines):
     """The lines of a case that spell these."""
-    if lines == usage():
+    if lines == usage_lines():
         return ["usage"]
     return [f"| {it}" if it else "|" for it in lines]
 
 
-def parts(path):
+def read_parts(path):
     """The parts of a case: each a line and the spelled lines behind it."""
     found = []
     with open(path) as file:
@@ -70,7 +72,7 @@ def parts(path):
             if line == "|" or line.startswith("| "):
                 found[-1][1].append(line[2:])
             elif line == "usage":
-                found[-1][1].extend(usage())
+                found[-1][1].extend(usage_lines())
             else:
                 found.append((line, []))
     return found
@@ -86,7 +88,7 @@ def write(path, made):
         file.write(made)
 
 
-def put(words, lines, work):
+def put_file(words, lines, work):
     """Makes a file of the case."""
     form, name, path = words[0], words[1], os.path.join(work, words[1])
     if form == "file":
@@ -99,13 +101,13 @@ def put(words, lines, work):
         made[int(words[2]) : int(words[2]) + len(new)] = new
         write(path, bytes(made))
     else:
-        write(path, content(form, lines, [name, *words[2:]]))
+        write(path, file_bytes(form, lines, [name, *words[2:]]))
 
 
-def unmet(words, lines, work, before):
+def output_fault(words, lines, work, before):
     """Why a file that a call was to write, or not to write, isn't right."""
     name = words[1] if words[0] in ("absent", "keeps") else words[2]
-    path, is_written = os.path.join(work, name), times(work).get(name) != before.get(name)
+    path, is_written = os.path.join(work, name), write_times(work).get(name) != before.get(name)
     if words[0] == "absent" or not is_written:
         return "is written" if is_written else None if words[0] == "absent" else "isn't written"
     if words[0] == "keeps":
@@ -113,17 +115,17 @@ def unmet(words, lines, work, before):
     made = (
         read(os.path.join(DATA, words[3]))
         if words[1] == "file"
-        else content(words[1], lines, words[2:])
+        else file_bytes(words[1], lines, words[2:])
     )
     return None if read(path) == made else "has other bytes"
 
 
-def times(work):
+def write_times(work):
     """When each file was written."""
     return {it.name: it.stat().st_mtime_ns for it in os.scandir(work)}
 
 
-def wants(found, at):
+def expected_parts(found, at):
     """What a case says of its call: the parts behind it."""
     follows = []
     for line, lines in found[at + 1 :]:
@@ -133,7 +135,7 @@ def wants(found, at):
     return follows
 
 
-def call_of(words, work):
+def run_call(words, work):
     """What a call does. A trace of the name `-` is standard input there, so it gets the file of that name."""
     given = read(os.path.join(work, "-")) if "-" in words else b""
     return subprocess.run(
@@ -142,19 +144,19 @@ def call_of(words, work):
 
 
 def play(case, renew):
-    found, wrong, out = parts(os.path.join(DATA, case)), [], []
+    found, wrong, out = read_parts(os.path.join(DATA, case)), [], []
     with tempfile.TemporaryDirectory() as work:
         call, before, fails_by_list = "", {}, False
         for at, (line, lines) in enumerate(found):
             words = line.split()
             head = words[0] if words else "#"
             if head == "$":
-                follows = wants(found, at)
+                follows = expected_parts(found, at)
                 # (the calls of a disk don't fail by a list)
                 fails_by_list = any(it[:1] == ["fails"] for it in follows)
                 if not fails_by_list:
-                    call, before = line, times(work)
-                    ran = call_of(words[1:], work)
+                    call, before = line, write_times(work)
+                    ran = run_call(words[1:], work)
                     text = ran.stdout.decode().split("\n")[:-1]
                     wanted = next((int(it[1]) for it in follows if it[:1] == ["status"]), 0)
                     if text != lines:
@@ -171,11 +173,11 @@ def play(case, renew):
             elif head == "status":
                 continue
             elif head in WANTS:
-                why = unmet(words, lines, work, before)
+                why = output_fault(words, lines, work, before)
                 if why:
                     wrong.append(f"{call}: {line}: it {why}")
             elif not head.startswith("#"):
-                put(words, lines, work)
+                put_file(words, lines, work)
             out.append((line, lines))
     if renew:
         save(case, out)
@@ -187,14 +189,14 @@ def play(case, renew):
 def save(case, found):
     with open(os.path.join(DATA, case), "w") as file:
         for line, lines in found:
-            print(line, *spelled(lines), sep="\n", file=file)
+            print(line, *unescape_lines(lines), sep="\n", file=file)
 
 
 def renew_failing(case):
     """Renews the texts of calls that fail by a list, where another call was to print the same."""
-    found = parts(os.path.join(DATA, case))
+    found = read_parts(os.path.join(DATA, case))
     for at, (line, lines) in enumerate(found):
-        if line.startswith("$") and any(it[:1] == ["fails"] for it in wants(found, at)):
+        if line.startswith("$") and any(it[:1] == ["fails"] for it in expected_parts(found, at)):
             found[at] = line, RENEWED.get(tuple(lines), lines)
     save(case, found)
 

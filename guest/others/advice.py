@@ -1,10 +1,11 @@
 #!/usr/bin/env python3
-"""Follows what `predator view` advises on programs that nobody here wrote, and prints the table of docs/STUDIES.md: advice.py [--renew]
-[PROGRAM ..].
+"""Follows what `predator view` advises on programs that nobody here wrote, and prints the table of
+docs/STUDIES.md: advice.py [--renew] [PROGRAM ..].
 
-Each is built with its types, shown, built as the advice says, and counted again. Where a build of the study does what is advised, it is
-that; else view's patch is taken. fetch.sh has fetched the sources. The status is 1 where what is counted differs from what was foretold by
-a tenth of the misses before or more, or where these didn't become fewer."""
+Each is built with its types, shown, built as the advice says, and counted again. Where a build of the study
+does what is advised, it is that; else view's patch is taken. fetch.sh has fetched the sources. The status is
+1 where what is counted differs from what was foretold by a tenth of the misses before or more, or where these
+didn't become fewer."""
 
 import json
 import os
@@ -17,17 +18,17 @@ from typing import NamedTuple
 
 HERE = os.path.dirname(os.path.abspath(__file__))
 sys.path.insert(0, os.path.join(HERE, "..", "studies"))
-from report import BUILT, PROGRAM, builds, renew, table  # noqa: E402
+from report import BUILT, PROGRAM, study_builds, renew_document, markdown_table  # noqa: E402
 
 BUILD = os.path.join(HERE, "..", "build.sh")
 STUDIES = os.path.join(HERE, "..", "studies")
 SETTINGS = "quantum=10"
 
 
-class Followed(NamedTuple):
-    """A program: what its call sites make, and the build that does what is advised, or none where the patch does; `by` is what build.sh
-    builds it by, if not by its name, and `sources` the folder in out/ that the patch is for, if there is one.
-    """
+class AdvicePlan(NamedTuple):
+    """A program: what its call sites make, and the build that does what is advised, or none where the patch
+    does; `by` is what build.sh builds it by, if not by its name, and `sources` the folder in out/ that the
+    patch is for, if there is one."""
 
     types: tuple = ()
     repaired: str | None = None
@@ -37,18 +38,18 @@ class Followed(NamedTuple):
 
 # Of the others, and of the studies of suites.
 OTHERS = {
-    "ck_anderson": Followed(("main=ck_spinlock_anderson_thread",), "ck_anderson-apart"),
-    "ck_ring": Followed(("main=ck_ring", "test=entry"), "ck_ring-own_lines"),
-    "ck_dissemination": Followed(
+    "ck_anderson": AdvicePlan(("main=ck_spinlock_anderson_thread",), "ck_anderson-apart"),
+    "ck_ring": AdvicePlan(("main=ck_ring", "test=entry"), "ck_ring-own_lines"),
+    "ck_dissemination": AdvicePlan(
         ("main=ck_barrier_dissemination_flag",), "ck_dissemination-own_lines", "ck_barriers"
     ),
-    "ck_mcs": Followed(("main=ck_barrier_mcs",), "ck_mcs-own_lines", "ck_barriers"),
-    "kt_for": Followed(("kt_for=ktf_worker_t",), "kt_for-blocks"),
-    "urcu_wfcq": Followed((), "urcu_wfcq-patched", sources="urcu_wfcq"),
+    "ck_mcs": AdvicePlan(("main=ck_barrier_mcs",), "ck_mcs-own_lines", "ck_barriers"),
+    "kt_for": AdvicePlan(("kt_for=ktf_worker_t",), "kt_for-blocks"),
+    "urcu_wfcq": AdvicePlan((), "urcu_wfcq-patched", sources="urcu_wfcq"),
 }
 # (in the builds at 0 what a thread has begins at multiples of a line, and fills lines)
 SUITES = {
-    program: Followed((), f"{program}-at-0")
+    program: AdvicePlan((), f"{program}-at-0")
     for program in ("linear_regression", "string_match", "word_count")
 }
 # What isn't shown of a fix: where something is declared, how blocks are allocated, and sizes.
@@ -58,7 +59,7 @@ CODE = re.compile(r"give each element [^`]*(`struct [^`]*`)")
 COUNTED = re.compile(r"misses false ([\d,]+) → ([\d,]+), true ([\d,]+) → ([\d,]+)")
 
 
-def told(fix):
+def fix_text(fix):
     """A fix, in short."""
     code = CODE.match(fix)
     return code[1] if code else REST.sub("", fix)
@@ -86,7 +87,7 @@ class Study:
         kept = os.path.join(BUILT, f"{name}.elf")
         if name == self.of.repaired and os.path.exists(kept):
             return kept
-        source, *flags = builds()[self.name][name]
+        source, *flags = study_builds()[self.name][name]
         for file in os.listdir(STUDIES):
             if file.endswith((".c", ".h")) and not os.path.exists(os.path.join(self.folder, file)):
                 shutil.copy(os.path.join(STUDIES, file), self.folder)
@@ -98,7 +99,7 @@ class Study:
         )
         return out
 
-    def missed(self, program):
+    def count_misses(self, program):
         """The useless and the useful misses of a run."""
         trace = os.path.join(self.folder, "trace")
         subprocess.run(
@@ -112,7 +113,7 @@ class Study:
         found = re.search(r"^total cold \d+ useful (\d+) useless (\d+)$", told, re.MULTILINE)
         return int(found[2]), int(found[1])
 
-    def look(self, program):
+    def run_view(self, program):
         """What view finds of a run; the patch is beside it."""
         words = [
             "run",
@@ -138,7 +139,7 @@ class Study:
         )
         return json.loads(ran.stdout)
 
-    def changed(self):
+    def build_fixed(self):
         """The program as it is advised."""
         if self.of.sources:
             build_others(self.name, PATCH=self.patch)
@@ -148,7 +149,7 @@ class Study:
 
     def row(self):
         """The row of the table, and what is wrong."""
-        found = self.look(self.build(self.name))
+        found = self.run_view(self.build(self.name))
         advised = [it for it in found["objects"] if it["tried"]]
         together = [it for it in found["notes"] if it.startswith("all fixes together")]
         before = found["total"]["false_sharing"], found["total"]["true_sharing"]
@@ -159,8 +160,8 @@ class Study:
         elif advised:
             after = advised[0]["tried"]["after"]
             foretold = after["false_sharing"], after["true_sharing"]
-        counted = self.missed(self.changed())
-        how = "; ".join(told(it["fix"]) for it in advised) or "nothing"
+        counted = self.count_misses(self.build_fixed())
+        how = "; ".join(fix_text(it["fix"]) for it in advised) or "nothing"
         is_good = abs(sum(counted) - sum(foretold)) * 10 < sum(before) and (
             sum(counted) < sum(before) or not advised
         )
@@ -190,12 +191,12 @@ def main(words):
         rows.append(row)
         wrong += bad
     heads = ["Program", "Advice", "Before", "Tried on the trace", "After the change"]
-    text = table(heads, rows)
+    text = markdown_table(heads, rows)
     print(text)
     for fault in wrong:
         print(fault)
     if "--renew" in words:
-        renew({"advice": text})
+        renew_document({"advice": text})
     return 1 if wrong else 0
 
 

@@ -1,9 +1,9 @@
 #!/usr/bin/env python3
-"""Builds and runs the studies of code that nobody here wrote, recounts their traces, and prints the tables of docs/STUDIES.md:
-run.py [--renew] [STUDY ..].
+"""Builds and runs the studies of code that nobody here wrote, recounts their traces, and prints the tables of
+docs/STUDIES.md: run.py [--renew] [STUDY ..].
 
-fetch.sh has fetched the sources; build.sh builds them. --renew puts the tables into the page. It ends with 1 where a program doesn't end
-with exit 0, or a recount says otherwise than a report, `misses` or `explain`."""
+fetch.sh has fetched the sources; build.sh builds them. --renew puts the tables into the page. It ends with 1
+where a program doesn't end with exit 0, or a recount says otherwise than a report, `misses` or `explain`."""
 
 import os
 import re
@@ -13,8 +13,8 @@ import tempfile
 
 HERE = os.path.dirname(os.path.abspath(__file__))
 sys.path.insert(0, os.path.join(HERE, "..", "studies"))
-from costs import Build, text  # noqa: E402
-from report import Run, renew, shown, table  # noqa: E402
+from costs import Build, program_output  # noqa: E402
+from report import Run, renew_document, address_text, markdown_table  # noqa: E402
 
 OUT = os.path.join(HERE, "out")
 # Of each study its builds: as it is, and after each repair.
@@ -31,27 +31,27 @@ STUDIES = {
 SETTINGS = "quantum = 10\n"
 # (their coders want some MiB for each thread)
 LARGE = {"zstd": SETTINGS + "memory = 67108864\n", "xz": SETTINGS + "memory = 67108864\n"}
-# The builds of which a predicted line is looked at, and the one in which what the first of them predicts is observed, with how far its data
-# moved.
+# The builds of which a predicted line is looked at, and the one in which what the first of them predicts is
+# observed, with how far its data moved.
 PREDICTED = ["rte_ring", "rte_ring-together", "kt_for-apart"]
 MOVED = {"rte_ring-together": ("rte_ring-together-at-24", 24)}
 
 
-def useless(told, base, size):
+def count_false_sharing(told, base, size):
     """The useless misses of all lines of a text of misses that lie in a range."""
     found = re.findall(r"^line (\S+) cold \d+ useful \d+ useless (\d+)$", told, re.MULTILINE)
     return sum(int(count) for at, count in found if base <= int(at, 16) < base + size)
 
 
-def foretold(name, runs):
-    """The first predicted line of a report: what it costs under its own layout, what the lines of 64 bytes that it touches cost, and, where
-    the data lie so in another build, what is observed there."""
-    line = runs[name].report.of_kind("shifted", "doubled")[0]
+def prediction_row(name, runs):
+    """The first predicted line of a report: what it costs under its own layout, what the lines of 64 bytes
+    that it touches cost, and, where the data lie so in another build, what is observed there."""
+    line = runs[name].report.lines_of_kind("shifted", "doubled")[0]
     with tempfile.TemporaryDirectory() as work:
         settings, trace = os.path.join(work, "settings"), os.path.join(work, "trace")
         with open(settings, "w") as file:
             file.write(SETTINGS)
-        text(
+        program_output(
             "run",
             os.path.join(OUT, f"{name}.elf"),
             "--settings",
@@ -61,17 +61,33 @@ def foretold(name, runs):
             "--output",
             os.devnull,
         )
-        there = useless(
-            text("misses", trace, "--size", str(line.size), "--shift", str(line.base % line.size)),
+        there = count_false_sharing(
+            program_output(
+                "misses", trace, "--size", str(line.size), "--shift", str(line.base % line.size)
+            ),
             line.base,
             line.size,
         )
-        inside = useless(text("misses", trace), line.base & -64, line.size + line.base % 64)
-    row = [name, line.kind, f"`{shown(line.base)}`", line.size, line.count, there, inside, "-", "-"]
+        inside = count_false_sharing(
+            program_output("misses", trace), line.base & -64, line.size + line.base % 64
+        )
+    row = [
+        name,
+        line.kind,
+        f"`{address_text(line.base)}`",
+        line.size,
+        line.count,
+        there,
+        inside,
+        "-",
+        "-",
+    ]
     if name in MOVED:
         other, far = MOVED[name]
-        seen = [it for it in runs[other].report.of_kind("observed") if it.base == line.base + far]
-        row[-2:] = [f"`{shown(it.base)}` of {other}" for it in seen] + [
+        seen = [
+            it for it in runs[other].report.lines_of_kind("observed") if it.base == line.base + far
+        ]
+        row[-2:] = [f"`{address_text(it.base)}` of {other}" for it in seen] + [
             own.count for own in seen
         ] or ["-", "-"]
     return row
@@ -90,14 +106,16 @@ def main(words):
             run, build = Run(path, settings), Build(path, settings, is_worst=True)
             runs[name] = run
             counts = [
-                len(run.report.of_kind("observed")),
-                run.report.sum("observed"),
-                run.by_word.sum("observed"),
+                len(run.report.lines_of_kind("observed")),
+                run.report.sum_counts("observed"),
+                run.by_word.sum_counts("observed"),
             ]
             lines = sum(it.useless > 0 for it in build.missed)
-            costs.append([name, run.report.steps, *counts, *build.total, lines, run.told()])
+            costs.append(
+                [name, run.report.steps, *counts, *build.total, lines, run.excerpt_title()]
+            )
             if build.pair and name == STUDIES[study][0]:
-                fights.append([name, f"`{shown(build.base)}`", build.count, *build.pair])
+                fights.append([name, f"`{address_text(build.base)}`", build.count, *build.pair])
             wrong += [f"{name}: {it}" for it in run.wrong + build.wrong]
     heads = [
         "Build",
@@ -111,7 +129,7 @@ def main(words):
         "Lines with false",
         "Recount",
     ]
-    parts["others"] = table(heads, costs)
+    parts["others"] = markdown_table(heads, costs)
     heads = [
         "Build",
         "Line",
@@ -121,7 +139,7 @@ def main(words):
         "Times",
         "Same word",
     ]
-    parts["others' conflicts"] = table(heads, fights)
+    parts["others' conflicts"] = markdown_table(heads, fights)
     heads = [
         "Build",
         "Kind",
@@ -133,13 +151,15 @@ def main(words):
         "Observed",
         "Invalidations",
     ]
-    parts["others predicted"] = table(heads, [foretold(it, runs) for it in PREDICTED if it in runs])
+    parts["others predicted"] = markdown_table(
+        heads, [prediction_row(it, runs) for it in PREDICTED if it in runs]
+    )
     for name, told in parts.items():
         print(f"\n== {name}\n\n{told}")
     for fault in wrong:
         print(fault)
     if "--renew" in words:
-        renew(parts)
+        renew_document(parts)
     return 1 if wrong else 0
 
 

@@ -1,9 +1,10 @@
 #!/usr/bin/env python3
-"""What the sharing of each study costs, before and after its repair, and which lines of its source fight most over the first line of its
-report: costs.py [--renew] [STUDY ..].
+"""What the sharing of each study costs, before and after its repair, and which lines of its source fight most
+over the first line of its report: costs.py [--renew] [STUDY ..].
 
-It builds the programs with line tables (clang, lld and picolibc are wanted, and llvm-symbolizer), and runs `run`, `misses` and `explain`.
---renew puts the tables into docs/STUDIES.md. It ends with 1 where `tools/recount_misses.py` or a report says otherwise than these."""
+It builds the programs with line tables (clang, lld and picolibc are wanted, and llvm-symbolizer), and runs
+`run`, `misses` and `explain`. --renew puts the tables into docs/STUDIES.md. It ends with 1 where
+`tools/recount_misses.py` or a report says otherwise than these."""
 
 import json
 import os
@@ -12,13 +13,22 @@ import subprocess
 import sys
 import tempfile
 
-from report import PROGRAM, SETTINGS, TOP, Report, builds, renew, shown, table
+from report import (
+    PROGRAM,
+    SETTINGS,
+    TOP,
+    Report,
+    study_builds,
+    renew_document,
+    address_text,
+    markdown_table,
+)
 
 sys.path.insert(0, os.path.join(TOP, "tools"))
 import recount_misses  # noqa: E402
 
 
-def text(*words):
+def program_output(*words):
     """What a call of the program prints, which must end well."""
     ran = subprocess.run([PROGRAM, *words], stdout=subprocess.PIPE, text=True, check=False)
     if ran.returncode != 0:
@@ -26,9 +36,9 @@ def text(*words):
     return ran.stdout
 
 
-def place(path, pc, name):
-    """The line of the source that has an instruction, with its function and the one that it is inlined in; a function of the C library,
-    which has no line tables, by its name."""
+def source_place(path, pc, name):
+    """The line of the source that has an instruction, with its function and the one that it is inlined in; a
+    function of the C library, which has no line tables, by its name."""
     words = ["llvm-symbolizer", f"--obj={path}", "--output-style=JSON", f"{pc:#x}"]
     ran = subprocess.run(words, stdout=subprocess.PIPE, text=True, check=True)
     frames = json.loads(ran.stdout)[0]["Symbol"]
@@ -39,13 +49,14 @@ def place(path, pc, name):
         if frame["FileName"] and frame["Line"]
     ]
     if not lines:
-        return f"`{name}`, at `{shown(pc)}`"
+        return f"`{name}`, at `{address_text(pc)}`"
     return f"{lines[0]} ({' < '.join(it['FunctionName'] for it in frames[:2])})"
 
 
 class Build:
-    """A build that was run: its misses, and of one line the two instructions of which one takes it from the other most often. The line is
-    the first of the report, or, where `is_worst`, the first of the misses."""
+    """A build that was run: its misses, and of one line the two instructions of which one takes it from the
+    other most often. The line is the first of the report, or, where `is_worst`, the first of the misses.
+    """
 
     def __init__(self, path, settings_text="", is_worst=False):
         self.path, self.wrong = path, []
@@ -54,43 +65,46 @@ class Build:
             with open(settings, "w") as file:
                 file.write(settings_text)
             observed = Report(
-                text("run", path, "--settings", settings, "--trace", trace, "--output", os.devnull)
-            ).of_kind("observed")
-            counted = text("misses", trace)
+                program_output(
+                    "run", path, "--settings", settings, "--trace", trace, "--output", os.devnull
+                )
+            ).lines_of_kind("observed")
+            counted = program_output("misses", trace)
             with open(trace, "rb") as file:
-                if list(recount_misses.told(file.read(), 64, 0)) != counted.splitlines():
+                if list(recount_misses.misses_text(file.read(), 64, 0)) != counted.splitlines():
                     self.wrong.append(f"{path}: recounted, the misses are other ones")
             self.total = re.search(
                 r"^total cold (\d+) useful (\d+) useless (\d+)$", counted, re.MULTILINE
             ).groups()
             self.missed = [
-                Missed(block) for block in re.split(r"^(?=line )", counted, flags=re.MULTILINE)[1:]
+                MissLine(block)
+                for block in re.split(r"^(?=line )", counted, flags=re.MULTILINE)[1:]
             ]
             lines = {it.base: it for it in observed}
             bases = [it.base for it in (self.missed if is_worst else observed)]
             self.base = next(iter(bases), None)
             self.line = lines.get(self.base)
-            self.pair = None if self.base is None else self.explained(settings)
+            self.pair = None if self.base is None else self.explain_line(settings)
 
-    def explained(self, settings):
+    def explain_line(self, settings):
         start = self.line.start if self.line else 0
-        told = text(
-            "explain", self.path, shown(self.base), "64", str(start), "--settings", settings
+        told = program_output(
+            "explain", self.path, address_text(self.base), "64", str(start), "--settings", settings
         )
         self.count = int(re.search(r"^line .* count (\d+)$", told, re.MULTILINE)[1])
         if self.line and self.count != self.line.count:
             self.wrong.append(
-                f"{self.path}: the report counts {self.line.count} of {shown(self.base)}, and explain {self.count}"
+                f"{self.path}: the report counts {self.line.count} of {address_text(self.base)}, and explain {self.count}"
             )
         found = re.search(r"^pair (\S+) (\S+) taken (\d+) same (\d+)$", told, re.MULTILINE)
         if found is None:
             return None
         names = dict(re.findall(r"^site (\S+) .* (\S+)$", told, re.MULTILINE))
-        places = [place(self.path, int(it, 16), names[it]) for it in found.groups()[:2]]
+        places = [source_place(self.path, int(it, 16), names[it]) for it in found.groups()[:2]]
         return [*reversed(places), *found.groups()[2:]]
 
 
-class Missed:
+class MissLine:
     """A line of the text of misses."""
 
     def __init__(self, told):
@@ -99,7 +113,7 @@ class Missed:
 
 
 def main(words):
-    studies = builds()
+    studies = study_builds()
     names = [it for it in words if it != "--renew"] or list(studies)
     if "--renew" in words and names != list(studies):
         sys.exit("costs.py: --renew is for all studies")
@@ -111,7 +125,7 @@ def main(words):
             build = Build(os.path.join(work, f"{name}.elf"), SETTINGS.get(name.split("-")[0], ""))
             costs.append([name, *build.total])
             if build.pair:
-                fights.append([name, f"`{shown(build.base)}`", build.count, *build.pair])
+                fights.append([name, f"`{address_text(build.base)}`", build.count, *build.pair])
             wrong += build.wrong
     heads = [
         "Build",
@@ -123,15 +137,15 @@ def main(words):
         "Same word",
     ]
     parts = {
-        "costs": table(["Build", "Cold", "True sharing", "False sharing"], costs),
-        "conflicts": table(heads, fights),
+        "costs": markdown_table(["Build", "Cold", "True sharing", "False sharing"], costs),
+        "conflicts": markdown_table(heads, fights),
     }
     for name, told in parts.items():
         print(f"\n== {name}\n\n{told}")
     for fault in wrong:
         print(fault)
     if "--renew" in words:
-        renew(parts)
+        renew_document(parts)
     return 1 if wrong else 0
 
 

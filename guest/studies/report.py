@@ -1,4 +1,5 @@
-"""What the scripts of the studies share: a run of the program, its report, the recount of its trace, and tables in a document."""
+"""What the scripts of the studies share: a run of the program, its report, the recount of its trace, and
+tables in a document."""
 
 import os
 import subprocess
@@ -14,10 +15,11 @@ PAGE = os.path.join(TOP, "docs", "STUDIES.md")
 SETTINGS = {"bounded_queue": "quantum = 10\n"}
 
 sys.path.insert(0, os.path.join(TOP, "tools"))
-from recount import accesses, recount  # noqa: E402
+from recount import recount_lines  # noqa: E402
+from traces import read_accesses  # noqa: E402
 
 
-def builds():
+def study_builds():
     """Of each study its builds in order: their names, and the words of their sources and flags."""
     found = {}
     with open(os.path.join(TOP, "guest", "studies", "builds.txt")) as file:
@@ -27,7 +29,7 @@ def builds():
     return found
 
 
-def shown(addr):
+def address_text(addr):
     return f"{'-' if addr < 0 else ''}0x{abs(addr):08x}"
 
 
@@ -52,28 +54,29 @@ class Report:
             elif words[:1] == ["steps"]:
                 self.steps = int(words[1])
 
-    def of_kind(self, *kinds):
+    def lines_of_kind(self, *kinds):
         return [it for it in self.lines if it.kind in kinds]
 
-    def sum(self, *kinds):
-        return sum(it.count for it in self.of_kind(*kinds))
+    def sum_counts(self, *kinds):
+        return sum(it.count for it in self.lines_of_kind(*kinds))
 
 
 def counts_since(trace, lines):
-    """The counts of lines since their starts, whatever opened them, by caches that are simulated over the whole list."""
+    """The counts of lines since their starts, whatever opened them, by caches that are simulated over the
+    whole list."""
     on = {}
     for at, line in enumerate(lines):
         for word in range(line.base // 4, (line.base + line.size) // 4):
             on.setdefault(word, []).append(at)
     held, counts = [set() for _ in lines], [0] * len(lines)
-    for position, (hart, addr, is_write) in enumerate(accesses(trace)):
+    for position, (hart, addr, is_write) in enumerate(read_accesses(trace)):
         for at in on.get(addr // 4, ()):
             counts[at] += is_write and position > lines[at].start and bool(held[at] - {hart})
             held[at] = {hart} if is_write else held[at] | {hart}
     return counts
 
 
-def called(words, trace):
+def report_of_call(words, trace):
     """The report of a call that has a trace, written or read."""
     ran = subprocess.run([PROGRAM, *words], stdout=subprocess.PIPE, text=True, check=False)
     if "\nend\n" not in ran.stdout or not os.path.exists(trace):
@@ -84,8 +87,9 @@ def called(words, trace):
 
 
 class Run:
-    """A run of a built program under settings: its report, that of its trace under words of 4 bytes, its output, and what is wrong: an end
-    other than exit 0, and what the recount of the trace says otherwise."""
+    """A run of a built program under settings: its report, that of its trace under words of 4 bytes, its
+    output, and what is wrong: an end other than exit 0, and what the recount of the trace says otherwise.
+    """
 
     def __init__(self, path, settings=""):
         if not os.path.exists(path):
@@ -95,46 +99,48 @@ class Run:
             with open(names["settings"], "w") as file:
                 file.write(settings)
             began = time.monotonic()
-            self.report = called(
+            self.report = report_of_call(
                 ["run", path, *(it for name in names for it in (f"--{name}", names[name]))],
                 names["trace"],
             )
             self.seconds = time.monotonic() - began
-            self.by_word = called(["replay", names["trace"], "--size", "4"], names["trace"])
+            self.by_word = report_of_call(["replay", names["trace"], "--size", "4"], names["trace"])
             with open(names["trace"], "rb") as file:
                 trace = file.read()
             with open(names["output"]) as file:
                 self.output = file.read()
         self.wrong = [] if self.report.outcome == "outcome exit 0" else [self.report.outcome]
-        self.wrong += differences(trace, 64, self.report) + differences(trace, 4, self.by_word)
-        predicted = self.report.of_kind("shifted", "doubled")
+        self.wrong += recount_differences(trace, 64, self.report) + recount_differences(
+            trace, 4, self.by_word
+        )
+        predicted = self.report.lines_of_kind("shifted", "doubled")
         for line, again in zip(predicted, counts_since(trace, predicted)):
             if again != line.count:
                 self.wrong.append(f"{line.text}: recounted {again}")
 
-    def told(self):
+    def excerpt_title(self):
         return "differs" if self.wrong else "equal"
 
 
-def differences(trace, size, report):
+def recount_differences(trace, size, report):
     """The observed lines that a report and the recount tell otherwise, of either."""
-    counted = {base: (start, count) for base, start, count in recount(trace, size)}
-    observed = {it.base: (it.start, it.count) for it in report.of_kind("observed")}
+    counted = {base: (start, count) for base, start, count in recount_lines(trace, size)}
+    observed = {it.base: (it.start, it.count) for it in report.lines_of_kind("observed")}
     return [
-        f"line {shown(key)} of {size}: reported {observed.get(key)}, recounted {counted.get(key)}"
+        f"line {address_text(key)} of {size}: reported {observed.get(key)}, recounted {counted.get(key)}"
         for key in sorted(counted.keys() | observed.keys())
         if counted.get(key) != observed.get(key)
     ]
 
 
-def table(heads, rows):
+def markdown_table(heads, rows):
     """A table of a document; numbers stand to the right."""
     rows = [[str(it) for it in row] for row in rows]
     right = ["-:" if all(row[at].isdigit() for row in rows) else "-" for at in range(len(heads))]
     return "\n".join(f"| {' | '.join(row)} |" for row in [heads, right, *rows])
 
 
-def commit():
+def commit_name():
     words = ["git", "-C", TOP, "describe", "--always", "--dirty", "--abbrev=12"]
     try:
         ran = subprocess.run(words, stdout=subprocess.PIPE, text=True, check=False)
@@ -143,7 +149,7 @@ def commit():
     return ran.stdout.strip() or "unknown"
 
 
-def renew(parts):
+def renew_document(parts):
     """Puts texts into the document, each between its mark `<!-- NAME -->` and the next `<!-- end -->`."""
     with open(PAGE) as file:
         page = file.read()

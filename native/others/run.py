@@ -1,10 +1,10 @@
 #!/usr/bin/env python3
-"""Builds and records programs of this machine, each as it is and with its repair, and prints the table of docs/STUDIES.md, and of each
-program the first three rows of its screen: run.py [--renew] [STUDY ..].
+"""Builds and records programs of this machine, each as it is and with its repair, and prints the table of
+docs/STUDIES.md, and of each program the first three rows of its screen: run.py [--renew] [STUDY ..].
 
-fetch.sh has fetched the sources; build.sh builds them. --renew puts the table into the page, and the rows into first_rows.txt. What is
-counted is what `predator misses` prints, and an object's part of it what `predator view` puts together. It ends with 1 where a program
-doesn't end as it should."""
+fetch.sh has fetched the sources; build.sh builds them. --renew puts the table into the page, and the rows
+into first_rows.txt. What is counted is what `predator misses` prints, and an object's part of it what
+`predator view` puts together. It ends with 1 where a program doesn't end as it should."""
 
 import json
 import os
@@ -20,14 +20,14 @@ HERE = os.path.dirname(os.path.abspath(__file__))
 TOP = os.path.join(HERE, "..", "..")
 PREDATOR = os.path.join(TOP, "bin", "predator")
 sys.path.insert(0, os.path.join(TOP, "guest", "studies"))
-from report import renew, table  # noqa: E402
+from report import renew_document, markdown_table  # noqa: E402
 
 OUT = os.path.join(HERE, "out")
 ROWS = os.path.join(HERE, "first_rows.txt")
 # A row of a screen: its place, four numbers, and the object.
 ROW = re.compile(r"^ *([123])(?: +[0-9,]+){4}  (.*(?:\n {30,}.*)*)$", re.MULTILINE)
-# What stands for a new folder, for a text in it, a folder of a thousand texts, sixty objects to be linked, a short film, and a server's
-# settings.
+# What stands for a new folder, for a text in it, a folder of a thousand texts, sixty objects to be linked, a
+# short film, and a server's settings.
 FOLDER, TEXT, TREE, OBJECTS, FILM, CONFIG = "FOLDER", "TEXT", "TREE", "OBJECTS", "FILM", "CONFIG"
 LIBC = "-L/usr/lib/x86_64-linux-gnu"
 # Four threads answer by themselves.
@@ -61,9 +61,10 @@ remote-control:
 
 
 class Study(NamedTuple):
-    """A program's builds or Debian's command, its words, and what is looked at in it; `status` is what it ends with, `text` how many bytes
-    its text has, `reads_text` whether that is its input, and `most` how many accesses are recorded at most. Of a server `clients` are the
-    words of tools/clients.py, and `config` its settings."""
+    """A program's builds or Debian's command, its words, and what is looked at in it; `status` is what it
+    ends with, `text` how many bytes its text has, `reads_text` whether that is its input, and `most` how many
+    accesses are recorded at most. Of a server `clients` are the words of tools/clients.py, and `config` its
+    settings."""
 
     builds: Sequence[str]
     words: Sequence[str] = ()
@@ -151,21 +152,21 @@ STUDIES = {
 }
 
 
-def built(names: Sequence[str]) -> None:
+def build_path(names: Sequence[str]) -> None:
     own = [it for it in names if not STUDIES[it].is_debian]
     if own:
         subprocess.run([os.path.join(HERE, "build.sh"), *own], check=True)
 
 
-def text_of(size: int) -> bytes:
+def make_text(size: int) -> bytes:
     """A text that is the same each time, and that can be made smaller."""
     words = [f"{it * 7919 % 1009:o}" for it in range(4096)]
     return " ".join(words[it * it % 4096] for it in range(size // 4)).encode()[:size]
 
 
-def film_of(count: int) -> bytes:
+def make_film(count: int) -> bytes:
     """So many pictures of 176 times 144 points, in which a text wanders."""
-    size, line = 176 * 144, text_of(1 << 16)
+    size, line = 176 * 144, make_text(1 << 16)
     pictures = (
         b"FRAME\n" + line[2 * number : 2 * number + size] + bytes([128]) * (size // 2)
         for number in range(count)
@@ -173,7 +174,7 @@ def film_of(count: int) -> bytes:
     return b"YUV4MPEG2 W176 H144 F25:1 Ip A1:1 C420jpeg\n" + b"".join(pictures)
 
 
-def made(study: Study, folder: str) -> dict[str, str]:
+def make_files(study: Study, folder: str) -> dict[str, str]:
     """The files that a study's words stand for."""
     found = {it: os.path.join(folder, it.lower()) for it in (TEXT, TREE, CONFIG)}
     found |= {
@@ -181,9 +182,9 @@ def made(study: Study, folder: str) -> dict[str, str]:
         FILM: os.path.join(folder, "film.y4m"),
     }
     for name, data in (
-        (TEXT, text_of(study.text)),
+        (TEXT, make_text(study.text)),
         (CONFIG, study.config.encode()),
-        (FILM, film_of(8) if FILM in study.words else b""),
+        (FILM, make_film(8) if FILM in study.words else b""),
     ):
         with open(found[name], "wb") as file:
             file.write(data)
@@ -191,7 +192,7 @@ def made(study: Study, folder: str) -> dict[str, str]:
         os.makedirs(os.path.join(found[TREE], f"folder{own}"))
         for at in range(25):
             with open(os.path.join(found[TREE], f"folder{own}", f"file{at}.txt"), "wb") as file:
-                file.write(text_of(60_000)[own * 1000 + at * 37 :][:8192])
+                file.write(make_text(60_000)[own * 1000 + at * 37 :][:8192])
     if OBJECTS in study.words:
         compile_all(folder, found[OBJECTS][1:])
     return found
@@ -221,9 +222,9 @@ def compile_all(folder: str, listed: str) -> None:
         )
 
 
-def recorded(study: Study, program: str, folder: str) -> str:
+def record_trace(study: Study, program: str, folder: str) -> str:
     """The trace of a program that has ended as it should."""
-    trace, files = os.path.join(folder, "trace"), made(study, folder)
+    trace, files = os.path.join(folder, "trace"), make_files(study, folder)
     path = shutil.which(program) if study.is_debian else os.path.join(OUT, program)
     if path is None:
         sys.exit(f"run.py: {program} isn't installed")
@@ -244,9 +245,10 @@ def recorded(study: Study, program: str, folder: str) -> str:
 
 
 def is_named(name: str) -> bool:
-    """Whether an object is called by a name or a line of a source, and not by places alone, as `block made in fd+0x1e42e2 < fd+0x34231`. A
-    place of a panic, an assertion and a class count, but for those of a library, and so does a text, but for that of a caller; that a file
-    has the memory doesn't, where its own code alone uses that."""
+    """Whether an object is called by a name or a line of a source, and not by places alone, as `block made in
+    fd+0x1e42e2 < fd+0x34231`. A place of a panic, an assertion and a class count, but for those of a library,
+    and so does a text, but for that of a caller; that a file has the memory doesn't, where its own code alone
+    uses that."""
     if re.match("memory at|block without", name):
         return False
     if re.search(
@@ -266,16 +268,17 @@ def is_named(name: str) -> bool:
     return not all(re.fullmatch(r"\S+\+0x[0-9a-f]+|0x[0-9a-f]+", it) for it in parts)
 
 
-def named(name: str) -> str:
+def object_name(name: str) -> str:
     """A row's object, without what tells it from others of its name and what lies beside it."""
     name = re.sub(r" \([\d,]+ blocks\).*", "", " ".join(name.split()))
     return name if len(name) <= 200 else name[:200] + " .."
 
 
-def row(study: Study, program: str) -> tuple[list[object], str]:
-    """What is counted of a program: all, what is looked at, and how much of what is useless has a name or a line; and its first rows."""
+def table_row(study: Study, program: str) -> tuple[list[object], str]:
+    """What is counted of a program: all, what is looked at, and how much of what is useless has a name or a
+    line; and its first rows."""
     with tempfile.TemporaryDirectory(prefix="predator-others-") as folder:
-        trace, kept = recorded(study, program, folder), os.path.join(folder, "kept.json")
+        trace, kept = record_trace(study, program, folder), os.path.join(folder, "kept.json")
         words = [PREDATOR, "view", "replay", trace, "--no-predicted", "--json", kept]
         screen = subprocess.run(words, stdout=subprocess.PIPE, text=True, check=True).stdout
         with open(kept, encoding="utf-8") as file:
@@ -289,7 +292,7 @@ def row(study: Study, program: str) -> tuple[list[object], str]:
     ]
     known = sum(it["false_sharing"] for it in objects if is_named(it["name"]))
     is_clean = "no change is worth it" in screen
-    rows = "".join(f"  {place}  {named(name)}\n" for place, name in ROW.findall(screen))
+    rows = "".join(f"  {place}  {object_name(name)}\n" for place, name in ROW.findall(screen))
     cells = [
         os.path.basename(program),
         f"{found['accesses']:,}",
@@ -309,13 +312,13 @@ def main(words: Sequence[str]) -> int:
     for study in names:
         if study not in STUDIES:
             sys.exit(f"run.py: {study}: the studies are {', '.join(STUDIES)}")
-    built(names)
+    build_path(names)
     heads = ["Program", "Accesses", "Bytes each", "True", "False", "Of the object", "Named"]
-    found = [row(STUDIES[name], build) for name in names for build in STUDIES[name].builds]
-    text, rows = table(heads, [cells for cells, _ in found]), "".join(it for _, it in found)
+    found = [table_row(STUDIES[name], build) for name in names for build in STUDIES[name].builds]
+    text, rows = markdown_table(heads, [cells for cells, _ in found]), "".join(it for _, it in found)
     print(text, rows, sep="\n")
     if "--renew" in words:
-        renew({"others of this machine": text})
+        renew_document({"others of this machine": text})
         with open(ROWS, "w", encoding="utf-8") as file:
             file.write(
                 f"The first three rows of each program's screen, as native/others/run.py has recorded and shown it.\n\n{rows}"

@@ -1,10 +1,10 @@
 #!/usr/bin/env python3
-"""Runs the commands of docs/NATIVE.md, one after the other in a folder of its own, and compares what they print with what stands there:
-docs.py FOLDER. It prints a line for each, and ends with 1 where one differs.
+"""Runs the commands of docs/NATIVE.md, one after the other in a folder of its own, and compares what they
+print with what stands there: docs.py FOLDER. It prints a line for each, and ends with 1 where one differs.
 
-A command is an indented line that begins with `$ `, and what it prints are the lines of its block behind it, where `..` stands for any
-lines. Numbers aren't compared, since they belong to the C library and the compiler of a machine. A command that isn't
-installed here is left out."""
+A command is an indented line that begins with `$ `, and what it prints are the lines of its block behind it,
+where `..` stands for any lines. Numbers aren't compared, since they belong to the C library and the compiler
+of a machine. A command that isn't installed here is left out."""
 
 import os
 import re
@@ -16,7 +16,7 @@ TOP = os.path.dirname(os.path.dirname(os.path.dirname(os.path.abspath(__file__))
 BLOCK = "    "
 
 
-def commands():
+def read_commands():
     """Each command, and the lines that it prints."""
     found = []
     with open(os.path.join(TOP, "docs", "NATIVE.md")) as file:
@@ -32,7 +32,7 @@ def commands():
     return found
 
 
-def plain(line):
+def without_numbers(line):
     """A line without its numbers and its folders, and with any number of blanks as one."""
     line = re.sub(r"0x[0-9a-f]+|[0-9]+", "N", line)
     line = re.sub(r"/[^ ]*/", "/", line)
@@ -45,7 +45,9 @@ def is_printed(wanted, made):
         return all(it == ".." for it in wanted) and not made
     if wanted[0] == "..":
         return is_printed(wanted[1:], made) or is_printed(wanted, made[1:])
-    return plain(wanted[0]) == plain(made[0]) and is_printed(wanted[1:], made[1:])
+    return without_numbers(wanted[0]) == without_numbers(made[0]) and is_printed(
+        wanted[1:], made[1:]
+    )
 
 
 def main(words):
@@ -54,7 +56,7 @@ def main(words):
     wrong = 0
     for folder in ("bin", "native", "docs"):
         os.symlink(os.path.join(TOP, folder), os.path.join(words[0], folder))
-    for command, wanted in commands():
+    for command, wanted in read_commands():
         if not command.startswith("bin/") and not shutil.which(command.split()[0]):
             print(f"{command}: as it stands there, though left out")
             continue

@@ -1,11 +1,12 @@
 #!/usr/bin/env python3
-"""Builds examples of guest/ for this machine with -fsanitize=thread, and compares what is listed of each with what is listed of its build
-for RV32: guest.py FOLDER [NAME ..]. FOLDER is for what is built. It prints a line for each example, and ends with 1 where one differs.
+"""Builds examples of guest/ for this machine with -fsanitize=thread, and compares what is listed of each with
+what is listed of its build for RV32: guest.py FOLDER [NAME ..]. FOLDER is for what is built. It prints a line
+for each example, and ends with 1 where one differs.
 
-Compared are the observed lines, each by the variables and blocks on it, where it begins in them and its verdict. Counts aren't: a turn is
-so many accesses here, and so many steps there. Variables that don't stand alone in their lines are put, by the linker, where they are in
-the build for RV32. as_is (a mutex has 40 bytes here and 16 there) and linked, which
-calls the guest's system itself, can't be compared."""
+Compared are the observed lines, each by the variables and blocks on it, where it begins in them and its
+verdict. Counts aren't: a turn is so many accesses here, and so many steps there. Variables that don't stand
+alone in their lines are put, by the linker, where they are in the build for RV32. as_is (a mutex has 40 bytes
+here and 16 there) and linked, which calls the guest's system itself, can't be compared."""
 
 import os
 import subprocess
@@ -41,15 +42,16 @@ NAMES = {
 PLACED = ("atomics", "waits")
 
 
-def text_of(words, **more):
+def output_of(words, **more):
     return subprocess.run(words, stdout=subprocess.PIPE, check=True, text=True, **more).stdout
 
 
-def layout(name, path):
-    """Writes a script for the linker by which the program's variables begin where those of the build for RV32 do, within a page."""
+def write_linker_script(name, path):
+    """Writes a script for the linker by which the program's variables begin where those of the build for RV32
+    do, within a page."""
     rows = (
         line.split()
-        for line in text_of(
+        for line in output_of(
             ["readelf", "-sW", os.path.join(GUEST, "built", f"{name}.elf")]
         ).splitlines()
     )
@@ -89,7 +91,7 @@ def build(name, folder):
     script = []
     if name in PLACED:
         path = os.path.join(folder, f"{name}.ld")
-        layout(name, path)
+        write_linker_script(name, path)
         script = [f"-Wl,-T,{path}"]
     made = [os.path.join(folder, f"{it}.o") for it in (name, "calls")]
     subprocess.run(
@@ -114,8 +116,9 @@ def build(name, folder):
     return out
 
 
-def listed(report, without=()):
-    """The observed lines: what stands on each, how far the line begins behind the first of it, and the verdict."""
+def listed_lines(report, without=()):
+    """The observed lines: what stands on each, how far the line begins behind the first of it, and the
+    verdict."""
     found = []
     for line in report.observed():
         things = sorted(
@@ -133,7 +136,7 @@ def listed(report, without=()):
     return sorted(found)
 
 
-def reports(name, folder):
+def compare_reports(name, folder):
     predator = os.environ.get("PREDATOR") or os.path.join(TOP, "bin", "predator")
     ran = subprocess.run(
         [predator, "run", os.path.join(GUEST, "built", f"{name}.elf")],
@@ -166,7 +169,7 @@ def main(words):
     folder, *names = words
     wrong = 0
     for name in names or NAMES:
-        there, here = (listed(it, NAMES[name]) for it in reports(name, folder))
+        there, here = (listed_lines(it, NAMES[name]) for it in compare_reports(name, folder))
         same = there == here
         wrong += not same
         print(f"{name}: {len(there)} lines, {'the same' if same else 'others'}")

@@ -1,18 +1,24 @@
 #!/usr/bin/env python3
-"""What the tries of native/ ask of a trace of version 1 or 3, read by the formats' description alone.
+"""The answers to what the tries of native/ ask of a trace of version 1 or 3. It judges: it reads the bytes by
+docs/FORMATS.md alone, and shares no code with the program, with view/ and with tools/.
 
-    judge.py end TRACE            the end of a trace that is whole: `exit CODE` or `part`
+    judge.py end TRACE            the end of a complete trace: `exit CODE` or `part`
     judge.py accesses TRACE       the number of accesses
-    judge.py taken TRACE NAME     how many writes to the line of 64 bytes at a symbol found it in the cache of another hart
-    judge.py word TRACE NAME AT   `READS WRITES HARTS` of the word of 4 bytes, AT bytes behind a symbol; an access counts once
-    judge.py place TRACE NAME     where a symbol lies in the trace
-    judge.py blocks TRACE NAME    the sizes of the blocks that were made by a call that a function of this name made, each with
-                                  `live` or `freed`
+    judge.py taken TRACE NAME     how many writes to the 64-byte line at a symbol found it in the cache of
+                                  another hart
+    judge.py word TRACE NAME AT   `READS WRITES HARTS` of the 4-byte word AT bytes after a symbol; an access
+                                  counts once
+    judge.py place TRACE NAME     the address of a symbol in the trace
+    judge.py blocks TRACE NAME    the sizes of the blocks whose allocation a function of this name called,
+                                  each with `live` or `freed`
     judge.py turns TRACE          the longest turn of a hart while another one has accesses before and after
-    judge.py alike TRACE OTHER    `alike` where a trace of version 3 without its instructions has the records of one of version 1
-    judge.py sites TRACE NAME AT  which instructions touch the word, by the table back: of each its rows in TRACE.table as
-                                  `FUNCTION LINE`, and behind it the frames that are inlined there, the innermost first
-    judge.py untold TRACE         how many distinct instructions have not exactly one row of their own in TRACE.table
+    judge.py alike TRACE OTHER    `alike` where a trace of version 3 has, without its instructions, the
+                                  records of one of version 1
+    judge.py sites TRACE NAME AT  which instructions access the word, by the address map: for each its rows
+                                  in TRACE.table as `FUNCTION LINE`, then the frames that are inlined
+                                  there, the innermost first
+    judge.py untold TRACE         how many distinct instructions have not exactly one row of their own in
+                                  TRACE.table
     judge.py each TRACE           bytes for each access, times 100
 """
 
@@ -23,7 +29,7 @@ import sys
 from itertools import zip_longest
 
 
-def step(data, place, before):
+def decode_distance(data, place, before):
     """What a number is that stands for the one before it, and the place behind."""
     number, start = 0, place
     while True:
@@ -37,7 +43,7 @@ def step(data, place, before):
     return (before + (-(number >> 1) - 1 if number & 1 else number >> 1)) % 2**32, place
 
 
-def records(trace, all_of_it):
+def read_records(trace, all_of_it):
     with open(trace, "rb") as file:
         data = file.read()
     if data[:8] not in (b"PRDTRC01", b"PRDTRC03"):
@@ -49,10 +55,10 @@ def records(trace, all_of_it):
         tag = data[place]
         if has_pcs and tag in (0x11, 0x12, 0x14, 0x21, 0x22, 0x24):
             hart = data[place + 1]
-            last, behind = step(data, place + 2, last)
+            last, behind = decode_distance(data, place + 2, last)
             if last % (tag % 16) or hart >= harts:
                 sys.exit(f"a wrong access at {place}")
-            pcs[hart], place = step(data, behind, pcs.get(hart, 0))
+            pcs[hart], place = decode_distance(data, behind, pcs.get(hart, 0))
             accesses += 1
             if all_of_it:
                 yield "access", hart, tag >= 0x20, last, tag % 16, pcs[hart]
@@ -78,10 +84,10 @@ def records(trace, all_of_it):
             yield "symbol", kind, addr, size, name.decode(errors="replace")
             place += 12 + length
         elif tag == 6:
-            outcome, cause, hart, value, steps, told = struct.unpack_from(
+            outcome, cause, hart, value, steps, total = struct.unpack_from(
                 "<BBHIQQ", data, place + 1
             )
-            if told != accesses or place + 25 != len(data) or (cause, hart, steps) != (0, 0, 0):
+            if total != accesses or place + 25 != len(data) or (cause, hart, steps) != (0, 0, 0):
                 sys.exit(f"a wrong end at {place}")
             yield "end", outcome, value, accesses
             return
@@ -90,15 +96,15 @@ def records(trace, all_of_it):
     sys.exit("the trace has no end")
 
 
-def place_of(all_records, name):
+def find_object(all_records, name):
     for record in all_records:
         if record[0] == "symbol" and record[1] == 1 and record[4] == name:
             return record[2]
     sys.exit(f"no symbol {name}")
 
 
-def taken(all_records, name):
-    line = place_of(all_records, name) // 64 * 64
+def count_invalidations(all_records, name):
+    line = find_object(all_records, name) // 64 * 64
     holders, count = set(), 0
     for record in all_records:
         if record[0] == "access" and line <= record[3] < line + 64:
@@ -109,14 +115,14 @@ def taken(all_records, name):
     return count
 
 
-def word(all_records, name, behind):
-    at = place_of(all_records, name) + int(behind)
+def word_accesses(all_records, name, behind):
+    at = find_object(all_records, name) + int(behind)
     own = [it for it in all_records if it[0] == "access" and at <= it[3] < at + 4]
     writes = sum(it[2] for it in own)
     return f"{len(own) - writes} {writes} {len({it[1] for it in own})}"
 
 
-def blocks(all_records, name):
+def list_blocks(all_records, name):
     functions = [it for it in all_records if it[0] == "symbol" and it[1] == 2 and it[4] == name]
     found = []
     for record in all_records:
@@ -129,7 +135,7 @@ def blocks(all_records, name):
     return " ".join(f"{size} {state}" for _, size, state in found)
 
 
-def turns(all_records):
+def count_turns(all_records):
     harts = [it[1] for it in all_records if it[0] == "access"]
     longest, begin = 0, 0
     for at in range(1, len(harts)):
@@ -138,16 +144,17 @@ def turns(all_records):
     return longest
 
 
-def alike(trace, other):
-    with_pcs, without = records(trace, True), records(other, True)
+def are_alike(trace, other):
+    with_pcs, without = read_records(trace, True), read_records(other, True)
     for number, (one, two) in enumerate(zip_longest(with_pcs, without)):
         if one is None or two is None or one[:5] != two[:5]:
             return f"record {number}: {one} and {two}"
     return "alike"
 
 
-def rows_of(table):
-    """The rows of the instructions, each by its place: of a site its function and its line, of a frame the same."""
+def parse_table(table):
+    """The rows of the instructions, each by its place: of a site its function and its line, of a frame the
+    same."""
     found = {}
     with open(table, errors="surrogateescape") as file:
         for row in file:
@@ -161,25 +168,25 @@ def rows_of(table):
     return found
 
 
-def sites(trace, name, behind):
-    all_records = list(records(trace, True))
-    at = place_of(all_records, name) + int(behind)
-    told = rows_of(f"{trace}.table")
+def list_sites(trace, name, behind):
+    all_records = list(read_records(trace, True))
+    at = find_object(all_records, name) + int(behind)
+    sites_by_pc = parse_table(f"{trace}.table")
     texts = []
     for pc in sorted({it[5] for it in all_records if it[0] == "access" and at <= it[3] < at + 4}):
         texts.append(
             " < ".join(
                 f"{own[1]} {own[2].rpartition('/')[2]}"
-                for own in told.get(pc, [("", "unknown", "unknown")])
+                for own in sites_by_pc.get(pc, [("", "unknown", "unknown")])
             )
         )
     return "; ".join(sorted(set(texts)))
 
 
-def untold(trace):
-    told = rows_of(f"{trace}.table")
-    pcs = {it[5] for it in records(trace, True) if it[0] == "access"}
-    return sum(sum(own[0] == "site" for own in told.get(it, [])) != 1 for it in pcs)
+def count_unnamed(trace):
+    sites_by_pc = parse_table(f"{trace}.table")
+    pcs = {it[5] for it in read_records(trace, True) if it[0] == "access"}
+    return sum(sum(own[0] == "site" for own in sites_by_pc.get(it, [])) != 1 for it in pcs)
 
 
 def main(words):
@@ -187,22 +194,29 @@ def main(words):
         sys.exit(__doc__)
     what, *names = words[0], *words[2:]
     if what in ("end", "accesses"):
-        *_, (_, outcome, value, accesses) = records(words[1], False)
+        *_, (_, outcome, value, accesses) = read_records(words[1], False)
         print(accesses if what == "accesses" else {0: f"exit {value}", 4: "part"}[outcome])
     elif what in ("alike", "sites", "untold"):
-        print({"alike": alike, "sites": sites, "untold": untold}[what](words[1], *names))
+        print(
+            {"alike": are_alike, "sites": list_sites, "untold": count_unnamed}[what](
+                words[1], *names
+            )
+        )
     elif what == "each":
-        *_, (_, _, _, accesses) = records(words[1], False)
+        *_, (_, _, _, accesses) = read_records(words[1], False)
         print(round(100 * os.path.getsize(words[1]) / accesses))
     else:
-        all_records = list(records(words[1], what not in ("blocks", "place")))
+        all_records = list(read_records(words[1], what not in ("blocks", "place")))
         if what == "place":
-            print(f"{place_of(all_records, *names):#010x}")
+            print(f"{find_object(all_records, *names):#010x}")
             return
         print(
-            {"taken": taken, "word": word, "blocks": blocks, "turns": turns}[what](
-                all_records, *names
-            )
+            {
+                "taken": count_invalidations,
+                "word": word_accesses,
+                "blocks": list_blocks,
+                "turns": count_turns,
+            }[what](all_records, *names)
         )
 
 

@@ -1,4 +1,5 @@
-"""Makes calls of the program over files of its own, and tells how they ended and which calls of the system they made."""
+"""Makes calls of the program over files of its own, and how they ended and which calls of the system
+they made."""
 
 import collections
 import os
@@ -6,16 +7,18 @@ import subprocess
 from typing import Iterator, NamedTuple, Sequence
 
 import files
-from files import Case
+from cases import Case, all_cases
 
 Fault = str
-# What stands under the name of an output before the call: more bytes than any output has, and no front of one.
+# What stands under the name of an output before the call: more bytes than any output has, and no front of
+# one.
 OLDER = b"older " * 40000
 SECONDS = 60
 
 
 class Call(NamedTuple):
-    """A call of the system, as between.c writes it down. `name` is the file that it is about, `<1>` and `<2>` for the streams."""
+    """A call of the system, as between.c writes it down. `name` is the file that it is about, `<1>` and `<2>`
+    for the streams."""
 
     call: str
     fd: int
@@ -26,7 +29,8 @@ class Call(NamedTuple):
 
 
 class Ending(NamedTuple):
-    """How a call ended: `files` has what stands under the names of its outputs now, and `before` what stood there."""
+    """How a call ended: `files` has what stands under the names of its outputs now, and `before` what stood
+    there."""
 
     status: int
     printed: bytes
@@ -37,7 +41,7 @@ class Ending(NamedTuple):
     faults: list[Fault]
 
 
-def content(name: str) -> bytes | None:
+def read_content(name: str) -> bytes | None:
     try:
         with open(name, "rb") as file:
             return file.read()
@@ -45,7 +49,7 @@ def content(name: str) -> bytes | None:
         return None
 
 
-def calls_of(text: str) -> list[Call]:
+def parse_calls(text: str) -> list[Call]:
     """The calls that were written down, each with the name that its file was opened under."""
     found, names = [], {0: "<0>", 1: "<1>", 2: "<2>"}
     for line in text.splitlines():
@@ -58,34 +62,35 @@ def calls_of(text: str) -> list[Call]:
 
 
 class Bench:
-    """Where the calls are made, and what came of them. `planted` is a mistake that is made in the program's name."""
+    """Where the calls are made, and what came of them. `planted` is a mistake that is made in the program's
+    name."""
 
     def __init__(self, program: str, work: str, shim: str, planted: dict[str, str]) -> None:
         self.program, self.work, self.shim, self.planted = program, work, shim, planted
         self.folder, self.log = os.path.join(work, "files"), os.path.join(work, "log")
-        self.cases = files.cases()
+        self.cases = all_cases()
         self.tried: collections.Counter[tuple[str, str]] = collections.Counter()
         self.failed: list[str] = []
         os.makedirs(self.folder, exist_ok=True)
         os.chdir(self.folder)
-        for name, bytes_of in files.files().items():
+        for name, bytes_of in files.input_files().items():
             with open(name, "wb") as file:
                 file.write(bytes_of)
-        self.kept = self.inputs()
+        self.kept = self.stat_inputs()
 
-    def writing(self) -> Iterator[Case]:
-        return (it for it in self.cases if not it.refuses() and it.writes and it.writes[-1][1])
+    def writing_cases(self) -> Iterator[Case]:
+        return (it for it in self.cases if not it.is_refused() and it.writes and it.writes[-1][1])
 
-    def fullest(self) -> list[Case]:
+    def largest_cases(self) -> list[Case]:
         """Of each command that writes the call with the most files."""
         found: dict[str, Case] = {}
-        for case in self.writing():
+        for case in self.writing_cases():
             best = found.setdefault(case.words[0], case)
             if len(case.reads + case.writes) > len(best.reads + best.writes):
                 found[case.words[0]] = case
         return list(found.values())
 
-    def inputs(self) -> dict[str, tuple[int, ...]]:
+    def stat_inputs(self) -> dict[str, tuple[int, ...]]:
         """Of each file that is none of the outputs what changes when it is written, or is another one."""
         found: dict[str, tuple[int, ...]] = {}
         for entry in os.scandir("."):
@@ -118,18 +123,18 @@ class Bench:
         if os.path.exists(self.log):
             os.remove(self.log)
         status, printed, said, faults = self.run(case.words, how or {}, case.piped)
-        written = {name: content(name) for name in names}
+        written = {name: read_content(name) for name in names}
         for name in names:
             if os.path.exists(name):
                 os.remove(name)
-        faults += self.changed()
+        faults += self.changed_inputs()
         return Ending(
             status,
             printed,
             said,
             before,
             written,
-            calls_of((content(self.log) or b"").decode(errors="replace")),
+            parse_calls((read_content(self.log) or b"").decode(errors="replace")),
             faults,
         )
 
@@ -159,9 +164,9 @@ class Bench:
             pass
         return ran.returncode, printed, said, faults
 
-    def changed(self) -> list[Fault]:
+    def changed_inputs(self) -> list[Fault]:
         """What became of the files that no output is."""
-        now = self.inputs()
+        now = self.stat_inputs()
         found = [f"{name} was changed" for name in self.kept if now.get(name) != self.kept[name]]
         found += [f"{name} was made" for name in now if name not in self.kept]
         if found:
@@ -176,11 +181,11 @@ class Bench:
                 + "".join(f"    {it}\n" for it in faults)
             )
 
-    def closing(self) -> str:
+    def print_summary(self) -> str:
         """How many tries passed and failed, and how many there were of each call and errno."""
-        told = collections.defaultdict(list)
+        errors = collections.defaultdict(list)
         for (call, how), number in sorted(self.tried.items()):
-            told[call].append(f"{how} {number}" if how else str(number))
+            errors[call].append(f"{how} {number}" if how else str(number))
         all_of = sum(self.tried.values())
-        by_call = "; ".join(f"{call}: {', '.join(hows)}" for call, hows in told.items())
+        by_call = "; ".join(f"{call}: {', '.join(hows)}" for call, hows in errors.items())
         return f"{all_of - len(self.failed)} passed, {len(self.failed)} failed ({by_call})"

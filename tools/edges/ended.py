@@ -4,9 +4,9 @@ import os
 import subprocess
 from typing import Sequence
 
-from bench import SECONDS, Bench, Fault, content
-from files import Case
-from judge import faults_of, good_end
+from bench import SECONDS, Bench, Fault, read_content
+from cases import Case
+from judge import find_faults, expected_end
 
 IN_USE = "the file is in use under another name and stays unchanged: name another file"
 READ_FAULT, WRITE_FAULT = b"predator: read fault\n", b"predator: write fault\n"
@@ -42,7 +42,7 @@ class Ended:
                 found.append(f"it {what} {is_now[-200:]!r}, and wanted is {wanted[-200:]!r}")
         return found
 
-    def unsaid(self, line: bytes) -> list[Fault]:
+    def check_last_line(self, line: bytes) -> list[Fault]:
         """What is wrong where this line is to be the last that is said."""
         return (
             []
@@ -55,9 +55,9 @@ def fault_line(name: str, reason: str) -> bytes:
     return f"predator: {name}: {reason}\n".encode()
 
 
-def other_bytes(name: str, wanted: bytes | None) -> list[Fault]:
+def compare_bytes(name: str, wanted: bytes | None) -> list[Fault]:
     """What is wrong with a file that is to have these bytes, or not to be there."""
-    now = content(name)
+    now = read_content(name)
     return (
         []
         if now == wanted
@@ -67,27 +67,27 @@ def other_bytes(name: str, wanted: bytes | None) -> list[Fault]:
     )
 
 
-def unwritten(case: Case) -> list[Fault]:
+def check_outputs(case: Case) -> list[Fault]:
     """What is wrong with the outputs of a call that is to write them whole. They are removed."""
     found = [
         fault
         for name, whole in case.writes
-        for fault in other_bytes(name, None if case.stays() else whole)
+        for fault in compare_bytes(name, None if case.keeps_outputs() else whole)
     ]
-    remove(*dict(case.writes))
+    remove_files(*dict(case.writes))
     return found
 
 
-def put(name: str, bytes_of: bytes) -> None:
+def put_file(name: str, bytes_of: bytes) -> None:
     with open(name, "wb") as file:
         file.write(bytes_of)
 
 
-def remove(*names: str) -> None:
+def remove_files(*names: str) -> None:
     for name in names:
         if os.path.lexists(name):
             os.remove(name)
 
 
 def try_case(bench: Bench, what: str, how: str, case: Case) -> None:
-    bench.count(what, how, case.words, faults_of(case, bench.call(case), good_end(case)))
+    bench.count(what, how, case.words, find_faults(case, bench.call(case), expected_end(case)))

@@ -1,11 +1,12 @@
-"""Judges how a call of the program ended: what it printed, said and wrote, and which calls of the system it made."""
+"""Judges how a call of the program ended: what it printed, said and wrote, and which calls of the system it
+made."""
 
 import collections
 import os
 from typing import Iterator, NamedTuple
 
 from bench import Call, Ending, Fault
-from files import Case
+from cases import Case
 
 
 # How many bytes are asked for at once at most.
@@ -13,9 +14,9 @@ PIECE = 65536
 
 
 class Wanted(NamedTuple):
-    """How a call ends where one of its calls of the system went wrong. Of what is printed a front may be enough. `line` is the fault that
-    is said, and None where whatever is said will do. Outputs are `whole`, `begun` in their order, or as they `stay`.
-    """
+    """How a call ends where one of its calls of the system went wrong. Of what is printed a front may be
+    enough. `line` is the fault that is said, and None where whatever is said will do. Outputs are `whole`,
+    `begun` in their order, or as they `stay`."""
 
     status: int
     printed: bytes
@@ -24,18 +25,21 @@ class Wanted(NamedTuple):
     outputs: str
 
 
-def good_end(case: Case) -> Wanted:
-    return Wanted(case.status, case.printed, False, b"", "stay" if case.stays() else "whole")
+def expected_end(case: Case) -> Wanted:
+    return Wanted(
+        case.status, case.printed, False, b"", "stay" if case.keeps_outputs() else "whole"
+    )
 
 
-def is_said(case: Case, ending: Ending, wanted: Wanted) -> bool:
-    """Whether a call says what it is to say: what it shows of a run until then, the fault, and behind that the advice of a refusal."""
+def has_right_message(case: Case, ending: Ending, wanted: Wanted) -> bool:
+    """Whether a call says what it is to say: what it shows of a run until then, the fault, and behind that
+    the advice of a refusal."""
     if wanted.line is None:
         return True
     if not wanted.line:
         return ending.said == case.said
     shown, found, advice = ending.said.partition(wanted.line)
-    if case.refuses():
+    if case.is_refused():
         return (
             bool(found)
             and not shown
@@ -47,7 +51,7 @@ def is_said(case: Case, ending: Ending, wanted: Wanted) -> bool:
     return bool(found) and is_shown and not advice
 
 
-def faults_of_outputs(case: Case, ending: Ending, outputs: str) -> Iterator[Fault]:
+def output_faults(case: Case, ending: Ending, outputs: str) -> Iterator[Fault]:
     """What is wrong with the outputs: they are begun in their order, and of each a front stands."""
     is_before = True
     for name, whole in case.writes:
@@ -64,11 +68,11 @@ def faults_of_outputs(case: Case, ending: Ending, outputs: str) -> Iterator[Faul
         is_before = not is_same
 
 
-def faults_of(case: Case, ending: Ending, wanted: Wanted) -> list[Fault]:
+def find_faults(case: Case, ending: Ending, wanted: Wanted) -> list[Fault]:
     found = (
         list(ending.faults)
-        + faults_of_calls(case, ending)
-        + list(faults_of_outputs(case, ending, wanted.outputs))
+        + call_faults(case, ending)
+        + list(output_faults(case, ending, wanted.outputs))
     )
     if ending.status != wanted.status:
         found.append(f"status {ending.status}, and {wanted.status} is wanted")
@@ -79,15 +83,17 @@ def faults_of(case: Case, ending: Ending, wanted: Wanted) -> list[Fault]:
     )
     if not is_right:
         found.append(
-            f"it printed {ending.printed[:60]!r}.., {len(ending.printed)} bytes, and wanted are {wanted.printed[:60]!r}.."
+            f"it printed {ending.printed[:60]!r}.., {len(ending.printed)} bytes, and wanted are"
+            f" {wanted.printed[:60]!r}.."
         )
-    if not is_said(case, ending, wanted):
+    if not has_right_message(case, ending, wanted):
         found.append(f"it said {ending.said[-200:]!r}, and wanted is {wanted.line!r}")
     return found
 
 
-class Seen:
-    """What was made of the files so far: which were opened, read from, read to their ends, and emptied, each in order."""
+class FileProgress:
+    """What was made of the files so far: which were opened, read from, read to their ends, and emptied, each
+    in order."""
 
     def __init__(self) -> None:
         self.opened: list[str] = []
@@ -96,10 +102,10 @@ class Seen:
         self.emptied: list[str] = []
 
 
-def faults_of_opening(case: Case, call: Call, seen: Seen) -> Iterator[Fault]:
-    """What is wrong with how a file is opened. Each is opened once, an input for reading alone, and an output to be written as it stands,
-    after the inputs were read to their ends. Of a trace that is read along with the writing something was read.
-    """
+def opening_faults(case: Case, call: Call, seen: FileProgress) -> Iterator[Fault]:
+    """What is wrong with how a file is opened. Each is opened once, an input for reading alone, and an output
+    to be written as it stands, after the inputs were read to their ends. Of a trace that is read along with
+    the writing something was read."""
     outputs = dict(case.writes)
     how = call.asked & ~(os.O_CLOEXEC | os.O_NOCTTY | os.O_LARGEFILE)
     if call.name in seen.opened and call.name != os.devnull:
@@ -119,14 +125,14 @@ def faults_of_opening(case: Case, call: Call, seen: Seen) -> Iterator[Fault]:
     )
 
 
-def faults_of_calls(case: Case, ending: Ending) -> list[Fault]:
+def call_faults(case: Case, ending: Ending) -> list[Fault]:
     """What is wrong with the calls of the system that were made, by what was written down of them."""
     found: list[Fault] = []
-    outputs, seen, handed = dict(case.writes), Seen(), collections.Counter[str]()
+    outputs, seen, handed = dict(case.writes), FileProgress(), collections.Counter[str]()
     still: dict[int, str] = {}
     for call in ending.calls:
         if call.call == "open" and call.answer >= 0:
-            found += faults_of_opening(case, call, seen)
+            found += opening_faults(case, call, seen)
             still[call.answer] = call.name
             seen.opened.append(call.name)
         elif call.call == "close" and still.pop(call.fd, None) is None:
@@ -149,7 +155,8 @@ def faults_of_calls(case: Case, ending: Ending) -> list[Fault]:
             f"{handed['<1>']} bytes were answered as printed, and {len(ending.printed)} are there"
         )
     found += [
-        f"{handed[name]} bytes were answered as written to {name}, and {len(ending.files[name] or b'')} are there"
+        f"{handed[name]} bytes were answered as written to {name}, and"
+        f" {len(ending.files[name] or b'')} are there"
         for name in seen.emptied
         if name in outputs and len(ending.files[name] or b"") != handed[name]
     ]

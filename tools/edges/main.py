@@ -4,32 +4,38 @@
 usage: tools/edges/main.py PROGRAM [--long] [--planted]
        tools/edges/main.py PROGRAM --open
 
-Each call of the program is made as it is, and then again for each call of the system that it makes about files: that one fails with an
-errno that it can have, or moves fewer bytes than it was asked to. between.c stands between the program and the C library for that; cc
-builds it. What is wanted after each:
+Each call of the program is made as it is, and then again for each call of the system that it makes about
+files: that one fails with an errno that it can have, or moves fewer bytes than it was asked to. between.c
+stands between the program and the C library for that; cc builds it. What is wanted after each:
 
-- the exit status, all that is printed, and the fault on standard error are those that docs/FORMATS.md tells;
-- each output is as it was, a front of what it is to be, or whole, and whole where the work is done. It has the bytes that were handed over
-  in writes that the system answered, and no others;
+- the exit status, all that is printed, and the fault on standard error are those of docs/FORMATS.md;
+- each output is as it was, a front of what it is to be, or whole, and whole where the work is done. It has
+  the bytes that were handed over in writes that the system answered, and no others;
 - no other file is changed or made, and nothing is left open or running;
-- each file is opened once: an input for reading alone, and an output as it stands, after the inputs were read to their ends and the output
-  before it was emptied. (That of `move` is begun as soon as its trace was read from);
-- a call that a signal interrupts (EINTR) is made anew, but for a read, which fails then; so is what moved fewer bytes;
-- an error of a close changes nothing. That of a write to standard error, or of asking what the streams are, changes nothing else.
+- each file is opened once: an input for reading alone, and an output as it stands, after the inputs were read
+  to their ends and the output before it was emptied. (That of `move` is begun as soon as its trace was read
+  from);
+- a call that a signal interrupts (EINTR) is made anew, but for a read, which fails then; so is what moved
+  fewer bytes;
+- an error of a close changes nothing. That of a write to standard error, or of asking what the streams are,
+  changes nothing else.
 
-tries.py, names.py and streams.py try what needs no failing call: names of files, streams, full disks, traces that change, and what `main`
-does. files.py has what each call is to print and write, worked out apart from the program.
+tries.py, names.py and streams.py try what needs no failing call: names of files, streams, full disks, traces
+that change, and what `main` does. cases.py has what each call is to print and write, worked out apart from
+the program.
 
-The short form takes EINTR and some of the other errnos in turn, and of calls that are alike the first two and the last; --long takes all.
-With --planted between.c makes mistakes in the program's name, one kind after another, and each must be found, most of them in calls of
-every command that writes: a last piece that is written in part, the tail of an older file that stays, a piece of one byte that is lost, a
-text that is cut at 64 KiB, an output that is begun too early, an input that is opened for writing, and the others in PLANTS. So what is
-shown is that such a mistake would be seen; the program itself isn't changed.
+The short form takes EINTR and some of the other errnos in turn, and of calls that are alike the first two and
+the last; --long takes all. With --planted between.c makes mistakes in the program's name, one kind after
+another, and each must be found, most of them in calls of every command that writes: a last piece that is
+written in part, the tail of an older file that stays, a piece of one byte that is lost, a text that is cut at
+64 KiB, an output that is begun too early, an input that is opened for writing, and the others in PLANTS. So
+what is shown is that such a mistake would be seen; the program itself isn't changed.
 
---open tries what one would expect and the program doesn't do, and nothing else: it fails as long as that is so.
+--open tries what one would expect and the program doesn't do, and nothing else: it fails as long as that is
+so.
 
-A write that the system answers and then loses can't be told from a good one. It ends with 1 where anything is wrong. The last line counts
-the tries by call and errno."""
+A write that the system answers and then loses looks like a good one. It ends with 1 where anything is
+wrong. The last line counts the tries by call and errno."""
 
 import collections
 import errno
@@ -42,13 +48,16 @@ from typing import Iterator, NamedTuple
 import names
 import tries
 from bench import Bench, Call
-from files import Case
-from judge import Wanted, faults_of, good_end
+from cases import Case
+from judge import Wanted, find_faults, expected_end
 from streams import READ_ONCE
 
 # Which errnos a call may have. A close is made anyway, and its error is passed over.
 ERRORS = {
-    "open": "EACCES EINTR EIO ENOENT ENOMEM EMFILE ENFILE EISDIR ELOOP ENXIO EPERM ENOSPC EROFS EDQUOT ETXTBSY EOVERFLOW",
+    "open": (
+        "EACCES EINTR EIO ENOENT ENOMEM EMFILE ENFILE EISDIR ELOOP ENXIO EPERM ENOSPC EROFS EDQUOT"
+        " ETXTBSY EOVERFLOW"
+    ),
     "read": "EIO EINTR ENOMEM EAGAIN EISDIR EBADF EINVAL ESTALE ETIMEDOUT",
     "write": "ENOSPC EIO EINTR ENOMEM EDQUOT EFBIG EAGAIN EPIPE EPERM EBADF ESTALE",
     "lseek": "ESPIPE EINVAL EOVERFLOW ENXIO EBADF",
@@ -67,7 +76,7 @@ READ_FAULT, WRITE_FAULT, NO_MEMORY = (
 )
 
 
-class How(NamedTuple):
+class Failure(NamedTuple):
     """How a call goes wrong: with an errno, which may last, or with a share of the bytes."""
 
     name: str
@@ -75,14 +84,14 @@ class How(NamedTuple):
     share: str = ""
     lasts: bool = False
 
-    def told(self, number: int) -> dict[str, str]:
-        told = {"EDGES_AT": str(number), "EDGES_ERROR": str(self.error), "EDGES_SHARE": self.share}
-        return told | ({"EDGES_LASTS": "1"} if self.lasts else {})
+    def environment(self, number: int) -> dict[str, str]:
+        env = {"EDGES_AT": str(number), "EDGES_ERROR": str(self.error), "EDGES_SHARE": self.share}
+        return env | ({"EDGES_LASTS": "1"} if self.lasts else {})
 
 
-def part_of(case: Case, calls: list[Call], number: int) -> str:
-    """What a call of the system is for: to `read`, to `write`, to `print`, to tell whether a file can be read again (`again`), or
-    something on which nothing hangs (`aside`)."""
+def call_purpose(case: Case, calls: list[Call], number: int) -> str:
+    """What a call of the system is for: to `read`, to `write`, to `print`, to tell whether a file can be read
+    again (`again`), or something on which nothing hangs (`aside`)."""
     event = calls[number - 1]
     text = max(
         at for at, other in enumerate(calls, 1) if other.call == "write" and other.name == "<1>"
@@ -106,8 +115,9 @@ def part_of(case: Case, calls: list[Call], number: int) -> str:
     return "read"
 
 
-def reason_of(event: Call, part: str, how: How) -> str:
-    """Why the call fails, as it is said, and nothing where it is to be made anew or where fewer bytes are no fault."""
+def failure_reason(event: Call, part: str, how: Failure) -> str:
+    """Why the call fails, as it is said, and nothing where it is to be made anew or where fewer bytes are no
+    fault."""
     if part == "again":
         return READ_ONCE
     if how.share:
@@ -115,21 +125,21 @@ def reason_of(event: Call, part: str, how: How) -> str:
     return "" if how.error == errno.EINTR and event.call in TRIED_ANEW else os.strerror(how.error)
 
 
-def wanted_of(case: Case, calls: list[Call], number: int, how: How) -> Wanted:
-    event, part = calls[number - 1], part_of(case, calls, number)
-    reason = "" if part == "aside" else reason_of(event, part, how)
-    outputs = "stay" if case.stays() else "whole"
+def expected_ending(case: Case, calls: list[Call], number: int, how: Failure) -> Wanted:
+    event, part = calls[number - 1], call_purpose(case, calls, number)
+    reason = "" if part == "aside" else failure_reason(event, part, how)
+    outputs = "stay" if case.keeps_outputs() else "whole"
     if not reason:
         # (the advice of a refusal looks at the file again)
         is_lost = part == "aside" and (
-            event.name == "<2>" or (case.refuses() and event.call in ("lseek", "read"))
+            event.name == "<2>" or (case.is_refused() and event.call in ("lseek", "read"))
         )
         return Wanted(case.status, case.printed, False, None if is_lost else b"", outputs)
     called = {"<1>": "standard output", "/dev/stdin": "standard input"}.get(event.name, event.name)
     line = f"predator: {called}: {reason}\n".encode()
     wants_memory = how.error == errno.ENOMEM and part != "again"
     if part == "print":
-        status = 9 if wants_memory else case.status if case.refuses() else 8
+        status = 9 if wants_memory else case.status if case.is_refused() else 8
         return Wanted(status, case.printed, True, line, outputs)
     printed = NO_MEMORY if wants_memory else WRITE_FAULT if part == "write" else READ_FAULT
     if how.lasts:
@@ -141,8 +151,9 @@ def wanted_of(case: Case, calls: list[Call], number: int, how: How) -> Wanted:
     return Wanted(status, printed, False, line, "begun" if part == "write" or is_begun else "stay")
 
 
-def hows_of(event: Call, number: int, is_long: bool) -> Iterator[How]:
-    """In which ways a call goes wrong: in the short form with the first errno that it may have, with EINTR, and with two others in turn."""
+def list_failures(event: Call, number: int, is_long: bool) -> Iterator[Failure]:
+    """In which ways a call goes wrong: in the short form with the first errno that it may have, with EINTR,
+    and with two others in turn."""
     names = ERRORS[event.call].split()
     if not is_long:
         others = [name for name in names[1:] if name != "EINTR"]
@@ -152,14 +163,15 @@ def hows_of(event: Call, number: int, is_long: bool) -> Iterator[How]:
             + [others[(number + by) % len(others)] for by in (0, len(others) // 2)]
         )
     for name in names:
-        yield How(name, getattr(errno, name))
+        yield Failure(name, getattr(errno, name))
     for share in SHARES.get(event.call, ()):
         if event.asked > 1 or share == "none":
-            yield How(share, share=share)
+            yield Failure(share, share=share)
 
 
-def chosen(calls: list[Call], is_long: bool) -> Iterator[int]:
-    """The numbers of the calls that are to go wrong: all, or of those that are alike the first two and the last."""
+def choose_calls(calls: list[Call], is_long: bool) -> Iterator[int]:
+    """The numbers of the calls that are to go wrong: all, or of those that are alike the first two and the
+    last."""
     alike = collections.defaultdict(list)
     for number, event in enumerate(calls, 1):
         alike[event.call, event.name].append(number)
@@ -170,41 +182,50 @@ def chosen(calls: list[Call], is_long: bool) -> Iterator[int]:
 def try_case(bench: Bench, case: Case, is_long: bool) -> None:
     """Tries a call as it is, and with each of its calls of the system going wrong."""
     good = bench.call(case)
-    bench.count("as it is", "", case.words, faults_of(case, good, good_end(case)))
+    bench.count("as it is", "", case.words, find_faults(case, good, expected_end(case)))
     bench.count(
         "as it is",
         "new",
         case.words,
-        faults_of(case, bench.call(case, is_new=True), good_end(case)),
+        find_faults(case, bench.call(case, is_new=True), expected_end(case)),
     )
-    for number in chosen(good.calls, is_long):
+    for number in choose_calls(good.calls, is_long):
         event = good.calls[number - 1]
-        for how in hows_of(event, number, is_long):
+        for how in list_failures(event, number, is_long):
             try_call(bench, case, good.calls, number, how, False)
             if is_long and case.writes:
                 try_call(bench, case, good.calls, number, how, True)
-        if part_of(case, good.calls, number) in ("read", "write", "print") and not case.refuses():
+        if (
+            call_purpose(case, good.calls, number) in ("read", "write", "print")
+            and not case.is_refused()
+        ):
             try_call(
-                bench, case, good.calls, number, How("EIO for ever", errno.EIO, lasts=True), False
+                bench,
+                case,
+                good.calls,
+                number,
+                Failure("EIO for ever", errno.EIO, lasts=True),
+                False,
             )
 
 
 def try_call(
-    bench: Bench, case: Case, calls: list[Call], number: int, how: How, is_new: bool
+    bench: Bench, case: Case, calls: list[Call], number: int, how: Failure, is_new: bool
 ) -> None:
-    ending = bench.call(case, how.told(number), is_new)
-    found = faults_of(case, ending, wanted_of(case, calls, number, how))
+    ending = bench.call(case, how.environment(number), is_new)
+    found = find_faults(case, ending, expected_ending(case, calls, number, how))
     event = calls[number - 1]
     bench.count(event.call, how.name, (*case.words, f"(call {number}, of {event.name})"), found)
 
 
 def try_room(bench: Bench, case: Case) -> None:
-    """Tries a call on a disk that has room for so many bytes: what fits is taken, and then there is no space."""
+    """Tries a call on a disk that has room for so many bytes: what fits is taken, and then there is no
+    space."""
     whole = [len(content) for _, content in case.writes]
     for room in sorted({0, 1, whole[0] // 2, whole[0] - 1, whole[0], sum(whole) - 1, sum(whole)}):
         ending = bench.call(case, {"EDGES_ROOM": str(room)}, is_new=True)
         if room >= sum(whole):
-            found = faults_of(case, ending, good_end(case))
+            found = find_faults(case, ending, expected_end(case))
         else:
             line = next(
                 (
@@ -216,14 +237,14 @@ def try_room(bench: Bench, case: Case) -> None:
                 ),
                 b"no line",
             )
-            found = faults_of(case, ending, Wanted(8, WRITE_FAULT, False, line, "begun"))
+            found = find_faults(case, ending, Wanted(8, WRITE_FAULT, False, line, "begun"))
             if sum(len(it or b"") for it in ending.files.values()) != room:
                 found.append(f"the outputs have other than {room} bytes together")
         bench.count("write", "a full disk", (*case.words, f"(room for {room} bytes)"), found)
 
 
 def try_rooms(bench: Bench) -> None:
-    for case in bench.writing():
+    for case in bench.writing_cases():
         try_room(bench, case)
 
 
@@ -238,7 +259,7 @@ def try_all(bench: Bench, is_long: bool) -> None:
 
 
 def try_last_pieces(bench: Bench) -> None:
-    for case in bench.writing():
+    for case in bench.writing_cases():
         calls = bench.call(case).calls
         last = max(
             at
@@ -246,33 +267,35 @@ def try_last_pieces(bench: Bench) -> None:
             if event.call == "write" and event.name in dict(case.writes)
         )
         ending = bench.call(case, {"EDGES_AT": str(last)})
-        bench.count("as it is", "", case.words, faults_of(case, ending, good_end(case)))
+        bench.count("as it is", "", case.words, find_faults(case, ending, expected_end(case)))
 
 
 def try_first_outputs(bench: Bench) -> None:
-    for case in (it for it in bench.writing() if len(it.writes) > 1):
+    for case in (it for it in bench.writing_cases() if len(it.writes) > 1):
         calls = bench.call(case).calls
         first = next(at for at, it in enumerate(calls, 1) if it.call == "ftruncate")
         ending = bench.call(
-            case, How("EIO", errno.EIO).told(first) | {"EDGES_NAME": case.writes[1][0]}
+            case, Failure("EIO", errno.EIO).environment(first) | {"EDGES_NAME": case.writes[1][0]}
         )
         bench.count(
             "ftruncate",
             "EIO",
             case.words,
-            faults_of(case, ending, wanted_of(case, calls, first, How("EIO", errno.EIO))),
+            find_faults(
+                case, ending, expected_ending(case, calls, first, Failure("EIO", errno.EIO))
+            ),
         )
 
 
 def try_good(bench: Bench) -> None:
     for case in bench.cases:
-        told = {"EDGES_NAME": case.writes[-1][0]} if case.writes else {}
-        ending = bench.call(case, told)
-        bench.count("as it is", "", case.words, faults_of(case, ending, good_end(case)))
+        env = {"EDGES_NAME": case.writes[-1][0]} if case.writes else {}
+        ending = bench.call(case, env)
+        bench.count("as it is", "", case.words, find_faults(case, ending, expected_end(case)))
 
 
-# Each mistake: what it is, what finds it, and in which calls it has to be found: in those of every command that writes, of every one that
-# reads and may write, of every one that reads, or of any.
+# Each mistake: what it is, what finds it, and in which calls it has to be found: in those of every command
+# that writes, of every one that reads and may write, of every one that reads, or of any.
 PLANTS = {
     "part": ("a last piece of which a byte is lost", try_last_pieces, "writing"),
     "tail": ("the tail of an older file that stays", try_good, "writing"),
@@ -297,10 +320,11 @@ PLANTS = {
 
 def must_find(bench: Bench, which: str) -> set[str]:
     """The commands of which each has to find a mistake."""
-    writing, reading = {it.words[0] for it in bench.writing()}, {
+    writing, reading = {it.words[0] for it in bench.writing_cases()}, {
         case.words[0] for case in bench.cases if case.reads
     }
-    return {"writing": writing, "reading": reading, "both": writing & reading, "any": set()}[which]
+    sets = {"writing": writing, "reading": reading, "both": writing & reading}
+    return sets.get(which, set())
 
 
 def try_plants(bench: Bench) -> None:
@@ -322,7 +346,7 @@ def try_plants(bench: Bench) -> None:
         )
 
 
-def built(work: str) -> str:
+def build_shim(work: str) -> str:
     """The library that stands between the program and the C library."""
     source, shim = os.path.join(
         os.path.dirname(os.path.abspath(__file__)), "between.c"
@@ -354,7 +378,7 @@ def main(words: list[str]) -> int:
         print(__doc__)
         return 0 if words in (["--help"], ["-h"]) else 1
     with tempfile.TemporaryDirectory() as work:
-        bench = Bench(os.path.abspath(programs[0]), work, built(work), {})
+        bench = Bench(os.path.abspath(programs[0]), work, build_shim(work), {})
         if "--open" in words:
             tries.try_open(bench)
         else:
@@ -363,7 +387,7 @@ def main(words: list[str]) -> int:
             try_plants(bench)
         for fault in bench.failed:
             print(fault)
-        print(bench.closing())
+        print(bench.print_summary())
         return 1 if bench.failed else 0
 
 

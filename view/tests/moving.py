@@ -99,7 +99,7 @@ def moved(trace, table):
     """The moved trace, piece by piece, each with whether it is an access and was moved."""
     version, before, pcs, end = int(trace[6:8]), 0, {}, 20
     yield trace[:20], None
-    for begin, end, it in traces.placed(trace):
+    for begin, end, it in traces.located_records(trace):
         if not isinstance(it, traces.Access):
             yield trace[begin:end], None
             continue

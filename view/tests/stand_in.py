@@ -87,7 +87,7 @@ def read(name):
 def case_of(trace, settings, options):
     """A trace as judge_report has it."""
     accesses, records = [], []
-    for it in traces.records(trace):
+    for it in traces.read_records(trace):
         if isinstance(it, (traces.Symbol, traces.Alloc, traces.Free)):
             records.append((len(accesses), it))
         else:
@@ -164,11 +164,9 @@ def run(names, options):
         print(os.environ["STAND_IN_PUTS"], file=sys.stderr)
     if "--trace" in options:
         with open(options["--trace"], "wb") as file:
-            pcs, trace = iter([it[4] for it in machine.accesses]), judge_report.trace_of(case)
-            file.write(
-                traces.with_pcs(trace, lambda *_: next(pcs)) if "--pcs" in options else trace
-            )
-    yield from judge_report.report_of(case)
+            pcs, trace = iter([it[4] for it in machine.accesses]), judge_report.trace_bytes(case)
+            file.write(traces.add_pcs(trace, lambda *_: next(pcs)) if "--pcs" in options else trace)
+    yield from judge_report.report_text(case)
 
 
 def check(names, options):
@@ -222,18 +220,18 @@ def explain(names, options):
 
 
 def replay(names, options):
-    return judge_report.report_of(case_of(read(names[0]), settings_of(options), options))
+    return judge_report.report_text(case_of(read(names[0]), settings_of(options), options))
 
 
 def misses(names, options):
-    return recount_misses.told(
+    return recount_misses.misses_text(
         read(names[0]), int(options.get("--size", 64)), int(options.get("--shift", 0))
     )
 
 
 def blame(names, options):
     lines = list(
-        recount_blame.told(
+        recount_blame.blame_text(
             read(names[0]), int(options.get("--size", 64)), int(options.get("--shift", 0))
         )
     )
@@ -243,7 +241,9 @@ def blame(names, options):
 
 
 def place(names, options):
-    lines = recount_place.told(read(names[0]), names[1].encode(), int(options.get("--size", 64)))
+    lines = recount_place.place_text(
+        read(names[0]), names[1].encode(), int(options.get("--size", 64))
+    )
     if lines[0].startswith("predator: "):
         raise LookupError(lines[0])
     return lines

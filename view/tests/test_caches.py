@@ -23,7 +23,7 @@ from view.output.caches import (  # noqa: E402
 )
 from view.output.drawings import BAR, bar  # noqa: E402
 from view.faults import Fault  # noqa: E402
-from judge_report import Access, Case, Ending, trace_of  # noqa: E402
+from judge_report import Access, Case, Ending, trace_bytes  # noqa: E402
 from traces import Symbol  # noqa: E402
 
 TEXT = "caches 64 1 1\naccesses 9\nlines {0}\n{1}total bounded {2} unbounded {3} evicted 0\nend\n"
@@ -61,7 +61,7 @@ class CachesOfShapes(unittest.TestCase):
     def write(self, accesses, records=()):
         with open(self.trace, "wb") as file:
             file.write(
-                trace_of(
+                trace_bytes(
                     Case(
                         accesses,
                         list(records),

@@ -34,7 +34,7 @@ def whole():
     text, before, pcs = head + bytes.fromhex(SYMBOL), 0, {}
     for part in (FIRST, REST):
         own = head + bytes.fromhex(part) + end
-        for begin, end_of, it in traces.placed(own):
+        for begin, end_of, it in traces.located_records(own):
             text += moving.spelled(3, (own[begin], own[end_of - 1]), it, before, pcs)
             before = it.addr
     return text + end
@@ -58,7 +58,7 @@ class Moved(unittest.TestCase):
                 return said, status, file.read()
 
     def total(self, trace):
-        return [*recount_misses.told(trace, 64, 0)][-2]
+        return [*recount_misses.misses_text(trace, 64, 0)][-2]
 
     def test_a_trace_with_instructions(self):
         trace = whole()

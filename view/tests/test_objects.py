@@ -16,7 +16,7 @@ from calling import built  # noqa: E402
 from view.reading.calls import Call  # noqa: E402
 from view.names.fields import Program  # noqa: E402
 from view.model.view import ObjectDetails, View  # noqa: E402
-from judge_report import Access, Case, Ending, trace_of  # noqa: E402
+from judge_report import Access, Case, Ending, trace_bytes  # noqa: E402
 from view.model.object_keys import SymbolKey  # noqa: E402
 from view.names.demangling import SymbolNames, short_name  # noqa: E402
 from view.names.naming import Memory, Naming, WordKind  # noqa: E402
@@ -724,7 +724,7 @@ class Objects(unittest.TestCase):
             64,
             None,
         )
-        found = find_overflow(trace_of(case), Memory((0xF90000, 0x1010000), 8))
+        found = find_overflow(trace_bytes(case), Memory((0xF90000, 0x1010000), 8))
         return found and found.sentence()
 
     def test_a_stack_that_is_too_small(self):

@@ -10,7 +10,7 @@ from calling import PROGRAM, STAND_IN, TOP, has, joined, view
 
 sys.path.insert(0, os.path.join(TOP, "tools"))
 
-from judge_report import Access, Case, Ending, trace_of  # noqa: E402
+from judge_report import Access, Case, Ending, trace_bytes  # noqa: E402
 from traces import OBJECT, Alloc, Free, Symbol  # noqa: E402
 
 
@@ -32,7 +32,7 @@ class Places(unittest.TestCase):
             trace = os.path.join(folder, "t")
             with open(trace, "wb") as file:
                 file.write(
-                    trace_of(
+                    trace_bytes(
                         Case(
                             accesses,
                             list(records),

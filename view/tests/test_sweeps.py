@@ -14,7 +14,7 @@ sys.path[:0] = [TOP, os.path.join(TOP, "tools")]
 from view.model.line_borders import ShiftedLines, order_crossings  # noqa: E402
 from view.output.drawings import curve  # noqa: E402
 from view.faults import Fault  # noqa: E402
-from judge_report import Access, Case, Ending, trace_of  # noqa: E402
+from judge_report import Access, Case, Ending, trace_bytes  # noqa: E402
 from view.output.sweep import Sweep, page  # noqa: E402
 from traces import Symbol  # noqa: E402
 
@@ -48,7 +48,7 @@ class Sweeps(unittest.TestCase):
         records = [(0, Symbol(1, addr, size, name.encode())) for name, addr, size in symbols]
         with open(self.trace, "wb") as file:
             file.write(
-                trace_of(
+                trace_bytes(
                     Case(
                         accesses,
                         records,

@@ -20,7 +20,7 @@ from view import main  # noqa: E402
 from view.repairs import patches  # noqa: E402
 from view.reading.trace_prefix import trace_accesses, write_prefix  # noqa: E402
 from view.names.fields import Program  # noqa: E402
-from judge_report import Access, Case, Ending, trace_of  # noqa: E402
+from judge_report import Access, Case, Ending, trace_bytes  # noqa: E402
 from view.repairs.layouts import (  # noqa: E402
     LayoutChange,
     MovedRange,
@@ -35,7 +35,7 @@ from view.repairs.candidates import Repair, field_groupings  # noqa: E402
 from view.reading.trace_files import WordUses  # noqa: E402
 from view.repairs.subjects import UNUSED, Sharing, sharing_of  # noqa: E402
 from traces import Access as Accessed  # noqa: E402
-from traces import Alloc, Symbol, placed, records, with_pcs  # noqa: E402
+from traces import Alloc, Symbol, located_records, read_records, add_pcs  # noqa: E402
 from view.repairs.trial_results import TrialCount, Trial  # noqa: E402
 from view.repairs.trials import free_places, move_table, join_repairs  # noqa: E402
 
@@ -64,7 +64,7 @@ class Folder(unittest.TestCase):
             64,
             None,
         )
-        return WordUses(self.path("trace", trace_of(case)))
+        return WordUses(self.path("trace", trace_bytes(case)))
 
 
 W, R = True, False
@@ -115,7 +115,7 @@ class Used(Folder):
             front = self.uses(*accesses).front
             self.assertEqual(self.uses(*accesses[:40]).front, b"")
         self.assertEqual(self.uses(*accesses).front, b"")
-        own = list(records(front))
+        own = list(read_records(front))
         self.assertEqual(
             own, [(hart, addr, writes) for hart, writes, addr, _ in accesses[: len(own)]]
         )
@@ -155,10 +155,10 @@ class Cut(Folder):
             (0, Symbol(1, 0x1000, 64, b"n\x11\x24")),
             *((at, Alloc(at * 16, 16, (at, 0, 0, 0))) for at in (0x811, 0xF21)),
         ]
-        first = trace_of(
+        first = trace_bytes(
             Case(accesses, others, Ending("exit 0", 9, (0, 0, 0, 0)), 8, 16, 64, 100, 64, None)
         )
-        third = with_pcs(first, lambda access, before: (before * 5 + access.addr) % 2**32)
+        third = add_pcs(first, lambda access, before: (before * 5 + access.addr) % 2**32)
         for trace in (first, third):
             path, out = self.path("whole", trace), self.path("part")
             self.assertEqual(trace_accesses(path), 5000)
@@ -167,7 +167,7 @@ class Cut(Folder):
                 self.assertTrue(min(most, 5000) <= found <= min(most + 1024, 5000))
                 with open(out, "rb") as file:
                     own = file.read()
-                told, whole = list(placed(own)), list(placed(trace))
+                told, whole = list(located_records(own)), list(located_records(trace))
                 self.assertEqual(told, whole[: len(told)])
                 self.assertEqual(sum(isinstance(it, Accessed) for *_, it in told), found)
                 self.assertEqual(own[-25:-8], b"\6\4" + bytes(15))

@@ -12,7 +12,7 @@ from calling import HERE, PROGRAM, TOP, has, joined, view
 sys.path[:0] = [os.path.join(HERE, "..", ".."), os.path.join(HERE, "..", "..", "tools")]
 
 import traces  # noqa: E402
-from judge_report import Access, Case, Ending, trace_of  # noqa: E402
+from judge_report import Access, Case, Ending, trace_bytes  # noqa: E402
 from view.model.waiting_harts import (  # noqa: E402
     END_FUNCTIONS,
     decode_instructions,
@@ -68,11 +68,11 @@ class Last(unittest.TestCase):
 
     def test_instructions(self):
         accesses = [Access(it % 3, bool(it % 2), 0x1000 + 4 * it, 4) for it in range(99)]
-        trace = trace_of(
+        trace = trace_bytes(
             Case(accesses, [], Ending("exit 0", 9, (0, 0, 0, 0)), 8, 16, 64, 9, 64, None)
         )
-        own = traces.with_pcs(trace, lambda access, before: (before * 5 + access.addr) % 2**32)
-        wanted = [(it.hart, it.pc) for it in traces.sited(own)]
+        own = traces.add_pcs(trace, lambda access, before: (before * 5 + access.addr) % 2**32)
+        wanted = [(it.hart, it.pc) for it in traces.read_accesses_with_pcs(own)]
         self.assertEqual(list(decode_instructions(own)), wanted)
         # (as far as a piece goes that was cut)
         self.assertEqual(list(decode_instructions(own[:-25])), wanted)

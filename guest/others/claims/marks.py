@@ -1,34 +1,35 @@
 #!/usr/bin/env python3
-"""What a hart accesses between its marks, as marked.c and cleared.c set them: marks.py PROGRAM TRACE WHAT [NUMBER ..].
+"""What a hart accesses between its marks, as marked.c and cleared.c set them: marks.py PROGRAM TRACE WHAT
+[NUMBER ..].
 
-`quiet`: nothing. `reads ADDRESS ..`: in some call the word at one of these ten times running, but for words of stacks, and it doesn't write
-it. `cleared ADDRESS WORDS`: each of so many words from there on is read, and every other one written. The status is 0 exactly if it is so,
-of one call at least."""
+`quiet`: nothing. `reads ADDRESS ..`: in some call the word at one of these ten times running, but for words
+of stacks, and it doesn't write it. `cleared ADDRESS WORDS`: each of so many words from there on is read, and
+every other one written. The status is 0 exactly if it is so, of one call at least."""
 
 import os
 import subprocess
 import sys
 
 sys.path.insert(0, os.path.join(os.path.dirname(os.path.abspath(__file__)), "../../../tools"))
-from traces import accesses  # noqa: E402
+from traces import read_accesses  # noqa: E402
 
 # Where the stacks of 128 harts begin, with the memory that claims.sh gives a program.
 STACKS = 0x4010000 - 128 * 65536
 
 
-def marks(program):
+def mark_addresses(program):
     """The addresses of the two words."""
-    told = subprocess.run(["llvm-nm", program], capture_output=True, text=True, check=True).stdout
-    symbols = {it[2]: int(it[0], 16) for it in map(str.split, told.splitlines()) if len(it) == 3}
+    text = subprocess.run(["llvm-nm", program], capture_output=True, text=True, check=True).stdout
+    symbols = {it[2]: int(it[0], 16) for it in map(str.split, text.splitlines()) if len(it) == 3}
     return symbols["call_begins"], symbols["call_ends"]
 
 
-def calls(program, trace):
+def marked_calls(program, trace):
     """The accesses of each call, each as (address, whether it writes)."""
-    begins, ends = marks(program)
+    begins, ends = mark_addresses(program)
     inside = {}
     with open(trace, "rb") as file:
-        for hart, addr, is_write in accesses(file.read()):
+        for hart, addr, is_write in read_accesses(file.read()):
             if addr == ends:
                 yield inside.pop(hart)
             elif addr == begins:
@@ -37,7 +38,7 @@ def calls(program, trace):
                 inside[hart].append((addr, is_write))
 
 
-def waits(call, words):
+def is_waiting(call, words):
     """Whether it reads one of these words again and again."""
     now, last = 0, None
     for addr, is_write in (it for it in call if it[0] < STACKS):
@@ -48,11 +49,11 @@ def waits(call, words):
     return False
 
 
-def holds(what, seen, numbers):
+def check_claim(what, seen, numbers):
     if what == "quiet":
         return not any(seen)
     if what == "reads":
-        return any(waits(it, numbers) for it in seen)
+        return any(is_waiting(it, numbers) for it in seen)
     addr, words = numbers
     area = range(addr, addr + 4 * words, 4)
     read, written = (
@@ -63,9 +64,9 @@ def holds(what, seen, numbers):
 
 
 def main(program, trace, what, *numbers):
-    seen = list(calls(program, trace))
+    seen = list(marked_calls(program, trace))
     print(f"{len(seen)} calls, {sum(map(len, seen))} accesses")
-    return 0 if seen and holds(what, seen, [int(it, 0) for it in numbers]) else 1
+    return 0 if seen and check_claim(what, seen, [int(it, 0) for it in numbers]) else 1
 
 
 if __name__ == "__main__":
