@@ -18,7 +18,7 @@ from campaign.run_results import (
     PairKey,
     RunResults,
 )
-from view.names.naming import Memory, shown
+from view.names.naming import Memory, address_text
 
 KINDS = ("observed", "shifted", "doubled")
 SHIFT = re.compile(r"^shift (\d+) total (\d+) lines (\d+)$", re.MULTILINE)
@@ -336,7 +336,7 @@ def pair_rows(observations: Observations) -> dict[tuple[int, Layout], list[PairR
     for (group, pair), seeds in observations.pairs.items():
         line = pair.line
         name, offset = names.get((group, pair.layout, line)) or (
-            shown(line.base) if isinstance(line, AddressKey) else "-",
+            address_text(line.base) if isinstance(line, AddressKey) else "-",
             0,
         )
         worst = max(seeds, key=lambda counts: (counts.invalidations, -counts.seed))

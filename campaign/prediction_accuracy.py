@@ -26,7 +26,7 @@ from campaign.campaign_file import (  # noqa: E402
     settings_name,
 )
 from campaign.run_results import RunResults  # noqa: E402
-from view.model.predicted_lines import inside  # noqa: E402
+from view.model.predicted_lines import observed_false_sharing  # noqa: E402
 from view.names.naming import Memory  # noqa: E402
 
 HEADS = (
@@ -71,7 +71,7 @@ def find_lines(run: RunResults) -> FoundLines:
         for line, count in misses.items()
         if count >= threshold and (line.size, line.base % line.size) != (own.size, own.offset)
     }
-    new = {line for line in real if misses[line] >= inside([line], own) + threshold}
+    new = {line for line in real if misses[line] >= observed_false_sharing([line], own) + threshold}
     return FoundLines(real, new, {LineRange(it.size, it.base) for it in report.predicted()})
 
 

@@ -8,8 +8,8 @@ from typing import Iterator, Literal, NamedTuple, Sequence, Union
 
 from campaign.campaign_file import Record
 from campaign.invalidations import Blame
-from view.model.objects import Spot, parties
-from view.names.naming import Memory, Naming, shown
+from view.model.objects import ObjectLine, contending_objects
+from view.names.naming import Memory, Naming, address_text
 from view.reading import reports
 from view.reading.reports import Block, LineKind, Misses, Report, Site, Symbol
 
@@ -99,7 +99,7 @@ class RunResults:
             missed = (
                 self.misses[layout].lines.get(predicted.base) if layout in self.misses else None
             )
-            yield layout, predicted.kind, self.line(Spot(predicted.base, predicted, missed))
+            yield layout, predicted.kind, self.line(ObjectLine(predicted.base, predicted, missed))
 
     def layout_lines(
         self, listed: Sequence[reports.Line], misses: Misses | None
@@ -107,12 +107,12 @@ class RunResults:
         """The lines of one layout, those that the report lists first."""
         missed, seen = misses.lines if misses else {}, {it.base for it in listed}
         for line in listed:
-            yield self.line(Spot(line.base, line, missed.get(line.base)))
+            yield self.line(ObjectLine(line.base, line, missed.get(line.base)))
         for base, own in missed.items():
             if base not in seen:
-                yield self.line(Spot(base, None, own))
+                yield self.line(ObjectLine(base, None, own))
 
-    def line(self, spot: Spot) -> RunLine:
+    def line(self, spot: ObjectLine) -> RunLine:
         objects = (spot.missed.objects() if spot.missed else []) or spot.rows()
         return RunLine(
             spot.base,
@@ -122,14 +122,14 @@ class RunResults:
             spot.missed.useless if spot.missed else None,
         )
 
-    def object_offsets(self, spot: Spot) -> dict[ObjectOffset, float]:
+    def object_offsets(self, spot: ObjectLine) -> dict[ObjectOffset, float]:
         """The objects on a line, each with its share of the accesses."""
         shares: dict[ObjectOffset, float] = {}
-        for key, (example, share) in parties(spot, spot.rows(), self.naming).items():
+        for key, (example, share) in contending_objects(spot, spot.objects(), self.naming).items():
             if isinstance(example, Block):
                 name, addr = self.block_name(example), example.addr
             else:
-                name = self.naming.key_name(key, example)
+                name = self.naming.object_name(key, example)
                 addr = example.addr if isinstance(example, Symbol) else spot.base
             shares[name, spot.base - addr] = max(share, 0)
         return shares
@@ -173,4 +173,6 @@ def block_name(sites: Sequence[Site], number: int | None, naming: Naming) -> str
     which = f"block {number} of" if number else "block of"
     if not sites:
         return f"{which} no call site"
-    return f"{which} " + " < ".join(f"{it.name}@{shown(it.addr)}" for it in naming.chain(sites))
+    return f"{which} " + " < ".join(
+        f"{it.name}@{address_text(it.addr)}" for it in naming.own_sites(sites)
+    )

@@ -36,7 +36,7 @@ from campaign.observations import (  # noqa: E402
 from campaign.rerun_commands import run_command, settings_text  # noqa: E402
 from campaign.run_results import Layout  # noqa: E402
 from view.names.naming import Memory  # noqa: E402
-from view.reading.engine import Predator, setting, stacks  # noqa: E402
+from view.reading.engine import Predator, setting_value, stack_range  # noqa: E402
 
 FORMAT = "predator campaign table 2"
 PLACE = ("program", "settings", "size", "shift")
@@ -289,7 +289,9 @@ def group_memory(campaign: Record, group: Record) -> Memory:
         file.write(settings_text(group["settings"], 0))
         file.flush()
         words = ["--settings", file.name]
-        return Memory(stacks(Predator(), program["file"], words), setting(words, "harts"))
+        return Memory(
+            stack_range(Predator(), program["file"], words), setting_value(words, "harts")
+        )
 
 
 def read_batch(work: tuple[str, int, list[int], Memory]) -> Observations:
