@@ -113,7 +113,7 @@ class RunResults:
                 yield self.line(ObjectLine(base, None, own))
 
     def line(self, spot: ObjectLine) -> RunLine:
-        objects = (spot.missed.objects() if spot.missed else []) or spot.rows()
+        objects = (spot.missed.objects() if spot.missed else []) or spot.objects()
         return RunLine(
             spot.base,
             self.line_key(spot.base, objects),

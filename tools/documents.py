@@ -175,7 +175,11 @@ def wrong_layers(text: str) -> list[str]:
         name: int(floor)
         for floor, name in re.findall(r"^\| (\d) \| `(\w+)` \|", text, re.MULTILINE)
     }
-    return [f"{name}: floor {floor}" for name, floor in crate_layers().items() if told.get(name) != floor]
+    return [
+        f"{name}: floor {floor}"
+        for name, floor in crate_layers().items()
+        if told.get(name) != floor
+    ]
 
 
 def wrong_promises(text: str) -> list[str]:
@@ -251,7 +255,9 @@ def main(words: list[str]) -> int:
         wrong.append(f"docs/ARCHITECTURE.md:1: {it}")
     for name in words or sorted(find_documents()):
         if name == promises.PAGE:
-            wrong += [f"{name}:{number}: {line}" for number, line in unknown_quotes(read(name), crates)]
+            wrong += [
+                f"{name}:{number}: {line}" for number, line in unknown_quotes(read(name), crates)
+            ]
             wrong += wrong_promises(read(name))
         wrong += [
             f"{name}:{number}: {it}"

@@ -18,8 +18,8 @@ BUILD = "build it for RV32IMA with guest/build.sh"
 LINK = "link it statically at fixed addresses with -static -no-pie"
 DAMAGED = "the file is damaged or cut off (docs/FORMATS.md describes the format)"
 NO_PCS = (
-    "the trace has no pcs: record a guest with `predator run PROGRAM --pcs --trace F`, or a program "
-    "of this machine with `predator native --pcs --trace F -- PROGRAM`"
+    "the trace has no pcs: record a guest with `predator run PROGRAM --pcs --trace F`, or a program"
+    " of this machine with `predator native --pcs --trace F -- PROGRAM`"
 )
 AGAIN = "link the program again, since the file is damaged or cut off"
 SCRIPT = "link it with guest/link.ld, or a linker script like it"
@@ -67,7 +67,11 @@ PROGRAMS = {
     "magic.elf": (patch_program(0, "<B", 1), "BadMagic", f"the file is not an ELF file: {BUILD}"),
     "empty.elf": (b"", "TooShort", f"the file is not an ELF file: {BUILD}"),
     "script": (b"#!/bin/sh\n", "TooShort", f"the file is a script: {BUILD}"),
-    "wide.elf": (patch_program(4, "<B", 2), "BadClass", f"the file is an ELF file for RV64: {BUILD}"),
+    "wide.elf": (
+        patch_program(4, "<B", 2),
+        "BadClass",
+        f"the file is an ELF file for RV64: {BUILD}",
+    ),
     "turned.elf": (
         patch_program(5, "<B", 2),
         "BadData",
@@ -93,8 +97,16 @@ PROGRAMS = {
         "BadType",
         f"the file is not an executable with fixed addresses: {LINK}",
     ),
-    "x86.elf": (patch_program(18, "<H", 3), "BadMachine", f"the file is an ELF file for x86: {BUILD}"),
-    "arm.elf": (patch_program(18, "<H", 40), "BadMachine", f"the file is an ELF file for ARM: {BUILD}"),
+    "x86.elf": (
+        patch_program(18, "<H", 3),
+        "BadMachine",
+        f"the file is an ELF file for x86: {BUILD}",
+    ),
+    "arm.elf": (
+        patch_program(18, "<H", 40),
+        "BadMachine",
+        f"the file is an ELF file for ARM: {BUILD}",
+    ),
     "arm64.elf": (
         patch_program(18, "<H", 183),
         "BadMachine",
@@ -103,8 +115,10 @@ PROGRAMS = {
     "flags.elf": (
         patch_program(36, "<I", 1),
         "BadFlags",
-        "the program uses compressed instructions, floating-point registers or RV32E registers: "
-        "compile it for little-endian RV32 with -march=rv32ima -mabi=ilp32",
+        (
+            "the program uses compressed instructions, floating-point registers or RV32E registers:"
+            " compile it for little-endian RV32 with -march=rv32ima -mabi=ilp32"
+        ),
     ),
     "headers.elf": (
         patch_program(42, "<H", 31),
@@ -139,8 +153,10 @@ PROGRAMS = {
     "high.elf": (
         patch_program(SECOND + 8, "<I", 1 << 31),
         "SegmentOutsideMemory",
-        "the segments, the stacks and a heap do not fit in memory: "
-        "set a larger `memory`, fewer `harts` or a smaller `stack` in the settings",
+        (
+            "the segments, the stacks and a heap do not fit in memory: "
+            "set a larger `memory`, fewer `harts` or a smaller `stack` in the settings"
+        ),
     ),
     "odd.elf": (
         patch_program(24, "<I", CODE + 2),
@@ -172,7 +188,10 @@ TRACES = {
     "magic": (
         b"PRDTRC00" + bytes(37),
         "BadMagic",
-        "the file is not a trace: write one with `predator run PROGRAM --trace F` or tools/to_trace.py",
+        (
+            "the file is not a trace: write one with `predator run PROGRAM --trace F` or"
+            " tools/to_trace.py"
+        ),
     ),
     "harts": (
         trace(b"", 0, harts=257),
@@ -215,8 +234,10 @@ SCHEDULES = {
     "hart": (
         b"8 1\n",
         "HartOutOfRange 1",
-        "line 1 names a hart that does not exist: number the harts from 0, and set how many there "
-        "are with `harts` in the settings (usually 8)",
+        (
+            "line 1 names a hart that does not exist: number the harts from 0, and set how many"
+            " there are with `harts` in the settings (usually 8)"
+        ),
     ),
     "zero": (
         b"0 1\n0 0\n",
@@ -230,9 +251,9 @@ SCHEDULES = {
     ),
 }
 FORM = (
-    "is not a valid FROM SIZE TO: write it like `0x11004 4 0x11040`, with single spaces, multiples "
-    "of 4, SIZE at least 4, FROM + SIZE and TO + SIZE at most 2^32, and FROM at or above the end of "
-    "the previous range"
+    "is not a valid FROM SIZE TO: write it like `0x11004 4 0x11040`, with single spaces, multiples"
+    " of 4, SIZE at least 4, FROM + SIZE and TO + SIZE at most 2^32, and FROM at or above the end"
+    " of the previous range"
 )
 TABLES = {
     "odd.moves": (b"\n0 6 8\n", "BadLine 2", f"line 2 {FORM}"),
@@ -341,7 +362,10 @@ def list_faults() -> Iterator[Fault]:
     yield ["move", "t", "way", "a"], 14, "table Occupied 0x00001004", occupied
     for name in ("t", "second"):
         yield ["blame", name], 5, "trace NoPcs", f"{name}: {NO_PCS}"
-    none = "no object symbol of the trace has this name, and not exactly one block was allocated at that address: name another object"
+    none = (
+        "no object symbol of the trace has this name, and not exactly one block was allocated at"
+        " that address: name another object"
+    )
     yield ["place", "t", "none"], 13, "place NoObject", none
     yield [
         "place",

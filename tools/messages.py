@@ -22,7 +22,15 @@ from concurrent.futures import ThreadPoolExecutor
 from typing import Iterable, Iterator, NamedTuple
 
 import commands
-from commands import Row, boundary_values, flag_names, read_commands, operand_names, parse_number, option_names
+from commands import (
+    Row,
+    boundary_values,
+    flag_names,
+    read_commands,
+    operand_names,
+    parse_number,
+    option_names,
+)
 from message_files import FORM, list_faults, put_files
 
 USUAL = {
@@ -105,7 +113,9 @@ def key_tries(row: Row, usual: dict[str, int]) -> Iterator[Try]:
         status, printed = (None, "") if is_allowed else (4, f"settings OutOfRange {key}")
         file, changed = settings_file(key, value), f"--set={key}={value}"
         yield Try(["check", "p", changed], status, printed, range_message(row))
-        yield Try(["check", "p", "--settings", file], status, printed, f"{file}: {range_message(row)}")
+        yield Try(
+            ["check", "p", "--settings", file], status, printed, f"{file}: {range_message(row)}"
+        )
         # One of them is right: `--set` is to blame though there is a file, and the file though something else
         # is changed.
         yield Try(
@@ -135,7 +145,10 @@ def key_tries(row: Row, usual: dict[str, int]) -> Iterator[Try]:
             f"{file}: {range_message(row)}",
         )
         yield Try(
-            ["check", "p", "--settings", file, changed], status, printed, f"{file}: {range_message(row)}"
+            ["check", "p", "--settings", file, changed],
+            status,
+            printed,
+            f"{file}: {range_message(row)}",
         )
 
 
@@ -158,7 +171,9 @@ def tracking_tries(row: Row) -> Iterator[Try]:
         printed,
         f"low: {range_message(row)}",
     )
-    yield Try(["check", "p", "--settings", "well", "--set=tracking=60"], 4, printed, range_message(row))
+    yield Try(
+        ["check", "p", "--settings", "well", "--set=tracking=60"], 4, printed, range_message(row)
+    )
 
 
 def setting_tries() -> Iterator[Try]:
@@ -232,17 +247,23 @@ def number_message(name: str, at: str, value: int) -> str:
     if name == "explain":
         words = " ".join(str(value) if it == at else USUAL[it] for it in ("BASE", "SIZE", "START"))
         return (
-            f"'{words}' is not a line and a start: "
-            f"BASE must be a multiple of {number_options('BASE', name)['step']} below {power('BASE', name)}, "
-            f"SIZE {range_text('SIZE', name)}, START a number below {power('START', name)}"
+            f"'{words}' is not a line and a start: BASE must be a multiple of"
+            f" {number_options('BASE', name)['step']} below {power('BASE', name)}, SIZE"
+            f" {range_text('SIZE', name)}, START a number below {power('START', name)}"
         )
     if name == "sweep":
-        return f"'--size {value}' is not a size that sweep takes: it must be {range_text('--size', name)}"
+        return (
+            f"'--size {value}' is not a size that sweep takes: it must be"
+            f" {range_text('--size', name)}"
+        )
     if name == "place":
         return f"'--size {value}' is not a line size: it must be {range_text('--size', name)}"
     if name == "caches":
         given = dict(zip(WANTED[name][::2], WANTED[name][1::2])) | {at: str(value)}
-        return f"'{' '.join(f'{it} {word}' for it, word in given.items())}' is not a cache shape: {shapes()}"
+        return (
+            f"'{' '.join(f'{it} {word}' for it, word in given.items())}' is not a cache shape:"
+            f" {shapes()}"
+        )
     size, shift = (value, 0) if at == "--size" else (64, value)
     return f"'--size {size} --shift {shift}' is not a layout: {layouts(name)}"
 
@@ -256,12 +277,19 @@ def shapes() -> str:
 
 
 def layouts(name: str) -> str:
-    return f"--size must be {range_text('--size', name)}, --shift a multiple of {number_options('--shift', name)['step']} below the size"
+    return (
+        f"--size must be {range_text('--size', name)}, --shift a multiple of"
+        f" {number_options('--shift', name)['step']} below the size"
+    )
 
 
 def boundary_numbers(row: Row) -> Iterator[tuple[int, bool]]:
     """The bounds of a number and what lies beside them, each with whether it is allowed."""
-    least, greatest, step = parse_number(row["least"]), parse_number(row["greatest"]), row.get("step", 1)
+    least, greatest, step = (
+        parse_number(row["least"]),
+        parse_number(row["greatest"]),
+        row.get("step", 1),
+    )
     if "power" in row:
         yield from (
             (least, True),
@@ -280,7 +308,9 @@ def boundary_numbers(row: Row) -> Iterator[tuple[int, bool]]:
 
 def number_tries(row: Row) -> Iterator[Try]:
     """A number with each value beside its bounds, in each of its commands."""
-    for name, (value, is_allowed) in ((name, it) for name in row["commands"] for it in boundary_numbers(row)):
+    for name, (value, is_allowed) in (
+        (name, it) for name in row["commands"] for it in boundary_numbers(row)
+    ):
         word = row["word"]
         # (what is made for the greatest count would fill the disk)
         others = {"FILE": "missing/a"} if name == "gen" else {}
@@ -305,7 +335,8 @@ def all_number_tries() -> Iterator[Try]:
     for word, wrong in (("03", "has a leading zero"), ("+3", "has a sign")):
         yield usage(["gen", word, "a"], f"'{word}' {wrong}: N must be {range_text('N', 'gen')}")
         yield usage(
-            ["split", "t", word, "a", "b"], f"'{word}' {wrong}: K must be {range_text('K', 'split')}"
+            ["split", "t", word, "a", "b"],
+            f"'{word}' {wrong}: K must be {range_text('K', 'split')}",
         )
         yield usage(["replay", "t", "--size", word], f"'{word}' {wrong}: {layouts('replay')}")
         yield usage(
@@ -361,7 +392,9 @@ def word_tries() -> Iterator[Try]:
     yield usage(["run", "p", "--pcs"], "--pcs needs --trace")
     for missing in ("--size", "--sets", "--ways"):
         at = least_call("caches").index(missing)
-        yield usage(least_call("caches")[:at] + least_call("caches")[at + 2 :], f"{missing} is missing")
+        yield usage(
+            least_call("caches")[:at] + least_call("caches")[at + 2 :], f"{missing} is missing"
+        )
 
 
 # ---- Files.
@@ -376,11 +409,17 @@ def file_tries() -> Iterator[Try]:
         if "TRACE" in row.get("reads", ()):
             yield Try(least_call(name, TRACE="short"), 5, "trace Truncated 10", f"short: {cut}")
             yield Try(
-                least_call(name, TRACE="missing"), 7, "read fault", "missing: No such file or directory"
+                least_call(name, TRACE="missing"),
+                7,
+                "read fault",
+                "missing: No such file or directory",
             )
         if "TABLE" in row.get("reads", ()):
             yield Try(
-                least_call(name, TABLE="missing"), 7, "read fault", "missing: No such file or directory"
+                least_call(name, TABLE="missing"),
+                7,
+                "read fault",
+                "missing: No such file or directory",
             )
             # (the table is judged before the trace)
             yield Try(
@@ -400,10 +439,16 @@ def file_tries() -> Iterator[Try]:
                 least_call(name, PROGRAM="x86.elf"),
                 2,
                 "elf BadMachine",
-                "x86.elf: the file is an ELF file for x86: build it for RV32IMA with guest/build.sh",
+                (
+                    "x86.elf: the file is an ELF file for x86: build it for RV32IMA with"
+                    " guest/build.sh"
+                ),
             )
             yield Try(
-                least_call(name, PROGRAM="missing"), 7, "read fault", "missing: No such file or directory"
+                least_call(name, PROGRAM="missing"),
+                7,
+                "read fault",
+                "missing: No such file or directory",
             )
         if "--schedule" in SPACE[name]:
             yield Try(
@@ -455,7 +500,10 @@ def find_fault(program: str, attempt: Try) -> str:
     wanted = attempt.status, text, f"predator: {attempt.said}\n" if attempt.said else ""
     if (ran.returncode, printed, said) == wanted:
         return ""
-    return f"it ended with {ran.returncode}, printed {printed[:80]!r}, said {said!r}; wanted are {attempt.status}, {text[:80]!r}, {wanted[2]!r}"
+    return (
+        f"it ended with {ran.returncode}, printed {printed[:80]!r}, said {said!r}; wanted are"
+        f" {attempt.status}, {text[:80]!r}, {wanted[2]!r}"
+    )
 
 
 def find_failures(program: str, tries: Iterable[Try]) -> Iterator[str]:
@@ -491,7 +539,12 @@ def try_planted(program: str) -> Iterator[str]:
         rows[at] = row
 
 
-KINDS = {"settings": setting_tries, "numbers": all_number_tries, "words": word_tries, "files": file_tries}
+KINDS = {
+    "settings": setting_tries,
+    "numbers": all_number_tries,
+    "words": word_tries,
+    "files": file_tries,
+}
 
 
 def main(words: list[str]) -> int:

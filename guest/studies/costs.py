@@ -94,7 +94,8 @@ class Build:
         self.count = int(re.search(r"^line .* count (\d+)$", told, re.MULTILINE)[1])
         if self.line and self.count != self.line.count:
             self.wrong.append(
-                f"{self.path}: the report counts {self.line.count} of {address_text(self.base)}, and explain {self.count}"
+                f"{self.path}: the report counts {self.line.count} of {address_text(self.base)},"
+                f" and explain {self.count}"
             )
         found = re.search(r"^pair (\S+) (\S+) taken (\d+) same (\d+)$", told, re.MULTILINE)
         if found is None:

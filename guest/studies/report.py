@@ -81,7 +81,8 @@ def report_of_call(words, trace):
     ran = subprocess.run([PROGRAM, *words], stdout=subprocess.PIPE, text=True, check=False)
     if "\nend\n" not in ran.stdout or not os.path.exists(trace):
         sys.exit(
-            f"{' '.join(words)}: no report with a trace, and status {ran.returncode} (the built program is wanted)\n{ran.stdout}"
+            f"{' '.join(words)}: no report with a trace, and status {ran.returncode} (the built"
+            f" program is wanted)\n{ran.stdout}"
         )
     return Report(ran.stdout)
 
@@ -127,7 +128,8 @@ def recount_differences(trace, size, report):
     counted = {base: (start, count) for base, start, count in recount_lines(trace, size)}
     observed = {it.base: (it.start, it.count) for it in report.lines_of_kind("observed")}
     return [
-        f"line {address_text(key)} of {size}: reported {observed.get(key)}, recounted {counted.get(key)}"
+        f"line {address_text(key)} of {size}: reported {observed.get(key)}, recounted"
+        f" {counted.get(key)}"
         for key in sorted(counted.keys() | observed.keys())
         if counted.get(key) != observed.get(key)
     ]

@@ -206,7 +206,8 @@ def compile_all(folder: str, listed: str) -> None:
             for own in range(30):
                 other = f"f{(program * 7 + 1) % 60}_{own * 3 % 30}"
                 file.write(
-                    f"int {other}(int);\nint f{program}_{own}(int x) {{ return x > 1 ? {other}(x - {own + 1}) + {program * own} : x; }}\n"
+                    f"int {other}(int);\nint f{program}_{own}(int x) {{ return x > 1 ? {other}(x -"
+                    f" {own + 1}) + {program * own} : x; }}\n"
                 )
             file.write("int main(void) { return f0_0(3); }\n" if program == 0 else "")
     subprocess.run(["gcc", "-c", "-g", "-O1", *names], cwd=folder, check=True)
@@ -252,7 +253,10 @@ def is_named(name: str) -> bool:
     if re.match("memory at|block without", name):
         return False
     if re.search(
-        r'near (?:a panic|panics) at (?!library/)|near an assertion at |in a method of (?!std::|tbb::)|\(near the text "',
+        (
+            r"near (?:a panic|panics) at (?!library/)|near an assertion at |in a method of"
+            r' (?!std::|tbb::)|\(near the text "'
+        ),
         name,
     ):
         return True
@@ -315,13 +319,16 @@ def main(words: Sequence[str]) -> int:
     build_path(names)
     heads = ["Program", "Accesses", "Bytes each", "True", "False", "Of the object", "Named"]
     found = [table_row(STUDIES[name], build) for name in names for build in STUDIES[name].builds]
-    text, rows = markdown_table(heads, [cells for cells, _ in found]), "".join(it for _, it in found)
+    text, rows = markdown_table(heads, [cells for cells, _ in found]), "".join(
+        it for _, it in found
+    )
     print(text, rows, sep="\n")
     if "--renew" in words:
         renew_document({"others of this machine": text})
         with open(ROWS, "w", encoding="utf-8") as file:
             file.write(
-                f"The first three rows of each program's screen, as native/others/run.py has recorded and shown it.\n\n{rows}"
+                "The first three rows of each program's screen, as native/others/run.py has"
+                f" recorded and shown it.\n\n{rows}"
             )
     return 0
 

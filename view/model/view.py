@@ -127,7 +127,8 @@ class View:
         """Counts the misses, under the report's layout, for each word, and under the layouts of predicted lines."""
         if predator is None:
             self.notes.append(
-                "a report has no misses: use `predator view run` or `predator view replay` to count them"
+                "a report has no misses: use `predator view run` or `predator view replay` to count"
+                " them"
             )
             return
         if not predator.has_command("misses"):
@@ -135,7 +136,8 @@ class View:
             return
         if self.call.reads_trace_once():
             self.notes.append(
-                "a pipe can be read only once, so misses and fixes are unknown: write the trace to a file"
+                "a pipe can be read only once, so misses and fixes are unknown: write the trace to"
+                " a file"
             )
             return
         brief, foreseen = is_brief(self.call), self.predicted_layouts()
@@ -169,7 +171,8 @@ class View:
         self.misses_by_layout = dict(zip(foreseen, cast(list[Misses], counted[len(asked) :])))
         if brief:
             self.notes.append(
-                "the trace is long: fixes were tried on its first part, predicted lines weren't counted; --words does both in full"
+                "the trace is long: fixes were tried on its first part, predicted lines weren't"
+                " counted; --words does both in full"
             )
 
     def predicted_layouts(self) -> list[Layout]:
@@ -190,7 +193,10 @@ class View:
         )
         if found and self.call.action == "run":
             harts = setting_value(self.call.settings_words(), "harts")
-            self.missing_harts = f"the last thread never ran, because all {harts} harts were in use: use `--set harts={min(2 * harts, 256)}`"
+            self.missing_harts = (
+                f"the last thread never ran, because all {harts} harts were in use: use `--set"
+                f" harts={min(2 * harts, 256)}`"
+            )
             self.notes.append(self.missing_harts)
 
     def look_for_overflow(self, predator: Predator | None) -> None:
@@ -364,7 +370,10 @@ class View:
                 else f"{thing.name}, by {self.distinguishing_site(thing, thing.example)}"
             )
         if isinstance(thing.key, (SymbolKey, MemoryKey)):
-            return f"{thing.name}, at {address_text(thing.key.addr if isinstance(thing.key, SymbolKey) else thing.key.page)}"
+            return (
+                f"{thing.name}, at"
+                f" {address_text(thing.key.addr if isinstance(thing.key, SymbolKey) else thing.key.page)}"
+            )
         return thing.name
 
     def distinguishing_site(self, thing: DataObject, block: Block) -> str:
@@ -440,7 +449,8 @@ class View:
             )
         elif is_brief(self.call) and "explain" not in self.call.options:
             self.notes.append(
-                "the trace is long and has no program counters: --explain N finds the instructions of N objects, with a run each"
+                "the trace is long and has no program counters: --explain N finds the instructions"
+                " of N objects, with a run each"
             )
         elif program is not None and predator is not None and most:
             self.explain_by_runs(predator, program, things[:most])
@@ -499,7 +509,8 @@ class View:
         spots = [spot for spot in (it.worst_line() for it in things) if spot.base >= 0]
         if spots and not predator.has_command("explain"):
             self.notes.append(
-                "this predator has no command `explain`, so the conflicting instructions are unknown"
+                "this predator has no command `explain`, so the conflicting instructions are"
+                " unknown"
             )
             return
         asked = functools.partial(self.explain_line, predator, program)
@@ -507,7 +518,8 @@ class View:
             for spot, explained in zip(spots, pool.map(asked, spots)):
                 if isinstance(explained, Refused):
                     self.notes.append(
-                        f"the conflicting instructions on line {spot.base:#010x} are unknown: {explained}"
+                        f"the conflicting instructions on line {spot.base:#010x} are unknown:"
+                        f" {explained}"
                     )
                 elif explained.accesses == self.report.accesses and (
                     spot.line is None or explained.count == spot.line.count
@@ -515,7 +527,8 @@ class View:
                     self.invalidations_by_line[spot.base] = explained.invalidations
                 else:
                     self.notes.append(
-                        f"the program with these settings makes another trace, so line {spot.base:#010x} isn't explained"
+                        "the program with these settings makes another trace, so line"
+                        f" {spot.base:#010x} isn't explained"
                     )
 
     def note_unmatched_options(self) -> None:
@@ -552,7 +565,8 @@ class View:
             for name in (file, os.path.basename(file))
         ):
             self.notes.append(
-                f"`--sources {folder}` has none of the program's sources ({advice.listing(map(os.path.basename, files))})"
+                f"`--sources {folder}` has none of the program's sources"
+                f" ({advice.listing(map(os.path.basename, files))})"
             )
 
     def explain_line(
@@ -719,9 +733,11 @@ class View:
             whole = (
                 variable.type
                 if variable
-                else self.naming.type_of_block(thing.example)
-                if isinstance(thing.example, Block)
-                else None
+                else (
+                    self.naming.type_of_block(thing.example)
+                    if isinstance(thing.example, Block)
+                    else None
+                )
             )
             of = type_at_path(whole, array.removeprefix(thing.name)) if whole is not None else None
             of = element_of(of) if element_of(of) is not None else (of if is_block else None)

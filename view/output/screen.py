@@ -138,7 +138,10 @@ def outcome(view: View, paint: Paint, width: int) -> Iterator[str]:
         yield from fold(totals(view), "", "  ", width)
         if view.is_clean() and not is_part:
             yield from fold(
-                f"no change is worth it: fewer than one in {RARE_MISS_DIVISOR:,} accesses is a sharing miss",
+                (
+                    f"no change is worth it: fewer than one in {RARE_MISS_DIVISOR:,} accesses is a"
+                    " sharing miss"
+                ),
                 "",
                 "  ",
                 width,
@@ -152,7 +155,10 @@ def shared(view: View, rows: Sequence[DataObject]) -> str:
         return ""
     name = view.naming.names.shorten(view.label(most))
     row = rows.index(most) + 1
-    return f"{most.useful:,} of all {view.total():,} sharing misses are true sharing of one object, in row {row}: {name}"
+    return (
+        f"{most.useful:,} of all {view.total():,} sharing misses are true sharing of one object, in"
+        f" row {row}: {name}"
+    )
 
 
 def next_step(view: View) -> str:
@@ -161,11 +167,14 @@ def next_step(view: View) -> str:
     if view.overflow:
         return view.overflow.sentence()
     if outcome.endswith(("load-misaligned", "store-misaligned")):
-        return "the address isn't a multiple of the access size: use `memcpy`, or a type with `__attribute__((packed))`"
+        return (
+            "the address isn't a multiple of the access size: use `memcpy`, or a type with"
+            " `__attribute__((packed))`"
+        )
     if sources and is_outside_code(outcome, sources.code):
         return (
-            "the program jumped to an address without code, through a bad function pointer or an overwritten return address; "
-            "a larger stack may help (`--set stack=1048576`)"
+            "the program jumped to an address without code, through a bad function pointer or an"
+            " overwritten return address; a larger stack may help (`--set stack=1048576`)"
         )
     advice = {
         "budget": "the run used up its budget of instructions: raise the setting `budget`",
@@ -178,14 +187,26 @@ def next_step(view: View) -> str:
 # Why a recording ended before its program did, by the words of its address map, and what to do.
 ENDS_OF_RECORDING = {
     "signal": "a signal ended the program",
-    "exec": "the program became another one (`exec`), which is not recorded: name that one in its place",
+    "exec": (
+        "the program became another one (`exec`), which is not recorded: name that one in its place"
+    ),
     "most": "recording stopped after as many accesses as `--most` allows, and the program went on",
-    "max-disk": "recording stopped at `--max-disk` bytes of trace (2G where the call has none), and the program went on: "
-    "raise `--max-disk`, or record less with `--most` or `--marked`",
-    "disk": "recording stopped when its trace had half of what was free on the disk, and the program went on: "
-    "set TMPDIR to a disk with more room, or record less with `--most` or `--marked`",
-    "threads": "recording stopped at more than 256 threads at a time, and the program went on: run it with fewer threads",
-    "addresses": "recording stopped at 4,080 MiB of touched addresses, and the program went on: run it on a smaller input",
+    "max-disk": (
+        "recording stopped at `--max-disk` bytes of trace (2G where the call has none), and the"
+        " program went on: raise `--max-disk`, or record less with `--most` or `--marked`"
+    ),
+    "disk": (
+        "recording stopped when its trace had half of what was free on the disk, and the program"
+        " went on: set TMPDIR to a disk with more room, or record less with `--most` or `--marked`"
+    ),
+    "threads": (
+        "recording stopped at more than 256 threads at a time, and the program went on: run it with"
+        " fewer threads"
+    ),
+    "addresses": (
+        "recording stopped at 4,080 MiB of touched addresses, and the program went on: run it on a"
+        " smaller input"
+    ),
     "error": "the trace could not be written further, and the program went on",
 }
 
@@ -225,7 +246,10 @@ def conflict(view: View, pair: InstructionPair) -> str:
     """A pair of instructions that conflict on a line."""
     victim, invalidator = (view.naming.instruction_name(it) for it in pair[:2])
     times = counted(pair.times, "time")
-    return f"{invalidator} invalidates {victim}: {times}, {same_words(pair)}{BY[pair_kind(pair, view.effects)]}"
+    return (
+        f"{invalidator} invalidates {victim}: {times},"
+        f" {same_words(pair)}{BY[pair_kind(pair, view.effects)]}"
+    )
 
 
 def where(view: View, thing: DataObject) -> list[str]:
@@ -352,9 +376,14 @@ def words_table(view: View, thing: DataObject, paint: Paint, indent: str) -> Ite
         other = (
             ""
             if word.key == thing.key
-            else f"  ({plain(short(view.objects_by_key[word.key].name)) if word.key in view.objects_by_key else 'another object'})"
+            else (
+                f"  ({plain(short(view.objects_by_key[word.key].name)) if word.key in view.objects_by_key else 'another object'})"
+            )
         )
-        yield f"{indent}0x{word.addr:08x}{word.reads:>9,}{word.writes:>9,}{needed}  {owners[word]:<{wide}}  {plain(short(word.name))}{other}"
+        yield (
+            f"{indent}0x{word.addr:08x}{word.reads:>9,}{word.writes:>9,}{needed} "
+            f" {owners[word]:<{wide}}  {plain(short(word.name))}{other}"
+        )
 
 
 def prediction(view: View, group: Sequence[PredictedLine]) -> str:
@@ -393,7 +422,10 @@ def predictions(view: View, paint: Paint, width: int) -> Iterator[str]:
         reasons = "add no false sharing or can't occur with the data's alignment"
         if view.misses and any(it.reason == UNCOUNTED for it in found):
             reasons = f"weren't counted, {reasons}"
-        text = f"{counted(folded, 'predicted line')} not shown, as they {reasons} (--predicted shows all)"
+        text = (
+            f"{counted(folded, 'predicted line')} not shown, as they {reasons} (--predicted shows"
+            " all)"
+        )
         yield from (paint(DIM, it) for it in fold(text, "", "  ", width))
 
 

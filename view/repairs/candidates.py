@@ -105,7 +105,10 @@ def own_lines_code(shape: Shape, line: int) -> str:
     if place:
         keyword, name = record_name(shape)
         return f"`{keyword} {attribute(line)} {name}".rstrip() + f"`{place_text(place)}"
-    return f"wrap it in `struct {attribute(line)} {WRAPPER_FIELD} {{ {field_declaration(shape, 'value')}; }};`"
+    return (
+        f"wrap it in `struct {attribute(line)} {WRAPPER_FIELD} {{"
+        f" {field_declaration(shape, 'value')}; }};`"
+    )
 
 
 def separate_elements(
@@ -307,10 +310,16 @@ def fields_repair(
         for own in groups
     ]
     firsts = [f"`{own[0].name}`" for own in groups[1:]]
-    after = f"put `{attribute(line)}` after {', '.join(firsts[:-1])}{' and ' if len(firsts) > 1 else ''}{firsts[-1]}"
+    after = (
+        f"put `{attribute(line)}` after"
+        f" {', '.join(firsts[:-1])}{' and ' if len(firsts) > 1 else ''}{firsts[-1]}"
+    )
     what = f"`{keyword} {name}`" if name else f"the {keyword} of {subject.name}{record.path}"
     old, new, whole = record.shape.size(), lay_out(record.shape, change).size, subject.size()
-    said = f"group the fields of {what}{place_text(place)}, each group on its own lines: {'; '.join(told)}; {after}{aligned_alloc_text(subject, line)}"
+    said = (
+        f"group the fields of {what}{place_text(place)}, each group on its own lines:"
+        f" {'; '.join(told)}; {after}{aligned_alloc_text(subject, line)}"
+    )
     edits: list[Edit] | None = (
         [OrderFields(place, name, groups, line)] if place and not subject.is_blocks() else None
     )
@@ -353,7 +362,10 @@ def blocks_repair(subject: Subject, line: int) -> Repair:
     for begin, size in subject.ranges:
         parts.append(MovedRange(begin, size, to))
         to = round_up(to + size, line)
-    said = f"allocate each of these blocks on its own lines: `aligned_alloc({line}, ..)` with sizes rounded up to multiples of {line}"
+    said = (
+        f"allocate each of these blocks on its own lines: `aligned_alloc({line}, ..)` with sizes"
+        f" rounded up to multiples of {line}"
+    )
     return Repair([said], to_whole_words(parts), to, None)
 
 
