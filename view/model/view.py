@@ -190,7 +190,10 @@ class View:
         )
         if found and self.call.action == "run":
             harts = setting_value(self.call.settings_words(), "harts")
-            self.missing_harts = f"the last thread never ran, because all {harts} harts were in use: use `--set harts={min(2 * harts, 256)}`"
+            more = f"use `--set harts={min(2 * harts, 256)}`"
+            self.missing_harts = (
+                f"the last thread never ran, because all {harts} harts were in use: {more}"
+            )
             self.notes.append(self.missing_harts)
 
     def look_for_overflow(self, predator: Predator | None) -> None:

@@ -310,7 +310,8 @@ def fields_repair(
     after = f"put `{attribute(line)}` after {', '.join(firsts[:-1])}{' and ' if len(firsts) > 1 else ''}{firsts[-1]}"
     what = f"`{keyword} {name}`" if name else f"the {keyword} of {subject.name}{record.path}"
     old, new, whole = record.shape.size(), lay_out(record.shape, change).size, subject.size()
-    said = f"group the fields of {what}{place_text(place)}, each group on its own lines: {'; '.join(told)}; {after}{aligned_alloc_text(subject, line)}"
+    said = f"group the fields of {what}{place_text(place)}, each group on its own lines: {'; '.join(told)}; {after}"
+    said += aligned_alloc_text(subject, line)
     edits: list[Edit] | None = (
         [OrderFields(place, name, groups, line)] if place and not subject.is_blocks() else None
     )

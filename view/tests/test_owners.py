@@ -46,7 +46,9 @@ class Who(unittest.TestCase):
                 0x1000 + at: {hart: HartUse(*it, 15) for hart, it in of.items()}
                 for at, of in uses.items()
             }
-            view.trials = {KEY: SimpleNamespace(uses=SimpleNamespace(of=lambda it: own.get(it, {})))}
+            view.trials = {
+                KEY: SimpleNamespace(uses=SimpleNamespace(users_of=lambda it: own.get(it, {})))
+            }
         return describe_owners(view, thing)
 
     def test_words_of_one_thread_each(self):
@@ -129,7 +131,9 @@ class Who(unittest.TestCase):
     def test_names_of_threads(self):
         self.assertEqual(join_names(["hart 1"]), "hart 1")
         self.assertEqual(join_names(["hart 1", "hart 2", "hart 3"]), "harts 1, 2 and 3")
-        self.assertEqual(join_names(["thread 1", "threads 2 and 3"]), "thread 1 and threads 2 and 3")
+        self.assertEqual(
+            join_names(["thread 1", "threads 2 and 3"]), "thread 1 and threads 2 and 3"
+        )
 
 
 if __name__ == "__main__":
