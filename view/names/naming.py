@@ -271,7 +271,7 @@ class Naming:
 
     def sites_in_code(self, sites: Sequence[Site]) -> list[Site]:
         """The call sites up to the first that no file has: a stack can't be followed further through code without unwinding information."""
-        is_native = hasattr(self.program, "library")
+        is_native = hasattr(self.program, "library_place")
         if not is_native:
             return list(sites)
         return list(

@@ -236,8 +236,8 @@ class Predictions(Shown):
         with open(self.path("json"), encoding="utf-8") as file:
             self.assertEqual(json.load(file)["predicted"], [])
         _, every = self.calls(*words, "--predicted")
-        self.assertLess(some.count_misses("misses"), every.count("misses"))
-        self.assertLessEqual(some.count_misses("misses"), 6)
+        self.assertLess(some.count("misses"), every.count("misses"))
+        self.assertLessEqual(some.count("misses"), 6)
         status, _, said = view(*words, "--predicted", "--no-predicted")
         self.assertEqual((status, "'--no-predicted' exclude each other" in said), (2, True))
 

@@ -401,7 +401,7 @@ class Native:
     """A program of this machine: a file with a table, and one without."""
 
     def __init__(self, path):
-        self.path, self.back, self.go_tables, self.own = (
+        self.path, self.map, self.go_tables, self.own = (
             path,
             mock.Mock(frames={}, sites={}),
             {},
@@ -417,7 +417,7 @@ class Native:
     def file(self, addr):
         return (self.one if addr < 1 << 31 else self.other), addr % (1 << 31)
 
-    def library(self, addr):
+    def library_place(self, addr):
         own, at = self.file(addr)
         return f"{os.path.basename(own.path)}+{at:#x}"
 
@@ -493,7 +493,7 @@ class Names(OfBytes):
             self.assertEqual(sources.frames(TEXT + 144), [SourceLine("own", "", 0)])
 
     def test_short_names(self):
-        names = demangling.Names()
+        names = demangling.SymbolNames()
         for whole, wanted in (
             ("github.com/junegunn/fzf/src.(*Matcher).scan.func1", "src.(*Matcher).scan.func1"),
             ("gopkg.in/yaml%2ev3.(*parser).parse", "yaml.v3.(*parser).parse"),

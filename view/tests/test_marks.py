@@ -140,10 +140,10 @@ class Stripped:
     def __init__(self, **near):
         self.found = {int(it[1:], 16): own for it, own in near.items()}
 
-    def library(self, addr):
+    def library_place(self, addr):
         return f"x264+{addr:#x}"
 
-    def near(self, addr):
+    def landmark(self, addr):
         return self.found.get(addr)
 
 

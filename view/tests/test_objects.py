@@ -382,7 +382,7 @@ class Objects(unittest.TestCase):
         view = view_of(rows)
         self.assertEqual(view.folded_objects(), [])
         view.naming.program = SimpleNamespace(
-            dwarf=1, variable=lambda _: None, declared=lambda _: None
+            dwarf=1, variable=lambda _: None, declaration=lambda _: None
         )
         view.rank_objects()
         self.assertEqual([it.name for it in view.listed_objects()], ["_mine", "queue"])
@@ -508,7 +508,7 @@ class Objects(unittest.TestCase):
         naming = Naming(view_of([]).report)
         self.assertEqual(naming.sites_in_code(sites), sites)
         naming.program = SimpleNamespace(
-            library=lambda at: "mold+0x100" if at != 0x200 else "", dwarf=None
+            library_place=lambda at: "mold+0x100" if at != 0x200 else "", dwarf=None
         )
         self.assertEqual(naming.sites_in_code(sites), sites[:1])
         self.assertEqual(naming.block_name(sites), "block made in mold+0x100")

@@ -193,8 +193,8 @@ class Cut(Folder):
             os.path.join(HERE, "programs"),
         ]
         own = {"PREDATOR_PROGRAM": PROGRAM, "PREDATOR_BUILD": "no"}
-        with mock.patch("view.reading.passes.LONG", 1000), mock.patch.multiple(
-            "view.repairs.trials", PART=900, FRONT=500
+        with mock.patch("view.reading.passes.LONG_TRACE_ACCESSES", 1000), mock.patch.multiple(
+            "view.repairs.trials", PART_ACCESSES=900, FRONT_ACCESSES=500
         ), mock.patch.dict(os.environ, own):
             with contextlib.redirect_stdout(text):
                 self.assertEqual(main.main(words), 0)

@@ -30,7 +30,7 @@ class Unnamed(unittest.TestCase):
             0x50: "libc.so.6+0x50",
             0x60: "libcx.so+0x60",
         }
-        naming = Naming(None, SimpleNamespace(library=files.get))
+        naming = Naming(None, SimpleNamespace(library_place=files.get))
         locks, waits = InstructionPair(0x10, 0x20, 90, 0), InstructionPair(0x20, 0x10, 80, 0)
         for others, wanted in (
             ([], [0x20, 0x10]),
@@ -119,15 +119,17 @@ class Unnamed(unittest.TestCase):
             naming = Naming(
                 None,
                 SimpleNamespace(
-                    has_go_table=lambda is_go=is_go: is_go, library=lambda _: "fzf+0x0"
+                    has_go_table=lambda is_go=is_go: is_go, library_place=lambda _: "fzf+0x0"
                 ),
                 sources,
             )
-            thing = SimpleNamespace(key=key, spots=[SimpleNamespace(base=it) for it in bases])
-            found = go_runtime_keys([thing], SimpleNamespace(takings=taken.get), naming)
+            thing = SimpleNamespace(key=key, lines=[SimpleNamespace(base=it) for it in bases])
+            found = go_runtime_keys([thing], SimpleNamespace(invalidations=taken.get), naming)
             self.assertEqual(found, {key} if wanted else set())
         guest = Naming(None, SimpleNamespace(), sources)
-        self.assertEqual(go_runtime_keys([thing], SimpleNamespace(takings=taken.get), guest), set())
+        self.assertEqual(
+            go_runtime_keys([thing], SimpleNamespace(invalidations=taken.get), guest), set()
+        )
         for has_runtime, whose in (
             (False, "the C library"),
             (True, "the C library or Go's runtime"),

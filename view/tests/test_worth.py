@@ -124,11 +124,27 @@ def vars_of(words):
     call.words, call.subject, call.named, call.program = [*words[1:]], words[1], words[1], None
     own = {
         it: getattr(call, it)
-        for it in ("how", "options", "own", "words", "subject", "named", "program", "spare")
+        for it in (
+            "action",
+            "options",
+            "guest_words",
+            "words",
+            "subject",
+            "named",
+            "program",
+            "run_trace",
+        )
     }
     return own | {
         it: getattr(call, it)
-        for it in ("number", "settings_words", "value_of", "words_to_run", "trace", "reads_once")
+        for it in (
+            "number_option",
+            "settings_words",
+            "option_value",
+            "rerun_words",
+            "trace_file",
+            "reads_trace_once",
+        )
     }
 
 
@@ -287,9 +303,9 @@ class OnTheScreen(unittest.TestCase):
             ({"json": "f", "latency": "0"}, False),
         ):
             own.call.options.update(options)
-            with mock.patch("view.model.miss_rates.counted", lambda *_: "a count"):
+            with mock.patch("view.model.miss_rates.read_count", lambda *_: "a count"):
                 found = miss_rates.begin_count(
-                    own.call, SimpleNamespace(has=lambda _: True), (64, 0)
+                    own.call, SimpleNamespace(has_command=lambda _: True), (64, 0)
                 )
             self.assertEqual(found is not None and found.result(), is_begun and "a count")
 
