@@ -193,9 +193,9 @@ class View:
         )
         if found and self.call.action == "run":
             harts = setting_value(self.call.settings_words(), "harts")
+            more = f"use `--set harts={min(2 * harts, 256)}`"
             self.missing_harts = (
-                f"the last thread never ran, because all {harts} harts were in use: use `--set"
-                f" harts={min(2 * harts, 256)}`"
+                f"the last thread never ran, because all {harts} harts were in use: {more}"
             )
             self.notes.append(self.missing_harts)
 

@@ -380,10 +380,9 @@ def words_table(view: View, thing: DataObject, paint: Paint, indent: str) -> Ite
                 f"  ({plain(short(view.objects_by_key[word.key].name)) if word.key in view.objects_by_key else 'another object'})"
             )
         )
-        yield (
-            f"{indent}0x{word.addr:08x}{word.reads:>9,}{word.writes:>9,}{needed} "
-            f" {owners[word]:<{wide}}  {plain(short(word.name))}{other}"
-        )
+        numbers = f"{word.reads:>9,}{word.writes:>9,}{needed}"
+        name = plain(short(word.name))
+        yield f"{indent}0x{word.addr:08x}{numbers}  {owners[word]:<{wide}}  {name}{other}"
 
 
 def prediction(view: View, group: Sequence[PredictedLine]) -> str:

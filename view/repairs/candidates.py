@@ -316,10 +316,8 @@ def fields_repair(
     )
     what = f"`{keyword} {name}`" if name else f"the {keyword} of {subject.name}{record.path}"
     old, new, whole = record.shape.size(), lay_out(record.shape, change).size, subject.size()
-    said = (
-        f"group the fields of {what}{place_text(place)}, each group on its own lines:"
-        f" {'; '.join(told)}; {after}{aligned_alloc_text(subject, line)}"
-    )
+    said = f"group the fields of {what}{place_text(place)}, each group on its own lines: {'; '.join(told)}; {after}"
+    said += aligned_alloc_text(subject, line)
     edits: list[Edit] | None = (
         [OrderFields(place, name, groups, line)] if place and not subject.is_blocks() else None
     )

@@ -38,8 +38,8 @@ class TrialCount(NamedTuple):
 
 class Trial:
     """The best of the repairs of an object and what it came to, each none where none could be tried; `instead` is the fix for words in
-    which threads use different bytes. Of a long trace only its first accesses are counted: `own_there` are the object's misses there, and
-    none where the whole is counted."""
+    which threads use different bytes. Of a long trace only its first accesses are counted: `own_misses_in_part` are the object's misses
+    there, and none where the whole is counted."""
 
     def __init__(
         self,
@@ -48,7 +48,7 @@ class Trial:
         accesses: int,
         subject: Subject | None = None,
         uses: WordUses | None = None,
-        own_there: int | None = None,
+        own_misses_in_part: int | None = None,
     ) -> None:
         self.thing, self.before, self.accesses, self.subject, self.uses = (
             thing,
@@ -57,7 +57,7 @@ class Trial:
             subject,
             uses,
         )
-        self.own_misses_in_part = own_there
+        self.own_misses_in_part = own_misses_in_part
         self.cached_mixed_words: list[int] | None = None
         self.repair: Repair | None = None
         self.after: TrialCount | None = None

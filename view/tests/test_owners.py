@@ -47,7 +47,7 @@ class Who(unittest.TestCase):
                 for at, of in uses.items()
             }
             view.trials = {
-                KEY: SimpleNamespace(uses=SimpleNamespace(of=lambda it: own.get(it, {})))
+                KEY: SimpleNamespace(uses=SimpleNamespace(users_of=lambda it: own.get(it, {})))
             }
         return describe_owners(view, thing)
 
