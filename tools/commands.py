@@ -22,7 +22,7 @@ from typing import Any
 TOP = os.path.abspath(os.path.join(os.path.dirname(os.path.abspath(__file__)), ".."))
 WIDTH = 137
 # Where the crates say how the program is called, and which exit statuses it has.
-NUMBERS = "crates/command_files/specs/Numbers.antt"
+NUMBERS = "crates/command_io/specs/Numbers.antt"
 USAGE = "crates/worked_runs/data/usage.txt"
 # The pages of help of what the launcher answers itself.
 PAGES = {

@@ -1,5 +1,5 @@
 """The files that messages.py gives to the program, each of them wrong in one way, and what is to be said of
-it by docs/FORMATS.md and crates/command_files. `*` stands for a report, which isn't looked at."""
+it by docs/FORMATS.md and crates/command_io. `*` stands for a report, which isn't looked at."""
 
 import os
 import shutil

@@ -1,5 +1,6 @@
 -- What words ask for is within its bounds.
-use Rattle.std.proofs.Common.{◌≡◌, ◌≤◌, ◌^◌, ℕ, Bool, true, false, List, [], ◌∷◌, Option, None, Some}
+use Rattle.std.proofs.Common.{◌≡◌, ◌≤◌, ◌^◌, ℕ, Bool, true, false, List, [], ◌∷◌, Option, None}
+use Rattle.std.proofs.Common.{Some}
 use Rattle.std.proofs.Common.{arith, inl, inr, refl, subst}
 use Rattle.std.proofs.lemmas.Bool.Decides.{nat_tests}
 use Rattle.std.proofs.lemmas.Bool.{cases_Bool}
@@ -16,13 +17,15 @@ use Rattle.command_line.specs.Caches.{asked_of_caches}
 use Rattle.command_line.specs.Check.{asked_of_check}
 use Rattle.command_line.specs.Convert.{asked_of_convert}
 use Rattle.command_line.specs.Explain.{asked_of_explain}
-use Rattle.command_line.specs.Gen.{GenDemand, allowed_count, asked_of_gen, count_in, gen_app, gen_of}
+use Rattle.command_line.specs.Gen.{GenDemand, allowed_count, asked_of_gen, count_in, gen_app}
+use Rattle.command_line.specs.Gen.{gen_of}
 use Rattle.command_line.specs.Gen.{gen_with}
 use Rattle.command_line.specs.Layouts.{given_size, size_at}
 use Rattle.command_line.specs.Misses.{asked_of_misses}
 use Rattle.command_line.specs.Names.{are_apart}
 use Rattle.command_line.specs.Numbers.{number_of, number_or}
-use Rattle.command_line.specs.Place.{PlaceDemand, asked_of_place, place_app, place_of, place_with}
+use Rattle.command_line.specs.Place.{PlaceDemand, asked_of_place, place_app, place_demand_of}
+use Rattle.command_line.specs.Place.{place_with}
 use Rattle.command_line.specs.Relocate.{asked_of_move}
 use Rattle.command_line.specs.Replay.{asked_of_replay}
 use Rattle.command_line.specs.Run.{asked_of_run}
@@ -92,7 +95,7 @@ sweep_bounded rows d is =
     (option_and_then number_of (first_of (codes "size") rows)) n given
     (λ m _ taken. passed is_swept_size m n taken)) d last)
 
-place_bounded : (rows : List Row) (d : PlaceDemand) → place_of rows ≡ Some d → IsGood (place d)
+place_bounded : (rows : List Row) (d : PlaceDemand) → place_demand_of rows ≡ Some d → IsGood (place d)
 place_bounded rows d is =
     option_and_then_some _ (first_of (codes "trace") rows) d is (λ trace _ named.
     option_and_then_some _ (first_of (codes "name") rows) d named (λ name _ last.
@@ -132,7 +135,7 @@ each_bounded words =
     (of_words (λ (d : SweepDemand). IsGood (sweep d)) sweep_app sweep_of sweep_bounded words))
     (also (mapped caches IsGood (asked_of_caches words) (λ d is. tt))
     (also (mapped place IsGood (asked_of_place words)
-    (of_words (λ (d : PlaceDemand). IsGood (place d)) place_app place_of place_bounded words))
+    (of_words (λ (d : PlaceDemand). IsGood (place d)) place_app place_demand_of place_bounded words))
     (also (mapped relocate IsGood (asked_of_move words) (λ d is. tt))
     (also (mapped misses IsGood (asked_of_misses words) (λ d is. tt))
     (also (mapped blame IsGood (asked_of_blame words) (λ d is. tt))

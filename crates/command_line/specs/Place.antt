@@ -32,15 +32,15 @@ place_with trace name size = record {
 }
 
 -- what its values ask for, unless its size is none that is allowed
-abbrev pub place_of : List Row → Option PlaceDemand
-place_of rows =
+abbrev pub place_demand_of : List Row → Option PlaceDemand
+place_demand_of rows =
     option_and_then (λ trace. option_and_then (λ name. option_map (place_with trace name)
     (given_size (first_of (codes "size") rows)))
     (first_of (codes "name") rows))
     (first_of (codes "trace") rows)
 
 abbrev pub asked_of_place : List Text → Option PlaceDemand
-asked_of_place words = asked place_app place_of words
+asked_of_place words = asked place_app place_demand_of words
 
 -- one file is read, and none is written
 abbrev pub place_inputs : PlaceDemand → List Text

@@ -3,7 +3,7 @@ ghost use Rattle.std.specs.Prelude.{◌≡◌, IsTrue, option_map};
 ghost use Rattle.std.specs.Option.{IfSome};
 ghost use Rattle.base.specs.Lines.{is_line_size};
 ghost use Rattle.clap.specs.Words.{found_of, rows_of};
-ghost use Rattle.command_line.specs.Place.{place_meaning, place_of};
+ghost use Rattle.command_line.specs.Place.{place_meaning, place_demand_of};
 
 use crate::address::marked_address;
 use crate::demand::{Demand, WordsFault};
@@ -28,7 +28,7 @@ pub struct PlaceOptions<'a> {
 
 // What the values of a `place` ask for, unless its size is none that is allowed.
 fn options_in<'a>(matches: &ArgMatches<'a>) -> Option<PlaceOptions<'a>>
-    ensures value { option_map place_meaning result ≡ place_of (rows_of (found_of matches.now)) }
+    ensures value { option_map place_meaning result ≡ place_demand_of (rows_of (found_of matches.now)) }
     ensures allowed { IfSome result (λ options. IsTrue (is_line_size options.size)) }
 {
     let trace = value_of(matches, "trace")?;
@@ -46,13 +46,13 @@ fn options_in<'a>(matches: &ArgMatches<'a>) -> Option<PlaceOptions<'a>>
 pub struct PlaceForm;
 
 impl Form for PlaceForm {
-    ghost use Rattle.command_line.specs.Place.{asked_of_place, place_app, place_of};
+    ghost use Rattle.command_line.specs.Place.{asked_of_place, place_app, place_demand_of};
     ghost use Rattle.command_line.specs.Laws.Asked.{given_asked};
     ghost use Rattle.command_line.specs.Words.{given_apart, place};
 
     ghost app = { place_app };
 
-    ghost of = { λ rows. given_apart place (place_of rows) };
+    ghost of = { λ rows. given_apart place (place_demand_of rows) };
 
     ghost asks = { λ words. given_apart place (asked_of_place words) };
 
@@ -67,5 +67,5 @@ impl Form for PlaceForm {
         }
     }
 
-    ghost meant = { given_asked place place_app place_of };
+    ghost meant = { given_asked place place_app place_demand_of };
 }

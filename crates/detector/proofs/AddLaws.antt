@@ -10,7 +10,7 @@ use Rattle.detector.specs.declared.line_entry.LineEntry.{LineEntry}
 use Rattle.detector.specs.Entries.{Entries, IsEntry, blank_entry, entry_at}
 use Rattle.sharing_rules.specs.declared.line_kind.LineKind.{LineKind}
 use Rattle.sharing_rules.specs.declared.line_kind.LineKind.TheVariants.{Observed, Shifted, Doubled}
-use Rattle.line_tracks.specs.Kept.{Kept}
+use Rattle.line_tracks.specs.TrackValue.{TrackValue}
 use Rattle.detector.specs.Added.{IsAddable}
 use Rattle.detector.specs.Index.{IsIndexed, IsNamed, Names, names_in, place_in}
 use Rattle.detector.specs.Named.{line_of_base, track_named}
@@ -51,7 +51,7 @@ counting-places e n Shifted = refl
 counting-places e n Doubled = refl
 
 -- a line without a write was written no more often than there were accesses
-pub written-indexed : (f h : ℕ → LineEntry) (g : Grid) (xs : List Kept) (T p k n : ℕ)
+pub written-indexed : (f h : ℕ → LineEntry) (g : Grid) (xs : List TrackValue) (T p k n : ℕ)
     (e : LineEntry)
     → ((q : ℕ) → h q ≡ (if eqb q k then counting e n else f q)) → e ≡ f k → (f k).writes ≡ 0 → n ≤ p
     → IsIndexed f g xs T p
@@ -80,21 +80,21 @@ written-indexed f h g xs T p k n e each lent fresh few indexed = record {
         (λ kind. counting-places e n kind ∙ ap (λ (x : LineEntry). place_in x kind) lent)
 
 -- the line of a track that may be added was written
-pub addable-written : (m : Entries) (g : Grid) (xs : List Kept) (v : Levels) (p k : ℕ) (x : Kept)
+pub addable-written : (m : Entries) (g : Grid) (xs : List TrackValue) (v : Levels) (p k : ℕ) (x : TrackValue)
     → IsAddable m g xs v p x
     → k ≡ line_of_base g x.range → 0 < (entry_at m k).writes
 addable-written m g xs v p k x addable line = subst (λ q. 0 < (entry_at m q).writes) (sym line)
     (subst (λ n. 0 < n) (count_at-counts_of m (line_of_base g x.range)) addable.can.written)
 
 -- a track that has no track of its kind beside it has no name yet
-unnamed : (N : Names) (g : Grid) (xs : List Kept) (kind : LineKind) (k : ℕ) → IsNamed N g xs
+unnamed : (N : Names) (g : Grid) (xs : List TrackValue) (kind : LineKind) (k : ℕ) → IsNamed N g xs
     → track_named g kind k xs ≡ None
     → N kind k ≡ None
 unnamed N g xs kind k named fresh = none_from (N kind k)
     (sym (is_some-kept N g xs kind k named) ∙ ap is_some fresh)
 
 -- one track more, as it was saved
-pub added-indexed : (m n : Entries) (g : Grid) (xs ys : List Kept) (v : Levels) (p k : ℕ) (x : Kept)
+pub added-indexed : (m n : Entries) (g : Grid) (xs ys : List TrackValue) (v : Levels) (p k : ℕ) (x : TrackValue)
     → IsAddable m g xs v p x
     → k ≡ line_of_base g x.range → names_in (entry_at n)
     ≡ with_name (names_in (entry_at m)) x.kind k (Some (length xs))

@@ -18,7 +18,7 @@ use Rattle.detector.specs.declared.line_entry.LineEntry.{LineEntry}
 use Rattle.sharing_rules.specs.Listed.{may_predict}
 use Rattle.sharing_rules.specs.declared.line_kind.LineKind.{LineKind}
 use Rattle.sharing_rules.specs.declared.line_kind.LineKind.TheVariants.{Observed, Shifted, Doubled}
-use Rattle.line_tracks.specs.Kept.{Kept}
+use Rattle.line_tracks.specs.TrackValue.{TrackValue}
 use Rattle.detector.specs.declared.openings.Openings.{Openings}
 use Rattle.detector.specs.declared.task.Task.{Task}
 use Rattle.detector.specs.Counts.{count_at, counts_of, with_write}
@@ -57,7 +57,7 @@ pub searches-is : (m : Entries) (k : ℕ) (v : Levels) (a : Touch) (task : Task)
 searches-is m k v a task writes t = rw (t.searches, writes, count_at-counts_of m k)
 
 -- the tracks after a write
-pub after-task : (m : Entries) (xs : List Kept) (g : Grid) (v : Levels) (p k : ℕ) (a : Touch)
+pub after-task : (m : Entries) (xs : List TrackValue) (g : Grid) (v : Levels) (p k : ℕ) (a : Touch)
     (task : Task) → is_write a.kind ≡ true
     → IsTaskOf (entry_at m k) v task
     → tracks_changed g k p a task.begins task.searches (map (touched p a) xs)
@@ -65,14 +65,14 @@ pub after-task : (m : Entries) (xs : List Kept) (g : Grid) (v : Levels) (p k : �
 after-task m xs g v p k a task writes t =
     rw (begins-is m k v a task writes t, searches-is m k v a task writes t)
 
-pub after-plain : (m : Entries) (xs : List Kept) (g : Grid) (v : Levels) (p k : ℕ) (a : Touch)
+pub after-plain : (m : Entries) (xs : List TrackValue) (g : Grid) (v : Levels) (p k : ℕ) (a : Touch)
     → begins_track v.tracking (counts_of m) k a
     ≡ false → is_search v.prediction (counts_of m) k a ≡ false
     → map (touched p a) xs ≡ tracks_after (watch_of m xs g v p) k a
 after-plain m xs g v p k a quiet unsearched =
     rw (quiet, unsearched) (simp append-nil)
 
-pub after-write : (m : Entries) (xs : List Kept) (g : Grid) (v : Levels) (p k : ℕ) (a : Touch)
+pub after-write : (m : Entries) (xs : List TrackValue) (g : Grid) (v : Levels) (p k : ℕ) (a : Touch)
     (task : Task) → is_write a.kind ≡ true
     → IsTaskOf (entry_at m k) v task → task.begins ≡ false → task.searches ≡ false
     → map (touched p a) xs ≡ tracks_after (watch_of m xs g v p) k a
@@ -91,7 +91,7 @@ pub read-searches : (m : Entries) (k : ℕ) (v : Levels) (a : Touch) → is_writ
 read-searches m k v a reads = none_searched v.prediction (count_at (counts_of m) k)
     (is_write a.kind) reads
 
-pub after-read : (m : Entries) (xs : List Kept) (g : Grid) (v : Levels) (p k : ℕ) (a : Touch)
+pub after-read : (m : Entries) (xs : List TrackValue) (g : Grid) (v : Levels) (p k : ℕ) (a : Touch)
     → is_write a.kind ≡ false
     → map (touched p a) xs ≡ tracks_after (watch_of m xs g v p) k a
 after-read m xs g v p k a reads =
@@ -146,7 +146,7 @@ native-grid f k g v task may t searches = by_prediction v.prediction refl
     by_prediction (Some P) is = let u = under g v P may is in
         record { size = u.native; offset = u.offset }
 
-pub due-at : (f : ℕ → LineEntry) (g : Grid) (xs : List Kept) (k : ℕ) (v : Levels) (task : Task)
+pub due-at : (f : ℕ → LineEntry) (g : Grid) (xs : List TrackValue) (k : ℕ) (v : Levels) (task : Task)
     (p : ℕ) → IsIndexed f g xs v.tracking p
     → 1 ≤ v.tracking → IsTaskOf (f k) v task → IsDueAt f g xs k task p v.tracking
 due-at f g xs k v task p indexed some t = record {
@@ -156,7 +156,7 @@ due-at f g xs k v task p indexed some t = record {
 }
 
 -- a plain write
-pub plain-indexed : (f h : ℕ → LineEntry) (g : Grid) (xs ys : List Kept) (T p k : ℕ) (a : Touch)
+pub plain-indexed : (f h : ℕ → LineEntry) (g : Grid) (xs ys : List TrackValue) (T p k : ℕ) (a : Touch)
     → IsIndexed f g xs T p
     → ((q : ℕ) → h q ≡ (if eqb q k then counted (f k) else f q)) → ys ≡ map (touched p a) xs
     → IsIndexed h g ys T (p + 1)
@@ -179,7 +179,7 @@ plain-indexed f h g xs ys T p k a indexed each is =
           (omega arith)
     ]
 
-pub read-indexed : (f : ℕ → LineEntry) (g : Grid) (xs ys : List Kept) (T p : ℕ) (a : Touch)
+pub read-indexed : (f : ℕ → LineEntry) (g : Grid) (xs ys : List TrackValue) (T p : ℕ) (a : Touch)
     → IsIndexed f g xs T p
     → ys ≡ map (touched p a) xs → IsIndexed f g ys T (p + 1)
 read-indexed f g xs ys T p a indexed is =
@@ -187,7 +187,7 @@ read-indexed f g xs ys T p a indexed is =
     (indexed-touched f f g xs T p a indexed refl (λ q. omega arith)
     (λ q. let d = indexed.written q in omega arith))
 
-pub notable : (f h : ℕ → LineEntry) (g : Grid) (xs : List Kept) (T p k : ℕ) (a : Touch)
+pub notable : (f h : ℕ → LineEntry) (g : Grid) (xs : List TrackValue) (T p k : ℕ) (a : Touch)
     → IsIndexed f g xs T p → names_in h ≡ names_in f
     → is_layout g.size g.offset ≡ true → k ≡ line_number g.size g.offset a.addr
     → IsNotable h g xs k p a
@@ -221,7 +221,7 @@ some_writes n e = grind (arith, nat_tests)
 
 -- a write that takes no memory: its line was written, its own track doesn't begin, and nothing
 -- opens
-pub record IsQuiet (m : Entries) (xs : List Kept) (g : Grid) (p k : ℕ) (a : Touch)
+pub record IsQuiet (m : Entries) (xs : List TrackValue) (g : Grid) (p k : ℕ) (a : Touch)
     (task : Task) : Type 0 where
   pub written : 0 < (entry_at m k).writes
   pub begins : task.begins ≡ false
@@ -229,7 +229,7 @@ pub record IsQuiet (m : Entries) (xs : List Kept) (g : Grid) (p k : ℕ) (a : To
       ≡ nothing_opens
 
 -- a write that takes no memory is not its line's first, begins no track, and opens nothing
-none-taken : (m : Entries) (xs : List Kept) (g : Grid) (v : Levels) (p k : ℕ) (a : Touch)
+none-taken : (m : Entries) (xs : List TrackValue) (g : Grid) (v : Levels) (p k : ℕ) (a : Touch)
     → may_take_memory (watch_of m xs g v p) k a ≡ false
     → (is_first_write (counts_of m) k a ≡ false)
     × (begins_track v.tracking (counts_of m) k a ≡ false)
@@ -245,7 +245,7 @@ none-taken m xs g v p k a none =
     (inner.0, inner.1, outer.1)
 
 -- the line of a write that takes no memory was written
-pub first-written : (m : Entries) (xs : List Kept) (g : Grid) (v : Levels) (p k : ℕ) (a : Touch)
+pub first-written : (m : Entries) (xs : List TrackValue) (g : Grid) (v : Levels) (p k : ℕ) (a : Touch)
     → is_write a.kind ≡ true
     → may_take_memory (watch_of m xs g v p) k a ≡ false → 0 < (entry_at m k).writes
 first-written m xs g v p k a writes none =
@@ -253,7 +253,7 @@ first-written m xs g v p k a writes none =
     some_writes (entry_at m k).writes (ap (λ n. eqb n 0) (sym (count_at-counts_of m k))
     ∙ sym (ap (λ z. z && eqb (count_at (counts_of m) k) 0) writes) ∙ first)
 
-pub quiet : (m : Entries) (xs : List Kept) (g : Grid) (v : Levels) (p k : ℕ) (a : Touch)
+pub quiet : (m : Entries) (xs : List TrackValue) (g : Grid) (v : Levels) (p k : ℕ) (a : Touch)
     (task : Task) → is_write a.kind ≡ true
     → IsTaskOf (entry_at m k) v task → may_take_memory (watch_of m xs g v p) k a ≡ false
     → IsQuiet m xs g p k a task
@@ -268,7 +268,7 @@ quiet m xs g v p k a task writes t none =
     }
 
 -- the value after an access
-pub watched-is : (m n : Entries) (xs ys : List Kept) (g : Grid) (v : Levels) (p k : ℕ) (a : Touch)
+pub watched-is : (m n : Entries) (xs ys : List TrackValue) (g : Grid) (v : Levels) (p k : ℕ) (a : Touch)
     → k ≡ number_of g a
     → ys ≡ tracks_after (watch_of m xs g v p) k a → counts_of n ≡ writes_after k a (counts_of m)
     → watch_of n ys g v (p + 1) ≡ watched (watch_of m xs g v p) a
@@ -304,7 +304,7 @@ pub steps-within : (s most room : ℕ) → s ≤ most → s ≤ most + room
 steps-within s most room few = omega arith
 
 -- an entry that was lent counts few writes, and can count one more
-pub writes-few : (f : ℕ → LineEntry) (g : Grid) (xs : List Kept) (T p k : ℕ) (e : LineEntry)
+pub writes-few : (f : ℕ → LineEntry) (g : Grid) (xs : List TrackValue) (T p k : ℕ) (e : LineEntry)
     → IsIndexed f g xs T p → p < 2 ^ 40
     → e ≡ f k → e.writes < 2 ^ 40
 writes-few f g xs T p k e indexed early is =
@@ -325,7 +325,7 @@ lower-named f k e =
       | inr even ↦ let at = rw even at e in rw even at
     ]
 
-opened-none : (f : ℕ → LineEntry) (g : Grid) (xs : List Kept) (k : ℕ) → IsNamed (names_in f) g xs
+opened-none : (f : ℕ → LineEntry) (g : Grid) (xs : List TrackValue) (k : ℕ) → IsNamed (names_in f) g xs
     → have_opened (places f k) ≡ true → openings g k xs ≡ nothing_opens
 opened-none f g xs k named all =
     let one = and_parts (is_some (places f k).shifted && is_some (places f k).below)
@@ -343,7 +343,7 @@ not_idle true false e h = sym e
 not_idle false h e is = absurd (cc)
 
 -- the tracks after a write at which no track begins, and none opens
-pub after-idle : (m : Entries) (xs : List Kept) (g : Grid) (v : Levels) (p k : ℕ) (a : Touch)
+pub after-idle : (m : Entries) (xs : List TrackValue) (g : Grid) (v : Levels) (p k : ℕ) (a : Touch)
     (task : Task) → is_write a.kind ≡ true → IsTaskOf (entry_at m k) v task
     → IsNamed (names_in (entry_at m)) g xs
     → (task.begins || (task.searches && not (have_opened (places (entry_at m) k)))) ≡ false

@@ -39,7 +39,7 @@ use Rattle.sharing_rules.specs.Laws.Opened.{some_is}
 use Rattle.sharing_rules.specs.Laws.Words.{length-words_since}
 use Rattle.line_tracks.specs.Laws.WordLines.{layout-sized}
 use Rattle.line_tracks.specs.Laws.Few.{at_most_four, holds}
-use Rattle.line_tracks.specs.Kept.{Kept}
+use Rattle.line_tracks.specs.TrackValue.{TrackValue}
 use Rattle.line_tracks.specs.KeptIn.{kept_in}
 use Rattle.detector.specs.Amounts.{HasFewAtEach, HasFewEntries, HasFewWords, HasFewerShifted}
 use Rattle.detector.specs.Amounts.{HasHalfDoubled, IsSmallUnpredicted, doubled_count, entry_count}
@@ -208,7 +208,7 @@ made g v t may =
     ]
 
 -- A sum over the tracks, kind by kind.
-total : (f : Kept → ℕ) (t : AccessList) (w : Watch) (m : Made w.grid w.levels t) → StandsFor t w
+total : (f : TrackValue → ℕ) (t : AccessList) (w : Watch) (m : Made w.grid w.levels t) → StandsFor t w
     → sum_by f w.tracks ≡ sum_by (λ o. f (kept_in t o)) m.observed
     + (sum_by (λ o. f (kept_in t o)) m.shifted + sum_by (λ o. f (kept_in t o)) m.doubled)
 total f t w m stands =

@@ -13,12 +13,13 @@ use Rattle.sharing_rules.specs.Places.{below}
 use Rattle.sharing_rules.specs.Words.{accesses, note_word, tally}
 use Rattle.sharing_rules.specs.declared.word.Word.{Word}
 use Rattle.line_tracks.specs.Entries.{has_another}
-use Rattle.line_tracks.specs.RangeWords.{RangeWords, blank, note_words, place_of}
-use Rattle.line_tracks.specs.Kept.{IsBlank, IsInTime, IsSince, Kept, note_from, note_kept, started}
-use Rattle.line_tracks.specs.Kept.{words_of}
+use Rattle.line_tracks.specs.RangeWords.{RangeWords, blank, note_words, word_index}
+use Rattle.line_tracks.specs.TrackValue.{IsBlank, IsInTime, IsSince, TrackValue, note_from}
+use Rattle.line_tracks.specs.TrackValue.{note_kept, started}
+use Rattle.line_tracks.specs.TrackValue.{words_of}
 use Rattle.detector.specs.Watch.{touched}
 use Rattle.sharing_rules.specs.Laws.Lists.{slice_cases}
-use Rattle.line_tracks.specs.Laws.Kept.{note-kind, note-range}
+use Rattle.line_tracks.specs.Laws.TrackValue.{note-kind, note-range}
 
 word_more : (w : Word) (a : Touch) → accesses (note_word w a) ≡ accesses w + 1
 word_more w a = elim (cases_Bool (is_write a.kind)) [
@@ -30,17 +31,17 @@ word_more w a = elim (cases_Bool (is_write a.kind)) [
 words_more : (v : RangeWords) (a : Touch) → sum_by accesses (note_words v a).words
     ≤ sum_by accesses v.words + 1
 words_more v a =
-    elim (slice_cases (slice_get v.words (place_of v.range a.addr))) [
+    elim (slice_cases (slice_get v.words (word_index v.range a.addr))) [
       | inl none ↦ rw none (omega arith)
       | inr some ↦
-          let set : sum_by accesses (slice_set v.words (place_of v.range a.addr)
+          let set : sum_by accesses (slice_set v.words (word_index v.range a.addr)
           (note_word some.0 a)) + accesses
-          (get_or v.words (place_of v.range a.addr) some.0)
+          (get_or v.words (word_index v.range a.addr) some.0)
           ≡ sum_by accesses v.words + accesses (note_word some.0 a) =
-          sum_by-set accesses v.words (place_of v.range a.addr) (note_word some.0 a) some.0
-          (slice_get_within v.words (place_of v.range a.addr) some.0 some.1) in
-          let was : accesses (get_or v.words (place_of v.range a.addr) some.0) ≡ accesses some.0 =
-          ap accesses (get_or_from_slice_get v.words (place_of v.range a.addr) some.0 some.0 some.1)
+          sum_by-set accesses v.words (word_index v.range a.addr) (note_word some.0 a) some.0
+          (slice_get_within v.words (word_index v.range a.addr) some.0 some.1) in
+          let was : accesses (get_or v.words (word_index v.range a.addr) some.0) ≡ accesses some.0 =
+          ap accesses (get_or_from_slice_get v.words (word_index v.range a.addr) some.0 some.0 some.1)
           in
           let more : accesses (note_word some.0 a) ≡ accesses some.0 + 1 = word_more some.0 a in
           rw some.1 (omega (arith, set, was, more))
@@ -54,10 +55,10 @@ none_below (suc n) =
     ∙ sum_by-append accesses (map (λ i. tally []) (below n))
     (tally [] ∷ []) ∙ ap (λ m. m + 0) ih
 
-blank-none : (x : Kept) → sum_by accesses (blank x.range).words ≡ 0
+blank-none : (x : TrackValue) → sum_by accesses (blank x.range).words ≡ 0
 blank-none x = none_below (x.range.size / 4)
 
-in_time_from : (o : Option ℕ) (x : Kept) (p : ℕ) (a : Touch) → x.start ≡ o → IfSome o (IsSince x p)
+in_time_from : (o : Option ℕ) (x : TrackValue) (p : ℕ) (a : Touch) → x.start ≡ o → IfSome o (IsSince x p)
     → (x.start ≡ None → IsBlank x)
     → IsInTime (note_from o x p a) (p + 1)
 in_time_from None x p a is h quiet =
@@ -88,11 +89,11 @@ in_time_from (Some s) x p a is h quiet =
     in
     subst (λ o. IfSome o (IsSince (note_from (Some s) x p a) (p + 1))) (sym is) since
 
-pub noted-in_time : (x : Kept) (p : ℕ) (a : Touch) → IsInTime x p → (x.start ≡ None → IsBlank x)
+pub noted-in_time : (x : TrackValue) (p : ℕ) (a : Touch) → IsInTime x p → (x.start ≡ None → IsBlank x)
     → IsInTime (note_kept x p a) (p + 1)
 noted-in_time x p a h quiet = in_time_from x.start x p a refl h quiet
 
-later_from : (o : Option ℕ) (x : Kept) (p : ℕ) → IfSome o (IsSince x p)
+later_from : (o : Option ℕ) (x : TrackValue) (p : ℕ) → IfSome o (IsSince x p)
     → IfSome o (IsSince x (p + 1))
 later_from None x p h = tt
 later_from (Some s) x p h =
@@ -101,21 +102,21 @@ later_from (Some s) x p h =
     let counted = h.counted in
     record { later = omega arith; accessed = omega arith; counted = omega arith }
 
-pub later-in_time : (x : Kept) (p : ℕ) → IsInTime x p → IsInTime x (p + 1)
+pub later-in_time : (x : TrackValue) (p : ℕ) → IsInTime x p → IsInTime x (p + 1)
 later-in_time x p h = later_from x.start x p h
 
 -- one of two tracks
-either : (P : Kept → Type 0) (b : Bool) (x y : Kept) → P x → P y → P (if b then x else y)
+either : (P : TrackValue → Type 0) (b : Bool) (x y : TrackValue) → P x → P y → P (if b then x else y)
 either P true x y h k = h
 either P false x y h k = k
 
-pub touched-in_time : (x : Kept) (p : ℕ) (a : Touch) → IsInTime x p → (x.start ≡ None → IsBlank x)
+pub touched-in_time : (x : TrackValue) (p : ℕ) (a : Touch) → IsInTime x p → (x.start ≡ None → IsBlank x)
     → IsInTime (touched p a x) (p + 1)
 touched-in_time x p a h quiet =
     either (λ z. IsInTime z (p + 1)) (holds_address x.range a.addr) (note_kept x p a) x
     (noted-in_time x p a h quiet) (later-in_time x p h)
 
-blank_from : (o : Option ℕ) (x : Kept) (p : ℕ) (a : Touch) → x.start ≡ o
+blank_from : (o : Option ℕ) (x : TrackValue) (p : ℕ) (a : Touch) → x.start ≡ o
     → (x.start ≡ None → IsBlank x) → (note_from o x p a).start ≡ None
     → IsBlank (note_from o x p a)
 blank_from None x p a is quiet none =
@@ -125,26 +126,26 @@ blank_from None x p a is quiet none =
     ]
 blank_from (Some s) x p a is quiet none = absurd (none-some s (sym none ∙ is))
 
-pub noted-blank : (x : Kept) (p : ℕ) (a : Touch) → (x.start ≡ None → IsBlank x)
+pub noted-blank : (x : TrackValue) (p : ℕ) (a : Touch) → (x.start ≡ None → IsBlank x)
     → (note_kept x p a).start ≡ None → IsBlank (note_kept x p a)
 noted-blank x p a quiet none = blank_from x.start x p a refl quiet none
 
-pub touched-blank : (x : Kept) (p : ℕ) (a : Touch) → (x.start ≡ None → IsBlank x)
+pub touched-blank : (x : TrackValue) (p : ℕ) (a : Touch) → (x.start ≡ None → IsBlank x)
     → (touched p a x).start ≡ None → IsBlank (touched p a x)
 touched-blank x p a quiet =
     either (λ z. z.start ≡ None → IsBlank z) (holds_address x.range a.addr) (note_kept x p a) x
     (noted-blank x p a quiet) quiet
 
-pub noted-kind : (x : Kept) (p : ℕ) (a : Touch) → (note_kept x p a).kind ≡ x.kind
+pub noted-kind : (x : TrackValue) (p : ℕ) (a : Touch) → (note_kept x p a).kind ≡ x.kind
 noted-kind x p a = note-kind x.start x p a
 
-pub noted-range : (x : Kept) (p : ℕ) (a : Touch) → (note_kept x p a).range ≡ x.range
+pub noted-range : (x : TrackValue) (p : ℕ) (a : Touch) → (note_kept x p a).range ≡ x.range
 noted-range x p a = note-range x.start x p a
 
-pub touched-kind : (p : ℕ) (a : Touch) (x : Kept) → (touched p a x).kind ≡ x.kind
+pub touched-kind : (p : ℕ) (a : Touch) (x : TrackValue) → (touched p a x).kind ≡ x.kind
 touched-kind p a x = either (λ z. z.kind ≡ x.kind) (holds_address x.range a.addr)
     (note_kept x p a) x (noted-kind x p a) refl
 
-pub touched-range : (p : ℕ) (a : Touch) (x : Kept) → (touched p a x).range ≡ x.range
+pub touched-range : (p : ℕ) (a : Touch) (x : TrackValue) → (touched p a x).range ≡ x.range
 touched-range p a x = either (λ z. z.range ≡ x.range) (holds_address x.range a.addr)
     (note_kept x p a) x (noted-range x p a) refl

@@ -11,7 +11,7 @@ use Rattle.std.specs.Option.{option_or}
 use Rattle.base.specs.Lines.{Grid}
 use Rattle.sharing_rules.specs.Listed.{rank}
 use Rattle.sharing_rules.specs.declared.line_kind.LineKind.{LineKind}
-use Rattle.line_tracks.specs.Kept.{Kept}
+use Rattle.line_tracks.specs.TrackValue.{TrackValue}
 use Rattle.detector.specs.Named.{is_named, line_of_base, track_named}
 use Rattle.detector.specs.Index.{IsNamed, IsShaped, Names}
 use Rattle.detector.specs.Tasks.{with_name}
@@ -30,7 +30,7 @@ use Rattle.sharing_rules.specs.Members.{ties}
 use Rattle.line_tracks.specs.Placed.{AreApart, is_placed_before}
 use Rattle.line_tracks.specs.Laws.Placed.{is_placed_before-ties}
 
-pub is_named-true : (g : Grid) (kind : LineKind) (k : ℕ) (x : Kept) → is_named g kind k x ≡ true
+pub is_named-true : (g : Grid) (kind : LineKind) (k : ℕ) (x : TrackValue) → is_named g kind k x ≡ true
     → (x.kind ≡ kind)
     × (line_of_base g x.range ≡ k)
 is_named-true g kind k x h =
@@ -40,7 +40,7 @@ is_named-true g kind k x h =
           (line_of_base g x.range) k parts.1,
     )
 
-pub is_named-from : (g : Grid) (kind : LineKind) (k : ℕ) (x : Kept) → x.kind ≡ kind
+pub is_named-from : (g : Grid) (kind : LineKind) (k : ℕ) (x : TrackValue) → x.kind ≡ kind
     → line_of_base g x.range ≡ k
     → is_named g kind k x ≡ true
 is_named-from g kind k x same at =
@@ -49,7 +49,7 @@ is_named-from g kind k x same at =
     (eq-eqb (line_of_base g x.range) k at)
 
 -- a track is looked up at the place that is named
-pub look_up : (N : Names) (g : Grid) (xs : List Kept) (kind : LineKind) (k : ℕ) → IsNamed N g xs
+pub look_up : (N : Names) (g : Grid) (xs : List TrackValue) (kind : LineKind) (k : ℕ) → IsNamed N g xs
     → track_named g kind k xs ≡ option_and_then
     (slice_get xs) (N kind k)
 look_up N g xs kind k named =
@@ -99,7 +99,7 @@ same_name kind j k q =
     ]
 
 -- one track more, which a new name names
-pub named-more : (N : Names) (g : Grid) (xs : List Kept) (x : Kept) → IsNamed N g xs
+pub named-more : (N : Names) (g : Grid) (xs : List TrackValue) (x : TrackValue) → IsNamed N g xs
     → N x.kind (line_of_base g x.range) ≡ None
     → IsShaped g (line_of_base g x.range) x.kind x.range
     → IsNamed (with_name N x.kind (line_of_base g x.range) (Some (length xs))) g
@@ -150,7 +150,7 @@ named-more N g xs x named none shaped =
     }
 
 -- the same with the kind and the line said first
-pub named-more-as : (N : Names) (g : Grid) (xs : List Kept) (x : Kept) (kind : LineKind) (k : ℕ)
+pub named-more-as : (N : Names) (g : Grid) (xs : List TrackValue) (x : TrackValue) (kind : LineKind) (k : ℕ)
     → IsNamed N g xs → x.kind ≡ kind
     → line_of_base g x.range ≡ k → N kind k ≡ None
     → IsShaped g k kind x.range → IsNamed (with_name N kind k (Some (length xs))) g (xs ++ x ∷ [])
@@ -177,9 +177,9 @@ mapped-came f xs i y at =
     ]
 
 -- tracks that changed, but for their kinds and their ranges
-pub named-map : (N : Names) (g : Grid) (f : Kept → Kept) (xs : List Kept)
-    → ((x : Kept) → (f x).kind ≡ x.kind)
-    → ((x : Kept) → (f x).range ≡ x.range) → IsNamed N g xs → IsNamed N g (map f xs)
+pub named-map : (N : Names) (g : Grid) (f : TrackValue → TrackValue) (xs : List TrackValue)
+    → ((x : TrackValue) → (f x).kind ≡ x.kind)
+    → ((x : TrackValue) → (f x).range ≡ x.range) → IsNamed N g xs → IsNamed N g (map f xs)
 named-map N g f xs kinds ranges named = record {
   placed = λ i y at.
       let w = came i y at in
@@ -192,34 +192,34 @@ named-map N g f xs kinds ranges named = record {
       rw (w.2, kinds w.0, ranges w.0) (named.shaped i w.0 w.1);
 }
   where
-    slice_get-mapped : (i : ℕ) (x : Kept) → slice_get xs i ≡ Some x → slice_get (map f xs) i
+    slice_get-mapped : (i : ℕ) (x : TrackValue) → slice_get xs i ≡ Some x → slice_get (map f xs) i
         ≡ Some (f x)
     slice_get-mapped i x at = slice_get-map f xs i ∙ ap (option_map f) at
 
-    came : (i : ℕ) (y : Kept) → slice_get (map f xs) i ≡ Some y → (x : Kept)
+    came : (i : ℕ) (y : TrackValue) → slice_get (map f xs) i ≡ Some y → (x : TrackValue)
         × (slice_get xs i ≡ Some x) × (y ≡ f x)
     came i y at = mapped-came f xs i y at
 
 -- The entries of a line and of its neighbours name what is looked up.
 
 -- a track that is named lies as its kind says
-pub named-shaped : (N : Names) (g : Grid) (xs : List Kept) (kind : LineKind) (k i : ℕ) (x : Kept)
+pub named-shaped : (N : Names) (g : Grid) (xs : List TrackValue) (kind : LineKind) (k i : ℕ) (x : TrackValue)
     → IsNamed N g xs → N kind k ≡ Some i
     → slice_get xs i ≡ Some x → IsShaped g k kind x.range
 named-shaped N g xs kind k i x named e at =
     let w = named.named kind k i e in
     let same : w.0 ≡ x = same_Some w.0 x (sym w.1 ∙ at) in
     let shaped : IsShaped g (line_of_base g x.range) x.kind x.range = named.shaped i x at in
-    subst (λ j. IsShaped g k j x.range) (ap (λ (z : Kept). z.kind) (sym same) ∙ w.2)
-    (subst (λ q. IsShaped g q x.kind x.range) (ap (λ (z : Kept). line_of_base g z.range) (sym same)
+    subst (λ j. IsShaped g k j x.range) (ap (λ (z : TrackValue). z.kind) (sym same) ∙ w.2)
+    (subst (λ q. IsShaped g q x.kind x.range) (ap (λ (z : TrackValue). line_of_base g z.range) (sym same)
     ∙ w.3) shaped)
 
-kept_place : (xs : List Kept) (o : Option ℕ) (x : Kept) → kept_at xs o ≡ Some x → (i : ℕ)
+kept_place : (xs : List TrackValue) (o : Option ℕ) (x : TrackValue) → kept_at xs o ≡ Some x → (i : ℕ)
     × (o ≡ Some i) × (slice_get xs i ≡ Some x)
 kept_place xs None x e = absurd (none-some x e)
 kept_place xs (Some i) x e = (i, refl, e)
 
-own-place : (N : Names) (g : Grid) (xs : List Kept) (k : ℕ) → is_native_size g.size ≡ true
+own-place : (N : Names) (g : Grid) (xs : List TrackValue) (k : ℕ) → is_native_size g.size ≡ true
     → g.offset ≡ 0 → IsNamed N g xs
     → IsOwnPlace g.size k xs (N Observed k)
 own-place N g xs k native none named = record {
@@ -236,7 +236,7 @@ own-place N g xs k native none named = record {
       reached-native g k native none shaped.1;
 }
 
-pub is_some-kept : (N : Names) (g : Grid) (xs : List Kept) (kind : LineKind) (k : ℕ)
+pub is_some-kept : (N : Names) (g : Grid) (xs : List TrackValue) (kind : LineKind) (k : ℕ)
     → IsNamed N g xs
     → is_some (track_named g kind k xs) ≡ is_some (N kind k)
 is_some-kept N g xs kind k named =
@@ -249,7 +249,7 @@ is_some-kept N g xs kind k named =
     ]
 
 -- the entries of two lines side by side
-named-pair : (N : Names) (g : Grid) (xs : List Kept) (k : ℕ) (lower upper : LineEntry)
+named-pair : (N : Names) (g : Grid) (xs : List TrackValue) (k : ℕ) (lower upper : LineEntry)
     → is_native_size g.size ≡ true → g.offset ≡ 0 → IsNamed N g xs → lower.track ≡ N Observed k
     → upper.track ≡ N Observed (k + 1) → lower.shifted ≡ N Shifted k → lower.doubled ≡ N Doubled k
     → AreNamedPair g k xs lower upper
@@ -267,7 +267,7 @@ named-pair N g xs k lower upper native none named low up shifted doubled = recor
 }
 
 -- the entries around a line
-pub around : (N : Names) (g : Grid) (xs : List Kept) (k : ℕ) (e : Around) → is_native_size g.size
+pub around : (N : Names) (g : Grid) (xs : List TrackValue) (k : ℕ) (e : Around) → is_native_size g.size
     ≡ true → g.offset ≡ 0 → 1 ≤ k
     → IsNamed N g xs
     → e.below.track ≡ N Observed (k - 1) → e.here.track ≡ N Observed k → e.above.track
@@ -287,13 +287,13 @@ around N g xs k e native none some named bt ht at bs hs bd hd = record {
 -- No two tracks tie.
 
 -- tracks that are named apart have no ties
-pub apart_tracks : (N : Names) (g : Grid) (xs : List Kept) → IsNamed N g xs → AreApart xs
+pub apart_tracks : (N : Names) (g : Grid) (xs : List TrackValue) → IsNamed N g xs → AreApart xs
 apart_tracks N g xs named = IsDistinct-from_apart (ties is_placed_before) xs (λ i j d before within.
     elim (cases_Bool (ties is_placed_before (get_or xs i d) (get_or xs j d))) [
       | inr apart ↦ apart
       | inl tied ↦
-          let x : Kept = get_or xs i d in
-          let y : Kept = get_or xs j d in
+          let x : TrackValue = get_or xs i d in
+          let y : TrackValue = get_or xs j d in
           let same = is_placed_before-ties x y tied in
           let at : line_of_base g x.range ≡ line_of_base g y.range =
           ap (λ b. nat_abs (b +ℤ pos g.size -ℤ pos g.offset) / g.size) same.1 in

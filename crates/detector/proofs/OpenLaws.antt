@@ -17,7 +17,7 @@ use Rattle.sharing_rules.specs.Predicted.{shifted_base}
 use Rattle.sharing_rules.specs.declared.line_kind.LineKind.TheVariants.{Shifted, Doubled}
 use Rattle.line_tracks.specs.Neighbours.{AreNeighbours, pair_at, reach}
 use Rattle.line_tracks.specs.declared.pair.Pair.{Pair}
-use Rattle.line_tracks.specs.Kept.{Kept}
+use Rattle.line_tracks.specs.TrackValue.{TrackValue}
 use Rattle.detector.specs.Index.{IsShaped}
 use Rattle.detector.specs.Openings.{best_of_two, doubled_opens, shifted_opens}
 use Rattle.detector.specs.Pairs.{AreNamedPair, ArePair, IsPairOf, doubled_between, kept_at}
@@ -27,14 +27,14 @@ use Rattle.detector.proofs.PairLaws.{native-is, native-neighbours, pair-words, s
 use Rattle.sharing_rules.specs.Laws.Lists.{slice_cases}
 
 -- what is read at a place that is named
-pub read_at : (xs ys : List Kept) (o : Option ℕ) (i : ℕ) (x : Kept) → o ≡ Some i → ys ≡ xs
+pub read_at : (xs ys : List TrackValue) (o : Option ℕ) (i : ℕ) (x : TrackValue) → o ≡ Some i → ys ≡ xs
     → ((j : ℕ) → o ≡ Some j → j < length xs) → x ≡ get_or ys i x
     → kept_at xs o ≡ Some x
 read_at xs ys o i x is same within read =
     ap (kept_at xs) is ∙ slice_get-get_or xs i x (within i is)
     ∙ ap (λ zs. Some (get_or zs i x)) (sym same) ∙ ap Some (sym read)
 
-pub pair-neighbours : (n k : ℕ) (xs : List Kept) (lower upper : Option ℕ) (x y : Kept)
+pub pair-neighbours : (n k : ℕ) (xs : List TrackValue) (lower upper : Option ℕ) (x y : TrackValue)
     → ArePair n k xs lower upper
     → kept_at xs lower ≡ Some x → kept_at xs upper ≡ Some y → AreNeighbours x.range y.range
 pair-neighbours n k xs lower upper x y pair at up =
@@ -42,7 +42,7 @@ pair-neighbours n k xs lower upper x y pair at up =
     (native-neighbours n k pair.native (pair.below.reached x at) (pair.above.reached y up))
 
 -- the search of two tracks gives their best pair
-pub pair-found : (n k : ℕ) (xs : List Kept) (lower upper within : Option ℕ) (x y : Kept)
+pub pair-found : (n k : ℕ) (xs : List TrackValue) (lower upper within : Option ℕ) (x y : TrackValue)
     (r : Option Pair) → ArePair n k xs lower upper
     → kept_at xs lower ≡ Some x → kept_at xs upper ≡ Some y
     → 4 * length x.words ≡ x.range.size → 4 * length y.words ≡ y.range.size → r
@@ -94,7 +94,7 @@ some_value None P v r h e = absurd (none-some r e)
 some_value (Some x) P v r h e = sym (same_Some x r e) ∙ h.1
 
 -- a shifted line that opens begins in the lower line of its pair
-pub shifted-shaped : (n k : ℕ) (xs : List Kept) (lower upper : Option ℕ) (pair : Pair)
+pub shifted-shaped : (n k : ℕ) (xs : List TrackValue) (lower upper : Option ℕ) (pair : Pair)
     (o : Option Range) (r : Range) (P : Type 0)
     → is_native_size n ≡ true → IsPairOf n k xs lower upper n pair
     → SomeIff o P (range_of (line_from n (shifted_base n pair.x pair.y))) → o ≡ Some r
@@ -119,7 +119,7 @@ pub record AreBeside (n x y : ℕ) : Type 0 where
   pub words : (x % 4 ≡ 0) × (y % 4 ≡ 0)
   pub neighbours : x / n + 1 ≡ y / n
 
-pub pair-beside : (n k : ℕ) (xs : List Kept) (lower upper : Option ℕ) (within : ℕ) (pair : Pair)
+pub pair-beside : (n k : ℕ) (xs : List TrackValue) (lower upper : Option ℕ) (within : ℕ) (pair : Pair)
     → is_native_size n ≡ true
     → IsPairOf n k xs lower upper within pair → AreBeside n pair.x pair.y
 pair-beside n k xs lower upper within pair native found =
@@ -137,7 +137,7 @@ pair-beside n k xs lower upper within pair native found =
     }
 
 -- one line can hold the words of such a pair
-pair-near : (n k : ℕ) (xs : List Kept) (lower upper : Option ℕ) (pair : Pair) → is_native_size n
+pair-near : (n k : ℕ) (xs : List TrackValue) (lower upper : Option ℕ) (pair : Pair) → is_native_size n
     ≡ true
     → IsPairOf n k xs lower upper n pair → pair.y + 4 ≤ pair.x + n
 pair-near n k xs lower upper pair native found =
@@ -154,7 +154,7 @@ pair-near n k xs lower upper pair native found =
     )
 
 -- the shifted line that opens for two lines with a pair
-pub shifted-value : (n k : ℕ) (xs : List Kept) (lower upper : LineEntry) (pair : Pair)
+pub shifted-value : (n k : ℕ) (xs : List TrackValue) (lower upper : LineEntry) (pair : Pair)
     (o : Option Range) → is_native_size n ≡ true
     → is_some lower.shifted ≡ false → IsPairOf n k xs lower.track upper.track n pair
     → SomeIff o (pair.y + 4 ≤ pair.x + n) (range_of (line_from n (shifted_base n pair.x pair.y)))
@@ -165,7 +165,7 @@ shifted-value n k xs lower upper pair o native none found value =
     ∙ rw (none, found.best, found.lower_at, found.upper_at)
 
 -- the lower word of a pair is in the lower line
-pub pair-inside : (n k : ℕ) (xs : List Kept) (lower upper : Option ℕ) (within : ℕ) (pair : Pair)
+pub pair-inside : (n k : ℕ) (xs : List TrackValue) (lower upper : Option ℕ) (within : ℕ) (pair : Pair)
     → IsPairOf n k xs lower upper within pair
     → (is_inside (native_line n k) pair.x || is_inside (native_line n (k + 1)) pair.x) ≡ true
 pair-inside n k xs lower upper within pair found =
@@ -178,7 +178,7 @@ pair-inside n k xs lower upper within pair found =
     ∙ div-mul-add k n (4 * found.places.0) less))
 
 -- the doubled line that opens for two lines with a pair
-pub doubled-value : (n k : ℕ) (xs : List Kept) (lower upper : LineEntry) (pair : Pair) (r : Range)
+pub doubled-value : (n k : ℕ) (xs : List TrackValue) (lower upper : LineEntry) (pair : Pair) (r : Range)
     → is_some lower.doubled ≡ false
     → IsPairOf n k xs lower.track upper.track (2 * n) pair → r ≡ range_of (doubled_line n k)
     → Some r ≡ doubled_between n k xs lower upper
@@ -193,12 +193,12 @@ doubled-shaped n k r native low odd is =
     (odd, refl, doubled-begins n k (omega arith) low)
 
 -- what opens for two lines, by their entries
-pub shifted-is : (n k : ℕ) (xs : List Kept) (lower upper : LineEntry)
+pub shifted-is : (n k : ℕ) (xs : List TrackValue) (lower upper : LineEntry)
     → AreNamedPair (native_grid n) k xs lower upper
     → shifted_between n k xs lower upper ≡ shifted_opens (native_grid n) k xs
 shifted-is n k xs lower upper h = sym (rw (h.shifted, h.lower_own, h.upper_own))
 
-pub doubled-is : (n k : ℕ) (xs : List Kept) (lower upper : LineEntry)
+pub doubled-is : (n k : ℕ) (xs : List TrackValue) (lower upper : LineEntry)
     → AreNamedPair (native_grid n) k xs lower upper
     → doubled_between n k xs lower upper ≡ doubled_opens (native_grid n) k xs
 doubled-is n k xs lower upper h = sym (rw (h.doubled, h.lower_own, h.upper_own))

@@ -15,7 +15,7 @@ use Rattle.sharing_rules.specs.Listed.{rank}
 use Rattle.sharing_rules.specs.Opened.{even_lower}
 use Rattle.sharing_rules.specs.declared.line_kind.LineKind.{LineKind}
 use Rattle.sharing_rules.specs.declared.line_kind.LineKind.TheVariants.{Observed, Shifted, Doubled}
-use Rattle.line_tracks.specs.Kept.{Kept}
+use Rattle.line_tracks.specs.TrackValue.{TrackValue}
 use Rattle.detector.specs.declared.openings.Openings.{Openings}
 use Rattle.detector.specs.Index.{IsIndexed, IsNamed, IsReached, Names, names_in, place_in}
 use Rattle.detector.specs.Openings.{nothing_opens, opened_tracks, openings}
@@ -27,7 +27,7 @@ use Rattle.detector.proofs.PairLaws.{reached-native}
 use Rattle.detector.proofs.TaskLaws.{Opens, doubled-opens, opened-named, shifted-opens}
 use Rattle.detector.proofs.TaskLaws.{unopened-named, begun-named, front_of_front, changed-indexed}
 use Rattle.base.specs.Touch.{Touch}
-use Rattle.detector.specs.declared.task.Opened.{Opened}
+use Rattle.detector.specs.declared.task.OpenedTracks.{OpenedTracks}
 use Rattle.detector.specs.declared.task.Task.{Task}
 use Rattle.detector.specs.Watch.{begun, touched}
 use Rattle.sharing_rules.specs.Laws.Lists.{all_any}
@@ -132,7 +132,7 @@ still-written f h q r same is some = subst (λ n. 0 < n)
     (sym (same ∙ ap (λ z. (f z).writes) is)) some
 
 -- the names after all is settled
-pub named-task : (N : Names) (g : Grid) (xs : List Kept) (k : ℕ) (own : Option ℕ) (searches : Bool)
+pub named-task : (N : Names) (g : Grid) (xs : List TrackValue) (k : ℕ) (own : Option ℕ) (searches : Bool)
     (o : Openings)
     → IsNamed (with_name N Observed k own) g xs → 0 < g.size → (searches ≡ true → IsNativeGrid g)
     → IsReached g k
@@ -164,7 +164,7 @@ layout-small g h =
     )
 
 -- the names after all were written, one after the other
-pub settle-names : (N N₀ N₁ N₂ N₃ N₄ : Names) (k b l : ℕ) (own : Option ℕ) (o : Opened) → N₀ ≡ N
+pub settle-names : (N N₀ N₁ N₂ N₃ N₄ : Names) (k b l : ℕ) (own : Option ℕ) (o : OpenedTracks) → N₀ ≡ N
     → N₁ ≡ with_name N₀ Observed k own
     → N₂ ≡ with_name N₁ Shifted b o.below → b ≡ k - 1
     → N₃ ≡ with_name N₂ Shifted k o.here → N₄ ≡ with_name N₃ Doubled l o.doubled → l ≡ even_lower k
@@ -173,14 +173,14 @@ settle-names N N₀ N₁ N₂ N₃ N₄ k b l own o e₀ e₁ e₂ low e₃ e₄
     rw (e₄, even, e₃, e₂, low, e₁, e₀)
 
 -- what is known once the line's own track has begun, where it does
-pub record IsBegun (f : ℕ → LineEntry) (g : Grid) (xs ys : List Kept) (k : ℕ) (task : Task) (p : ℕ)
+pub record IsBegun (f : ℕ → LineEntry) (g : Grid) (xs ys : List TrackValue) (k : ℕ) (task : Task) (p : ℕ)
     (a : Touch) (own : Option ℕ) : Type 0
   where
     pub tracks : ys ≡ tracks_begun g k p a task.begins xs
     pub own_is : own ≡ (if task.begins then Some (length xs) else (f k).track)
     pub named : IsNamed (with_name (names_in f) Observed k own) g ys
 
-pub task-begun : (f : ℕ → LineEntry) (g : Grid) (xs ys : List Kept) (k m : ℕ) (task : Task) (p : ℕ)
+pub task-begun : (f : ℕ → LineEntry) (g : Grid) (xs ys : List TrackValue) (k m : ℕ) (task : Task) (p : ℕ)
     (a : Touch) (own : Option ℕ)
     (e : LineEntry) → IsTask f g xs k task p a → k ≡ m
     → ys ≡ tracks_begun g m p a task.begins xs → own
@@ -209,7 +209,7 @@ task-begun f g xs ys k m task p a own e t line tracks own_is entry =
         let due = t.is_due.due b in
         absurd (omega arith)
 
-pub task-tracks : (g : Grid) (xs ys zs : List Kept) (k p : ℕ) (a : Touch) (begins searches : Bool)
+pub task-tracks : (g : Grid) (xs ys zs : List TrackValue) (k p : ℕ) (a : Touch) (begins searches : Bool)
     (o : Openings)
     → ys ≡ tracks_begun g k p a begins xs → o ≡ task_opens g k searches ys
     → zs ≡ ys ++ opened_tracks o → zs ≡ tracks_changed g k p a begins searches xs
@@ -218,7 +218,7 @@ task-tracks g xs ys zs k p a begins searches o is opens added =
     ∙ ap (λ ws. ws ++ opened_tracks (task_opens g k searches ws)) is
 
 -- a line at which a range opens has a track of its own, and so was written
-opens-written : (f : ℕ → LineEntry) (g : Grid) (xs ys : List Kept) (k q p : ℕ) (task : Task)
+opens-written : (f : ℕ → LineEntry) (g : Grid) (xs ys : List TrackValue) (k q p : ℕ) (task : Task)
     (a : Touch) (own : Option ℕ) (kind : LineKind) → IsTask f g xs k task p a → q ≢ k
     → Opens (with_name (names_in f) Observed k own) kind q → 0 < (f q).writes
 opens-written f g xs ys k q p task a own kind t other opens =
@@ -234,42 +234,42 @@ opened-for n None i e = absurd (none-some i e)
 opened-for n (Some r) i e = (r, refl)
 
 -- what opens was searched for
-searched-for : (g : Grid) (k : ℕ) (ys : List Kept) (searches : Bool) (o : Openings)
+searched-for : (g : Grid) (k : ℕ) (ys : List TrackValue) (searches : Bool) (o : Openings)
     (w : Openings → Option Range) (r : Range) → o ≡ task_opens g k searches ys
     → w nothing_opens ≡ None → w o ≡ Some r → (searches ≡ true) × (w (openings g k ys) ≡ Some r)
 searched-for g k ys true o w r is none e = (refl, ap w (sym is) ∙ e)
 searched-for g k ys false o w r is none e = absurd (none-some r (sym none ∙ ap w (sym is) ∙ e))
 
-pub task-below : (f : ℕ → LineEntry) (g : Grid) (xs ys : List Kept) (k : ℕ) (task : Task) (p : ℕ)
+pub task-below : (f : ℕ → LineEntry) (g : Grid) (xs ys : List TrackValue) (k : ℕ) (task : Task) (p : ℕ)
     (a : Touch) (own : Option ℕ)
-    (o : Openings) (q : Opened) (ws : List Kept) → IsTask f g xs k task p a
+    (o : Openings) (q : OpenedTracks) (ws : List TrackValue) → IsTask f g xs k task p a
     → IsBegun f g xs ys k task p a own
     → o ≡ task_opens g k task.searches ys → q ≡ opened_places ws o → (i : ℕ) → q.below ≡ Some i
     → 0 < (f (k - 1)).writes
 task-below f g xs ys k task p a own o q ws t b opens places i e =
-    let r = opened-for _ o.below i (ap (λ (z : Opened). z.below) (sym places) ∙ e) in
+    let r = opened-for _ o.below i (ap (λ (z : OpenedTracks). z.below) (sym places) ∙ e) in
     let s = searched-for g k ys task.searches o (λ z. z.below) r.0 opens refl r.1 in
     let grid = t.native s.0 in
     let low = (reached-native g k grid.size grid.offset t.reached).some in
     opens-written f g xs ys k (k - 1) p task a own Shifted t (λ e. absurd (omega arith))
     (shifted-opens (with_name (names_in f) Observed k own) g ys (k - 1) r.0 b.named s.1)
 
-pub task-doubled : (f : ℕ → LineEntry) (g : Grid) (xs ys : List Kept) (k : ℕ) (task : Task) (p : ℕ)
+pub task-doubled : (f : ℕ → LineEntry) (g : Grid) (xs ys : List TrackValue) (k : ℕ) (task : Task) (p : ℕ)
     (a : Touch) (own : Option ℕ)
-    (o : Openings) (q : Opened) (ws : List Kept) → IsTask f g xs k task p a
+    (o : Openings) (q : OpenedTracks) (ws : List TrackValue) → IsTask f g xs k task p a
     → IsBegun f g xs ys k task p a own
     → o ≡ task_opens g k task.searches ys → q ≡ opened_places ws o → (i : ℕ) → q.doubled ≡ Some i
     → even_lower k ≢ k
     → 0 < (f (even_lower k)).writes
 task-doubled f g xs ys k task p a own o q ws t b opens places i e other =
-    let r = opened-for _ o.doubled i (ap (λ (z : Opened). z.doubled) (sym places) ∙ e) in
+    let r = opened-for _ o.doubled i (ap (λ (z : OpenedTracks). z.doubled) (sym places) ∙ e) in
     let s = searched-for g k ys task.searches o (λ z. z.doubled) r.0 opens refl r.1 in
     opens-written f g xs ys k (even_lower k) p task a own Doubled t other
     (doubled-opens (with_name (names_in f) Observed k own) g ys (even_lower k) r.0 b.named s.1)
 
-pub task-indexed : (f h : ℕ → LineEntry) (g : Grid) (xs ys zs : List Kept) (k : ℕ) (task : Task)
+pub task-indexed : (f h : ℕ → LineEntry) (g : Grid) (xs ys zs : List TrackValue) (k : ℕ) (task : Task)
     (p T : ℕ) (a : Touch) (own : Option ℕ)
-    (o : Openings) (q : Opened) → IsTask f g xs k task p a → IsBegun f g xs ys k task p a own
+    (o : Openings) (q : OpenedTracks) → IsTask f g xs k task p a → IsBegun f g xs ys k task p a own
     → IsDue f g xs k task p T → o ≡ task_opens g k task.searches ys
     → (task.searches ≡ true → AreShaped g.size k o)
     → q ≡ opened_places ys o → zs ≡ ys ++ opened_tracks o
@@ -291,7 +291,7 @@ task-indexed f h g xs ys zs k task p T a own o q t b due opens shaped places add
     (sym places) named))
     b.own_is due.due due.written writes few
 
-pub task-kept : (g : Grid) (xs ys zs : List Kept) (k p : ℕ) (a : Touch) (begins : Bool) → ys
+pub task-kept : (g : Grid) (xs ys zs : List TrackValue) (k p : ℕ) (a : Touch) (begins : Bool) → ys
     ≡ tracks_begun g k p a begins xs
     → take (length ys) zs ≡ ys → take (length xs) zs ≡ xs
 task-kept g xs ys zs k p a begins is kept =
@@ -300,7 +300,7 @@ task-kept g xs ys zs k p a begins is kept =
 
 -- A task, from the tracks before the write was noted.
 
-pub due-after : (f : ℕ → LineEntry) (g : Grid) (xs ys : List Kept) (k : ℕ) (task : Task) (p T : ℕ)
+pub due-after : (f : ℕ → LineEntry) (g : Grid) (xs ys : List TrackValue) (k : ℕ) (task : Task) (p T : ℕ)
     (a : Touch) → IsDueAt f g xs k task p T
     → ys ≡ map (touched p a) xs → IsDue f g ys k task p T
 due-after f g xs ys k task p T a due is = record {
@@ -312,7 +312,7 @@ due-after f g xs ys k task p T a due is = record {
   written = due.indexed.written k;
 }
 
-pub due-task : (f : ℕ → LineEntry) (g : Grid) (xs ys : List Kept) (k : ℕ) (task : Task) (p T : ℕ)
+pub due-task : (f : ℕ → LineEntry) (g : Grid) (xs ys : List TrackValue) (k : ℕ) (task : Task) (p T : ℕ)
     (a : Touch) → IsDueAt f g xs k task p T
     → ys ≡ map (touched p a) xs
     → (task.searches ≡ true → IsNativeGrid g) → is_layout g.size g.offset ≡ true → k ≤ 2 ^ 30
@@ -326,7 +326,7 @@ due-task f g xs ys k task p T a due is native layout small reached = record {
   reached = reached;
 }
 
-pub due-few : (f : ℕ → LineEntry) (g : Grid) (xs ys : List Kept) (k : ℕ) (task : Task) (p T : ℕ)
+pub due-few : (f : ℕ → LineEntry) (g : Grid) (xs ys : List TrackValue) (k : ℕ) (task : Task) (p T : ℕ)
     (a : Touch) → IsDueAt f g xs k task p T
     → ys ≡ map (touched p a) xs → length ys ≤ 2 ^ 31
 due-few f g xs ys k task p T a due is = let few = due.indexed.few in
@@ -334,7 +334,7 @@ due-few f g xs ys k task p T a due is = let few = due.indexed.few in
     (subst (λ n. n ≤ 2 ^ 31) (sym (length-map xs (touched p a))) few)
 
 -- where its own track begins a line has none
-pub due-none : (f : ℕ → LineEntry) (g : Grid) (xs : List Kept) (k : ℕ) (task : Task) (p T : ℕ)
+pub due-none : (f : ℕ → LineEntry) (g : Grid) (xs : List TrackValue) (k : ℕ) (task : Task) (p T : ℕ)
     → IsDueAt f g xs k task p T
     → task.begins ≡ true → (f k).track ≡ None
 due-none f g xs k task p T due b = by_track (f k).track refl
@@ -345,7 +345,7 @@ due-none f g xs k task p T due b = by_track (f k).track refl
         absurd (omega arith)
 
 -- what is cut is not longer
-pub cut_within : (xs zs : List Kept) (n : ℕ) → n ≡ length xs → take (length xs) zs ≡ xs
+pub cut_within : (xs zs : List TrackValue) (n : ℕ) → n ≡ length xs → take (length xs) zs ≡ xs
     → n ≤ length zs
 cut_within xs zs n is kept =
     let long : min (length xs) (length zs) ≡ length xs = sym (length-take (length xs) zs)

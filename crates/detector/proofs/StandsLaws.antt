@@ -36,10 +36,10 @@ use Rattle.sharing_rules.specs.Words.{words_since}
 use Rattle.sharing_rules.specs.Laws.Starts.{observed_start-first_write, write_count-push}
 use Rattle.detector.specs.Openings.{best_among, best_of_two, doubled_opens, nothing_opens}
 use Rattle.detector.specs.Openings.{opened_tracks, openings, shifted_opens}
-use Rattle.line_tracks.specs.Kept.{IsTrackOf, Kept, note_kept, waiting}
+use Rattle.line_tracks.specs.TrackValue.{IsTrackOf, TrackValue, note_kept, waiting}
 use Rattle.line_tracks.specs.KeptIn.{kept_in}
-use Rattle.line_tracks.specs.Laws.Kept.{kept-elsewhere, kept-new, kept-push, note-kind}
-use Rattle.line_tracks.specs.Laws.Kept.{kept_in-IsTrackOf}
+use Rattle.line_tracks.specs.Laws.TrackValue.{kept-elsewhere, kept-new, kept-push, note-kind}
+use Rattle.line_tracks.specs.Laws.TrackValue.{kept_in-IsTrackOf}
 use Rattle.line_tracks.specs.Laws.WordLines.{inside-held, layout-sized}
 use Rattle.std.proofs.Math.Bool.{and-true}
 use Rattle.std.proofs.Math.Nat.{add-zero}
@@ -53,7 +53,7 @@ use Rattle.detector.proofs.CountLaws.{count_at-with_write}
 use Rattle.detector.proofs.ToldLaws.{MayKeep, good_lines, looked_up, noted-told, noted_at, under}
 
 -- a track by its kind, its range and what is traced of it
-kept_of_track : (t : AccessList) (o : Opened) (x : Kept) → x.kind ≡ o.kind
+kept_of_track : (t : AccessList) (o : Opened) (x : TrackValue) → x.kind ≡ o.kind
     → IsTrackOf o.line o.from t x → x ≡ kept_in t o
 kept_of_track t o x kind is = λ i. record {
   kind = kind i;
@@ -100,7 +100,7 @@ kept_begun g t a allowed =
     let holds : holds_address (range_of o.line) a.addr ≡ true =
     inside-held o.line a.addr (layout-sized g.size g.offset allowed).0
     (eq-eqb _ _ refl) in
-    ap (λ (x : Kept). note_kept x (length t) a) (kept_waiting t o (omega arith))
+    ap (λ (x : TrackValue). note_kept x (length t) a) (kept_waiting t o (omega arith))
     ∙ kept_noted t a o allowed (omega arith) holds
 
 -- the same over a list of lines
@@ -150,11 +150,11 @@ waits kind t line false (Some p) kinds later =
     ∙ kept_waiting t (line p) (later p))
 
 -- The tracks in which an access is noted, by kind and line.
-abbrev AreNoted : ℕ → Levels → AccessList → Touch → List Kept → Type 0
+abbrev AreNoted : ℕ → Levels → AccessList → Touch → List TrackValue → Type 0
 AreNoted n v t a xs = (kind : LineKind) (k : ℕ) → track_named (native_grid n) kind k xs
     ≡ option_map (kept_in (t ++ a ∷ [])) (noted_at (native_grid n) v t a kind k)
 
-best_noted : (n : ℕ) (v : Levels) (t : AccessList) (a : Touch) (xs : List Kept) (within k : ℕ)
+best_noted : (n : ℕ) (v : Levels) (t : AccessList) (a : Touch) (xs : List TrackValue) (within k : ℕ)
     → AreNoted n v t a xs
     → best_among (native_grid n) within k xs ≡ best_between n v.tracking within k (t ++ a ∷ [])
 best_noted n v t a xs within k noted =
@@ -163,7 +163,7 @@ best_noted n v t a xs within k noted =
 one_longer : (t : AccessList) (a : Touch) → length (t ++ a ∷ []) ≤ suc (length t)
 one_longer t a = omega (arith, length-append t (a ∷ []))
 
-opens_shifted : (n P : ℕ) (v : Levels) (t : AccessList) (a : Touch) (xs : List Kept) (k : ℕ)
+opens_shifted : (n P : ℕ) (v : Levels) (t : AccessList) (a : Touch) (xs : List TrackValue) (k : ℕ)
     → v.prediction ≡ Some P → AreNoted n v t a xs
     → option_map (waiting Shifted) (shifted_opens (native_grid n) k xs)
     ≡ option_map (kept_in (t ++ a ∷ [])) (shifted_now n v.tracking P t a k)
@@ -179,7 +179,7 @@ opens_shifted n P v t a xs k some noted =
     (is_some (shifted_opening n v.tracking P k t)) (best_between n v.tracking n k (t ++ a ∷ []))
     (λ p. refl) (λ p. one_longer t a))
 
-opens_doubled : (n P : ℕ) (v : Levels) (t : AccessList) (a : Touch) (xs : List Kept) (k : ℕ)
+opens_doubled : (n P : ℕ) (v : Levels) (t : AccessList) (a : Touch) (xs : List TrackValue) (k : ℕ)
     → v.prediction ≡ Some P → AreNoted n v t a xs
     → option_map (waiting Doubled) (doubled_opens (native_grid n) k xs)
     ≡ option_map (kept_in (t ++ a ∷ [])) (doubled_now n v.tracking P t a k)
@@ -195,7 +195,7 @@ opens_doubled n P v t a xs k some noted =
     (is_some (doubled_opening n v.tracking P k t))
     (best_between n v.tracking (2 * n) k (t ++ a ∷ [])) (λ p. refl) (λ p. one_longer t a))
 
-listed : (f : Opened → Kept) (o : Option Opened)
+listed : (f : Opened → TrackValue) (o : Option Opened)
     → option_to_list (option_map f o) ≡ map f (option_to_list o)
 listed f None = refl
 listed f (Some x) = refl
@@ -208,13 +208,13 @@ its_write g a =
     ap (λ b. is_write a.kind && b) here ∙ and-true (is_write a.kind)
 
 -- What opens, where the layout is native.
-abbrev opens_where : Bool → ℕ → AccessList → Touch → List Kept → Grid → List Kept
+abbrev opens_where : Bool → ℕ → AccessList → Touch → List TrackValue → Grid → List TrackValue
 opens_where is P t a xs g =
     let k = line_number g.size g.offset a.addr in
     opened_tracks (if is && eqb ((write_count (is_inside (grid_line g k)) t + 1) % P) 0
     then openings g k xs else nothing_opens)
 
-opens_as : (n P : ℕ) (v : Levels) (t : AccessList) (a : Touch) (xs : List Kept)
+opens_as : (n P : ℕ) (v : Levels) (t : AccessList) (a : Touch) (xs : List TrackValue)
     → v.prediction ≡ Some P → AreNoted n v t a xs
     → opens_where (is_write a.kind) P t a xs (native_grid n)
     ≡ map (kept_in (t ++ a ∷ [])) (predicted_now n v.tracking P t a)
@@ -279,7 +279,7 @@ noted_as t w a st may =
     (map (touched (length t) a) w.tracks) (map (touched (length t) a) (map (kept_in t) os))
     (IsPermutation-map (touched (length t) a) w.tracks (map (kept_in t) os) st.tracks))
 
-opens_under : (g : Grid) (v : Levels) (P : ℕ) (t : AccessList) (a : Touch) (xs : List Kept)
+opens_under : (g : Grid) (v : Levels) (P : ℕ) (t : AccessList) (a : Touch) (xs : List TrackValue)
     → IsTrue (may_predict g v) → v.prediction ≡ Some P
     → ((kind : LineKind) (k : ℕ) → track_named g kind k xs
     ≡ option_map (kept_in (t ++ a ∷ [])) (noted_at g v t a kind k))
@@ -294,7 +294,7 @@ opens_under g v P t a xs may e noted =
     ≡ map (kept_in (t ++ a ∷ [])) (predicted_now h.size v.tracking P t a)) native
     (opens_as g.size P v t a xs e) noted
 
-opens_at-as : (t : AccessList) (w : Watch) (a : Touch) (xs : List Kept) → StandsFor t w
+opens_at-as : (t : AccessList) (w : Watch) (a : Touch) (xs : List TrackValue) → StandsFor t w
     → IsTrue (may_predict w.grid w.levels)
     → ((kind : LineKind) (k : ℕ) → track_named w.grid kind k xs
     ≡ option_map (kept_in (t ++ a ∷ [])) (noted_at w.grid w.levels t a kind k))

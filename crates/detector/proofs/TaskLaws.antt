@@ -17,9 +17,9 @@ use Rattle.sharing_rules.specs.Listed.{rank}
 use Rattle.sharing_rules.specs.Opened.{even_lower}
 use Rattle.sharing_rules.specs.declared.line_kind.LineKind.{LineKind}
 use Rattle.sharing_rules.specs.declared.line_kind.LineKind.TheVariants.{Observed, Shifted, Doubled}
-use Rattle.line_tracks.specs.Kept.{IsBlank, IsInTime, Kept, waiting}
+use Rattle.line_tracks.specs.TrackValue.{IsBlank, IsInTime, TrackValue, waiting}
 use Rattle.detector.specs.declared.openings.Openings.{Openings}
-use Rattle.detector.specs.declared.task.Opened.{Opened}
+use Rattle.detector.specs.declared.task.OpenedTracks.{OpenedTracks}
 use Rattle.detector.specs.Named.{track_named}
 use Rattle.detector.specs.Index.{IsIndexed, IsNamed, IsReached, IsShaped, Names, names_in}
 use Rattle.detector.specs.Openings.{best_of_two, doubled_opens, nothing_opens, opened_tracks}
@@ -63,7 +63,7 @@ with_name-none N kind k = λ i j q. each j q i
     ]
 
 -- the line's own track, where it begins
-pub begun-named : (N : Names) (g : Grid) (xs : List Kept) (k p : ℕ) (a : Touch) (begins : Bool)
+pub begun-named : (N : Names) (g : Grid) (xs : List TrackValue) (k p : ℕ) (a : Touch) (begins : Bool)
     (own : Option ℕ) → IsNamed N g xs
     → 0 < g.size → IsReached g k → (begins ≡ true → N Observed k ≡ None)
     → own ≡ (if begins then Some (length xs) else N Observed k)
@@ -80,7 +80,7 @@ begun-named N g xs k p a false own named some reached none is =
     rw (is, with_name-same N Observed k, append-nil xs) named
 
 -- a range that opens, if there is one
-pub waiting-named : (N : Names) (g : Grid) (xs : List Kept) (kind : LineKind) (k : ℕ)
+pub waiting-named : (N : Names) (g : Grid) (xs : List TrackValue) (kind : LineKind) (k : ℕ)
     (o : Option Range) → IsNamed N g xs → 0 < g.size
     → ((r : Range) → o ≡ Some r → (N kind k ≡ None) × IsShaped g k kind r)
     → IsNamed (with_name N kind k (option_map (λ r. length xs) o)) g
@@ -100,7 +100,7 @@ none_from (Some x) e = absurd (false≢true (sym e))
 abbrev pub Opens : Names → LineKind → ℕ → Type 0
 Opens N kind k = (N kind k ≡ None) × ((i : ℕ) × (N Observed k ≡ Some i))
 
-own_some : (lower upper : Option Kept) (within : ℕ) (p : ℕ × ℕ) → best_of_two lower upper within
+own_some : (lower upper : Option TrackValue) (within : ℕ) (p : ℕ × ℕ) → best_of_two lower upper within
     ≡ Some p → is_some lower ≡ true
 own_some None upper within p e = absurd (none-some p e)
 own_some (Some x) upper within p e = refl
@@ -116,7 +116,7 @@ opens_from true o f r e = absurd (none-some r e)
 opens_from false None f r e = absurd (none-some r e)
 opens_from false (Some p) f r e = (refl, (p, refl))
 
-opens_by : (N : Names) (g : Grid) (xs : List Kept) (kind : LineKind) (k within : ℕ)
+opens_by : (N : Names) (g : Grid) (xs : List TrackValue) (kind : LineKind) (k within : ℕ)
     (f : ℕ × ℕ → Range) (r : Range) → IsNamed N g xs
     → (if is_some (track_named g kind k xs) then None
     else option_map f (best_of_two (track_named g Observed k xs)
@@ -130,18 +130,18 @@ opens_by N g xs kind k within f r named e =
           w.1.0 w.1.1),
     )
 
-pub shifted-opens : (N : Names) (g : Grid) (xs : List Kept) (k : ℕ) (r : Range) → IsNamed N g xs
+pub shifted-opens : (N : Names) (g : Grid) (xs : List TrackValue) (k : ℕ) (r : Range) → IsNamed N g xs
     → shifted_opens g k xs ≡ Some r
     → Opens N Shifted k
 shifted-opens N g xs k r named e = opens_by N g xs Shifted k g.size _ r named e
 
-pub doubled-opens : (N : Names) (g : Grid) (xs : List Kept) (k : ℕ) (r : Range) → IsNamed N g xs
+pub doubled-opens : (N : Names) (g : Grid) (xs : List TrackValue) (k : ℕ) (r : Range) → IsNamed N g xs
     → doubled_opens g k xs ≡ Some r
     → Opens N Doubled k
 doubled-opens N g xs k r named e = opens_by N g xs Doubled k (2 * g.size) _ r named e
 
 -- what opens at a write is named as the entries are settled
-pub opened-named : (N : Names) (g : Grid) (xs : List Kept) (k : ℕ) (own : Option ℕ) (o : Openings)
+pub opened-named : (N : Names) (g : Grid) (xs : List TrackValue) (k : ℕ) (own : Option ℕ) (o : Openings)
     → IsNamed (with_name N Observed k own) g xs → 0 < g.size → 1 ≤ k → g.offset ≡ 0
     → o ≡ openings g k xs → AreShaped g.size k o
     → IsNamed (settled N k own (opened_places xs o)) g (xs ++ opened_tracks o)
@@ -177,7 +177,7 @@ opened-named N g xs k own o named some low none is shaped =
     subst (λ zs. IsNamed (settled N k own (opened_places xs o)) g zs) joined third
 
 -- where nothing opens
-pub unopened-named : (N : Names) (g : Grid) (xs : List Kept) (k : ℕ) (own : Option ℕ)
+pub unopened-named : (N : Names) (g : Grid) (xs : List TrackValue) (k : ℕ) (own : Option ℕ)
     → IsNamed (with_name N Observed k own) g xs
     → IsNamed (settled N k own (opened_places xs nothing_opens)) g
     (xs ++ opened_tracks nothing_opens)
@@ -191,7 +191,7 @@ unopened-named N g xs k own named =
     rw (same, append-nil xs) named
 
 -- one element more at the end
-pub added-at : (xs ys : List Kept) (x : Kept) (i : ℕ) → ys ≡ xs ++ x ∷ [] → i ≡ length xs
+pub added-at : (xs ys : List TrackValue) (x : TrackValue) (i : ℕ) → ys ≡ xs ++ x ∷ [] → i ≡ length xs
     → slice_get ys i ≡ Some x
 added-at xs ys x i added at = rw (added, at) (slice_get-push xs x)
 
@@ -209,28 +209,28 @@ front_of_front xs ys zs e =
     ∙ take_at xs ys (length xs) refl
 
 -- what holds of each track
-abbrev pub Each : (Kept → Type 0) → List Kept → Type 0
-Each P xs = (i : ℕ) (x : Kept) → slice_get xs i ≡ Some x → P x
+abbrev pub Each : (TrackValue → Type 0) → List TrackValue → Type 0
+Each P xs = (i : ℕ) (x : TrackValue) → slice_get xs i ≡ Some x → P x
 
-each_append : (P : Kept → Type 0) (xs ys : List Kept) → Each P xs → Each P ys → Each P (xs ++ ys)
+each_append : (P : TrackValue → Type 0) (xs ys : List TrackValue) → Each P xs → Each P ys → Each P (xs ++ ys)
 each_append P [] ys h k i x e = k i x e
 each_append P (z ∷ xs) ys h k zero x e = h zero x e
 each_append P (z ∷ xs) ys h k (suc i) x e = each_append P xs ys (λ j. h (suc j)) k i x e
 
-each_one : (P : Kept → Type 0) (y : Kept) → P y → Each P (y ∷ [])
+each_one : (P : TrackValue → Type 0) (y : TrackValue) → P y → Each P (y ∷ [])
 each_one P y h zero x e = subst P (same_Some y x e) h
 each_one P y h (suc i) x e = absurd (none-some x e)
 
-each_none : (P : Kept → Type 0) → Each P []
+each_none : (P : TrackValue → Type 0) → Each P []
 each_none P i x e = absurd (none-some x e)
 
-each_waiting : (P : Kept → Type 0) (kind : LineKind) (o : Option Range)
+each_waiting : (P : TrackValue → Type 0) (kind : LineKind) (o : Option Range)
     → ((r : Range) → P (waiting kind r)) → Each P (waiting_for kind o)
 each_waiting P kind None h = each_none P
 each_waiting P kind (Some r) h = each_one P (waiting kind r) (h r)
 
 -- in time, and blank without a start
-abbrev IsSound : ℕ → Kept → Type 0
+abbrev IsSound : ℕ → TrackValue → Type 0
 IsSound p x = IsInTime x p × (x.start ≡ None → IsBlank x)
 
 waiting-sound : (p : ℕ) (kind : LineKind) (r : Range) → IsSound p (waiting kind r)
@@ -245,7 +245,7 @@ begun-sound g k p a =
           w.1,
     )
 
-changed-sound : (g : Grid) (xs : List Kept) (k p : ℕ) (a : Touch) (begins : Bool) (o : Openings)
+changed-sound : (g : Grid) (xs : List TrackValue) (k p : ℕ) (a : Touch) (begins : Bool) (o : Openings)
     → Each (IsSound (p + 1)) xs
     → Each (IsSound (p + 1)) (tracks_begun g k p a begins xs ++ opened_tracks o)
 changed-sound g xs k p a begins o old =
@@ -263,9 +263,9 @@ changed-sound g xs k p a begins o old =
     new false = each_none (IsSound (p + 1))
 
 -- the entries name the tracks after what was due began and opened
-pub changed-indexed : (f h : ℕ → LineEntry) (g : Grid) (xs ys : List Kept) (T p k : ℕ) (a : Touch)
+pub changed-indexed : (f h : ℕ → LineEntry) (g : Grid) (xs ys : List TrackValue) (T p k : ℕ) (a : Touch)
     (begins : Bool) (own : Option ℕ)
-    (o : Openings) (places : Opened) → IsIndexed f g xs T (p + 1)
+    (o : Openings) (places : OpenedTracks) → IsIndexed f g xs T (p + 1)
     → ys ≡ tracks_begun g k p a begins xs ++ opened_tracks o → names_in h
     ≡ settled (names_in f) k own places
     → IsNamed (settled (names_in f) k own places) g
@@ -317,22 +317,22 @@ changed-indexed f h g xs ys T p k a begins own o places indexed is names named o
         ]
 
 -- the tracks that were there are kept
-pub kept-after : (xs ys zs : List Kept) → zs ≡ xs ++ ys → take (length xs) zs ≡ xs
+pub kept-after : (xs ys zs : List TrackValue) → zs ≡ xs ++ ys → take (length xs) zs ≡ xs
 kept-after xs ys zs is = ap (take (length xs)) is ∙ take_at xs ys (length xs) refl
 
 -- three tracks that open, one after the other
-pub opened-all : (xs ys zs ws : List Kept) (o : Openings) → ys ≡ xs ++ waiting_for Shifted o.below
+pub opened-all : (xs ys zs ws : List TrackValue) (o : Openings) → ys ≡ xs ++ waiting_for Shifted o.below
     → zs ≡ ys ++ waiting_for Shifted o.here → ws ≡ zs ++ waiting_for Doubled o.doubled → ws ≡ xs
     ++ opened_tracks o
 opened-all xs ys zs ws o below here doubled =
     rw (doubled, here, below) (simp append_assoc)
 
 -- and their places
-pub opened-where : (xs ys zs : List Kept) (o : Openings) (b h d : Option ℕ) → ys ≡ xs
+pub opened-where : (xs ys zs : List TrackValue) (o : Openings) (b h d : Option ℕ) → ys ≡ xs
     ++ waiting_for Shifted o.below
     → zs ≡ ys ++ waiting_for Shifted o.here → b ≡ option_map (λ r. length xs) o.below → h
     ≡ option_map (λ r. length ys) o.here
     → d ≡ option_map (λ r. length zs) o.doubled
-    → ◌≡◌ {A = Opened} (record { below = b; here = h; doubled = d }) (opened_places xs o)
+    → ◌≡◌ {A = OpenedTracks} (record { below = b; here = h; doubled = d }) (opened_places xs o)
 opened-where xs ys zs o b h d below here at at_here at_doubled =
     rw (at, at_here, at_doubled, here, below)

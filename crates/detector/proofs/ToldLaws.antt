@@ -34,7 +34,7 @@ use Rattle.sharing_rules.specs.Laws.Kinds.{observed_ones-member, opened-member, 
 use Rattle.sharing_rules.specs.Laws.Kinds.{opened_observed-is, opened_shifted-is}
 use Rattle.sharing_rules.specs.Laws.Lists.{Member-permutation, slice_cases}
 use Rattle.sharing_rules.specs.Laws.Opened.{observed_ones-push, opened_observed-stays}
-use Rattle.line_tracks.specs.Kept.{Kept}
+use Rattle.line_tracks.specs.TrackValue.{TrackValue}
 use Rattle.line_tracks.specs.KeptIn.{kept_in}
 use Rattle.line_tracks.specs.Laws.WordLines.{layout-sized}
 use Rattle.detector.specs.Named.{is_named, line_of_base, track_named}
@@ -259,7 +259,7 @@ noted-told g v t a may some = record {
     there Doubled k o e = before Doubled k o e
 
 -- The first of a list that passes a test.
-find-some : (test : Kept → Bool) (xs : List Kept) (x : Kept) → find test xs ≡ Some x → Member x xs
+find-some : (test : TrackValue → Bool) (xs : List TrackValue) (x : TrackValue) → find test xs ≡ Some x → Member x xs
     × (test x ≡ true)
 find-some test [] x e = absurd (none-some x e)
 find-some test (y ∷ xs) x e =
@@ -272,7 +272,7 @@ find-some test (y ∷ xs) x e =
           let w = find-some test xs x k in (inr w.0, w.1)
     ]
 
-find-none : (test : Kept → Bool) (xs : List Kept) (x : Kept) → find test xs ≡ None → Member x xs
+find-none : (test : TrackValue → Bool) (xs : List TrackValue) (x : TrackValue) → find test xs ≡ None → Member x xs
     → test x ≡ true → ⊥
 find-none test [] x e m h = m
 find-none test (y ∷ xs) x e m h =
@@ -286,7 +286,7 @@ find-none test (y ∷ xs) x e m h =
           ]
     ]
 
-Member-map : (f : Opened → Kept) (os : List Opened) (x : Kept) → Member x (map f os) → (o : Opened)
+Member-map : (f : Opened → TrackValue) (os : List Opened) (x : TrackValue) → Member x (map f os) → (o : Opened)
     × Member o os × (x ≡ f o)
 Member-map f [] x m = absurd m
 Member-map f (o ∷ os) x m = elim m [
@@ -294,7 +294,7 @@ Member-map f (o ∷ os) x m = elim m [
   | inr later ↦ let w = Member-map f os x later in (w.0, inr w.1, w.2)
 ]
 
-map-Member : (f : Opened → Kept) (os : List Opened) (o : Opened) → Member o os
+map-Member : (f : Opened → TrackValue) (os : List Opened) (o : Opened) → Member o os
     → Member (f o) (map f os)
 map-Member f [] o m = absurd m
 map-Member f (p ∷ os) o m = elim m [
@@ -304,7 +304,7 @@ map-Member f (p ∷ os) o m = elim m [
 
 -- their tracks, in any order, by kind and number
 pub looked_up : (g : Grid) (t : AccessList) (os : List Opened) (f : LineKind → ℕ → Option Opened)
-    (xs : List Kept) → AreTold g os f → IsPermutation xs (map (kept_in t) os)
+    (xs : List TrackValue) → AreTold g os f → IsPermutation xs (map (kept_in t) os)
     → (kind : LineKind) (k : ℕ) → track_named g kind k xs ≡ option_map (kept_in t) (f kind k)
 looked_up g t os f xs told perm kind k =
     elim (slice_cases (find (is_named g kind k) xs)) [

@@ -25,7 +25,7 @@ use Rattle.sharing_rules.specs.Laws.Lists.{slice_cases}
 use Rattle.sharing_rules.specs.Laws.Orders.{in_order-permutes}
 use Rattle.sharing_rules.specs.declared.line_kind.LineKind.{LineKind}
 use Rattle.sharing_rules.specs.declared.line_kind.LineKind.TheVariants.{Observed, Shifted, Doubled}
-use Rattle.line_tracks.specs.Kept.{Kept}
+use Rattle.line_tracks.specs.TrackValue.{TrackValue}
 use Rattle.line_tracks.specs.KeptIn.{kept_in}
 use Rattle.detector.specs.TotalsCounted.{observed_count, one, one_if_listed, totals_in, weight}
 use Rattle.detector.specs.TotalsOf.{totals_of}
@@ -65,7 +65,7 @@ sum-kept w t (o ∷ os) =
     ]
 
 -- tracks in any order
-sum-tracked : (w : LineKind → ℕ → ℕ) (g : Grid) (v : Levels) (t : AccessList) (tracks : List Kept)
+sum-tracked : (w : LineKind → ℕ → ℕ) (g : Grid) (v : Levels) (t : AccessList) (tracks : List TrackValue)
     → IsPermutation tracks (map (kept_in t) (opened g v t))
     → sum_by (weight w) tracks ≡ sum_by (by_finding w) (tracked g v t)
 sum-tracked w g v t tracks perm =
@@ -179,7 +179,7 @@ sum_observed g v t =
 
 -- ---- all of it
 
-pub totals-kept : (g : Grid) (v : Levels) (t : AccessList) (report : ℕ) (tracks : List Kept)
+pub totals-kept : (g : Grid) (v : Levels) (t : AccessList) (report : ℕ) (tracks : List TrackValue)
     → v.report ≡ report
     → IsPermutation tracks (map (kept_in t) (opened g v t)) → totals_in report tracks
     ≡ totals_of g v t

@@ -13,7 +13,7 @@ use Rattle.detector.specs.declared.line_entry.LineEntry.{LineEntry}
 use Rattle.sharing_rules.specs.Listed.{rank}
 use Rattle.sharing_rules.specs.declared.line_kind.LineKind.{LineKind}
 use Rattle.sharing_rules.specs.declared.line_kind.LineKind.TheVariants.{Observed, Shifted, Doubled}
-use Rattle.line_tracks.specs.Kept.{Kept}
+use Rattle.line_tracks.specs.TrackValue.{TrackValue}
 use Rattle.detector.specs.Named.{line_of_base, number_of}
 use Rattle.detector.specs.Index.{IsIndexed, IsNamed, IsShaped, Names, names_in}
 use Rattle.detector.specs.Noting.{AreInTime, CanTouch, CanTouchAll, places, touched_at}
@@ -32,23 +32,23 @@ use Rattle.sharing_rules.specs.Lines.{grid_line}
 use Rattle.line_tracks.specs.Laws.WordLines.{inside-held}
 
 -- one place has one name
-same_names : (N : Names) (g : Grid) (xs : List Kept) (j q : LineKind) (k l i : ℕ) → IsNamed N g xs
+same_names : (N : Names) (g : Grid) (xs : List TrackValue) (j q : LineKind) (k l i : ℕ) → IsNamed N g xs
     → N j k ≡ Some i → N q l ≡ Some i
     → (j ≡ q) × (k ≡ l)
 same_names N g xs j q k l i named one other =
     let v = named.named j k i one in
     let w = named.named q l i other in
     let same : v.0 ≡ w.0 = same_Some v.0 w.0 (sym v.1 ∙ w.1) in (
-      sym v.2 ∙ ap (λ (x : Kept). x.kind) same ∙ w.2,
+      sym v.2 ∙ ap (λ (x : TrackValue). x.kind) same ∙ w.2,
       sym v.3
-          ∙ ap (λ (x : Kept). line_of_base g x.range) same ∙ w.3,
+          ∙ ap (λ (x : TrackValue). line_of_base g x.range) same ∙ w.3,
     )
 
 unlike : (j q : LineKind) → rank j ≢ rank q → j ≡ q → ⊥
 unlike j q other e = other (ap rank e)
 
 -- a shifted track is of no line 0
-low : (N : Names) (g : Grid) (xs : List Kept) (k i : ℕ) → IsNamed N g xs → N Shifted k ≡ Some i
+low : (N : Names) (g : Grid) (xs : List TrackValue) (k i : ℕ) → IsNamed N g xs → N Shifted k ≡ Some i
     → 1 ≤ k
 low N g xs k i named e =
     let w = named.named Shifted k i e in
@@ -66,7 +66,7 @@ doubled_place f k i e =
     ]
 
 -- no two of the four places are the same
-pub places-apart : (f : ℕ → LineEntry) (g : Grid) (xs : List Kept) (k : ℕ)
+pub places-apart : (f : ℕ → LineEntry) (g : Grid) (xs : List TrackValue) (k : ℕ)
     → IsNamed (names_in f) g xs
     → AreApart (places f k).own (places f k).shifted (places f k).below (places f k).doubled
 places-apart f g xs k named = record {
@@ -91,7 +91,7 @@ places-apart f g xs k named = record {
 }
 
 -- a place that is named is that of a track in time
-named-can : (f : ℕ → LineEntry) (g : Grid) (xs : List Kept) (p : ℕ) (j : LineKind) (q : ℕ)
+named-can : (f : ℕ → LineEntry) (g : Grid) (xs : List TrackValue) (p : ℕ) (j : LineKind) (q : ℕ)
     → IsNamed (names_in f) g xs → AreInTime xs p
     → CanTouch xs p (names_in f j q)
 named-can f g xs p j q named times = record {
@@ -99,7 +99,7 @@ named-can f g xs p j q named times = record {
   in_time = λ i x e at. times i x at;
 }
 
-doubled-can : (f : ℕ → LineEntry) (g : Grid) (xs : List Kept) (p k : ℕ) → IsNamed (names_in f) g xs
+doubled-can : (f : ℕ → LineEntry) (g : Grid) (xs : List TrackValue) (p k : ℕ) → IsNamed (names_in f) g xs
     → AreInTime xs p
     → CanTouch xs p (places f k).doubled
 doubled-can f g xs p k named times = record {
@@ -109,14 +109,14 @@ doubled-can f g xs p k named times = record {
 }
 
 -- there is a track at each place below the length
-pub slice_get-get_or_at : (xs : List Kept) (i : ℕ) → i < length xs → (x : Kept)
+pub slice_get-get_or_at : (xs : List TrackValue) (i : ℕ) → i < length xs → (x : TrackValue)
     × (slice_get xs i ≡ Some x)
 slice_get-get_or_at [] i h = absurd (omega (arith, h))
 slice_get-get_or_at (x ∷ xs) zero h = (x, refl)
 slice_get-get_or_at (x ∷ xs) (suc i) h = slice_get-get_or_at xs i (omega arith)
 
 -- it stays so after another place was touched
-can-after : (p : ℕ) (a : Touch) (o q : Option ℕ) (xs : List Kept)
+can-after : (p : ℕ) (a : Touch) (o q : Option ℕ) (xs : List TrackValue)
     → ((i : ℕ) → o ≡ Some i → q ≢ Some i) → CanTouch xs p q
     → CanTouch (touched_at p a o xs) p q
 can-after p a o q xs apart can = record {
@@ -137,7 +137,7 @@ can-after p a o q xs apart can = record {
         let some = slice_get-get_or_at xs i within in
         none-some some.0 (sym none ∙ some.1)
 
-pub places-can : (f : ℕ → LineEntry) (g : Grid) (xs : List Kept) (p : ℕ) (a : Touch) (k : ℕ)
+pub places-can : (f : ℕ → LineEntry) (g : Grid) (xs : List TrackValue) (p : ℕ) (a : Touch) (k : ℕ)
     → IsNamed (names_in f) g xs → AreInTime xs p
     → CanTouchAll xs p a (places f k)
 places-can f g xs p a k named times =
@@ -185,13 +185,13 @@ holds-placed f k j i Doubled o odd (inr next) e n₁ n₂ n₃ n₄ =
     n₄ (ap (λ b. if b then (f k).doubled else (f (k - 1)).doubled) (even_of k j next (odd refl))
     ∙ ap (λ q. (f q).doubled) (below_of k j next) ∙ e)
 
-odd_line : (g : Grid) (j : ℕ) (kind : LineKind) (x : Kept) → x.kind ≡ kind
+odd_line : (g : Grid) (j : ℕ) (kind : LineKind) (x : TrackValue) → x.kind ≡ kind
     → IsShaped g j x.kind x.range → kind ≡ Doubled → j % 2 ≡ 1
 odd_line g j kind x same shaped is = let s : IsShaped g j Doubled x.range =
     subst (λ z. IsShaped g j z x.range) (same ∙ is) shaped in s.0
 
 -- the tracks at the places noted one after the other are all tracks that hold the address noted
-pub places-touched : (f : ℕ → LineEntry) (g : Grid) (xs : List Kept) (p : ℕ) (a : Touch)
+pub places-touched : (f : ℕ → LineEntry) (g : Grid) (xs : List TrackValue) (p : ℕ) (a : Touch)
     → g.offset < g.size → IsNamed (names_in f) g xs
     → touched_places p a (places f (number_of g a)) xs ≡ map (touched p a) xs
 places-touched f g xs p a small named =
@@ -211,7 +211,7 @@ places-touched f g xs p a small named =
     ])
 
 -- the entries name the tracks that were noted, after more writes
-pub indexed-touched : (f h : ℕ → LineEntry) (g : Grid) (xs : List Kept) (T p : ℕ) (a : Touch)
+pub indexed-touched : (f h : ℕ → LineEntry) (g : Grid) (xs : List TrackValue) (T p : ℕ) (a : Touch)
     → IsIndexed f g xs T p
     → names_in h ≡ names_in f → ((q : ℕ) → (f q).writes ≤ (h q).writes)
     → ((q : ℕ) → (h q).writes ≤ p + 1)
@@ -237,7 +237,7 @@ indexed-touched f h g xs T p a indexed same more few = record {
 -- A line's own track and the doubled one of its even pair hold each address of the line.
 
 -- it does so after another place was touched
-held-after : (p : ℕ) (a : Touch) (o q : Option ℕ) (xs : List Kept)
+held-after : (p : ℕ) (a : Touch) (o q : Option ℕ) (xs : List TrackValue)
     → ((i : ℕ) → o ≡ Some i → q ≢ Some i) → HoldsAt xs a.addr q
     → HoldsAt (touched_at p a o xs) a.addr q
 held-after p a o q xs apart held = λ i x e at. held i x e
@@ -262,7 +262,7 @@ doubled-held g j a r small shaped low high =
     rw (shaped.2, shaped.1)
     (two_hold (j * g.size + g.offset) g.size a (omega arith) (omega arith))
 
-pub places-held : (f : ℕ → LineEntry) (g : Grid) (xs : List Kept) (p : ℕ) (a : Touch) (k : ℕ)
+pub places-held : (f : ℕ → LineEntry) (g : Grid) (xs : List TrackValue) (p : ℕ) (a : Touch) (k : ℕ)
     → g.offset < g.size → k ≡ number_of g a → IsNamed (names_in f) g xs
     → AreHeld xs p a (places f k)
 places-held f g xs p a k small line named =

@@ -8,36 +8,36 @@ use Rattle.std.specs.Option.{option_map_or}
 use Rattle.base.specs.Touch.{Touch}
 use Rattle.base.specs.Ranges.{holds_address}
 use Rattle.sharing_rules.specs.Laws.Lists.{get-set_same}
-use Rattle.line_tracks.specs.Kept.{CanRestore, Kept, Marked, mark_of, note_kept}
+use Rattle.line_tracks.specs.TrackValue.{CanRestore, TrackValue, Marked, mark_of, note_kept}
 use Rattle.detector.specs.declared.undo.Undo.{Undo}
 use Rattle.detector.specs.Noting.{Undoes, UndoesNote, touched_at}
 use Rattle.detector.specs.Watch.{touched}
 
-set_back : (xs : List Kept) (i : ℕ) (x : Kept) → slice_get xs i ≡ Some x → slice_set xs i x ≡ xs
+set_back : (xs : List TrackValue) (i : ℕ) (x : TrackValue) → slice_get xs i ≡ Some x → slice_set xs i x ≡ xs
 set_back xs i x at = ap (slice_set xs i) (sym (get_or_from_slice_get xs i x x at))
     ∙ set-get_or xs i x
 
-touched-at : (p : ℕ) (a : Touch) (xs : List Kept) (i : ℕ) (x : Kept) (o : Option ℕ) → o ≡ Some i
+touched-at : (p : ℕ) (a : Touch) (xs : List TrackValue) (i : ℕ) (x : TrackValue) (o : Option ℕ) → o ≡ Some i
     → slice_get xs i ≡ Some x
     → touched_at p a o xs ≡ slice_set xs i (touched p a x)
 touched-at p a xs i x o is at = ap (λ q. touched_at p a q xs) is
     ∙ ap (λ q. option_map_or (λ z. slice_set xs i (touched p a z)) q xs) at
 
-pub touched-misses : (p : ℕ) (a : Touch) (xs : List Kept) (i : ℕ) (x : Kept) (o : Option ℕ) → o
+pub touched-misses : (p : ℕ) (a : Touch) (xs : List TrackValue) (i : ℕ) (x : TrackValue) (o : Option ℕ) → o
     ≡ Some i → slice_get xs i ≡ Some x
     → holds_address x.range a.addr ≡ false → xs ≡ touched_at p a o xs
 touched-misses p a xs i x o is at misses =
     sym (touched-at p a xs i x o is at ∙ ap (λ b. slice_set xs i (if b then note_kept x p a else x))
     misses ∙ set_back xs i x at)
 
-pub touched-holds : (p : ℕ) (a : Touch) (xs : List Kept) (i : ℕ) (x : Kept) (o : Option ℕ) → o
+pub touched-holds : (p : ℕ) (a : Touch) (xs : List TrackValue) (i : ℕ) (x : TrackValue) (o : Option ℕ) → o
     ≡ Some i → slice_get xs i ≡ Some x
     → holds_address x.range a.addr ≡ true → touched_at p a o xs ≡ slice_set xs i (note_kept x p a)
 touched-holds p a xs i x o is at holds = touched-at p a xs i x o is at
     ∙ ap (λ b. slice_set xs i (if b then note_kept x p a else x)) holds
 
 -- the mark of a track undoes its note
-pub undoes-note : (xs ys : List Kept) (i p : ℕ) (a : Touch) (x : Kept) (m : Marked)
+pub undoes-note : (xs ys : List TrackValue) (i p : ℕ) (a : Touch) (x : TrackValue) (m : Marked)
     → slice_get xs i ≡ Some x → ys ≡ slice_set xs i (note_kept x p a) → m ≡ mark_of x a.addr
     → CanRestore (note_kept x p a) m → UndoesNote (record { place = i; mark = m }) ys xs
 undoes-note xs ys i p a x m at is marked ready = record {
@@ -52,7 +52,7 @@ undoes-note xs ys i p a x m at is marked ready = record {
 }
 
 -- what takes some tracks back takes the same tracks back
-pub taken-on : (o : Option Undo) (zs ys xs : List Kept) → zs ≡ ys → Undoes o ys xs → Undoes o zs xs
+pub taken-on : (o : Option Undo) (zs ys xs : List TrackValue) → zs ≡ ys → Undoes o ys xs → Undoes o zs xs
 taken-on o zs ys xs same undoes = subst (λ ws. Undoes o ws xs) (sym same) undoes
 
 at_most : (o : Option ℕ) → (if is_some o then 1 else 0) ≤ 1

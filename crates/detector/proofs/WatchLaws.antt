@@ -8,7 +8,7 @@ use Rattle.std.proofs.lemmas.Option.{slice_get-map, slice_get_cases, none-some}
 use Rattle.std.specs.Prelude.{if◌then◌else◌, not, option_map, slice_get}
 use Rattle.base.specs.Touch.{Touch, is_write}
 use Rattle.sharing_rules.specs.Laws.Lists.{slice_get-append_left}
-use Rattle.line_tracks.specs.Kept.{Kept}
+use Rattle.line_tracks.specs.TrackValue.{TrackValue}
 use Rattle.detector.specs.Changes.{AddNoTracks, adds_no_track, touched_all, watched_all}
 use Rattle.detector.specs.Counts.{count_at}
 use Rattle.detector.specs.Named.{number_of}
@@ -31,12 +31,12 @@ writes_counted w a k = elim (cases_Bool (is_write a.kind)) [
 ]
 
 -- the tracks that were there stand before those that are added
-pub tracks_touched : (w : Watch) (a : Touch) (i : ℕ) (x : Kept) → slice_get w.tracks i ≡ Some x
+pub tracks_touched : (w : Watch) (a : Touch) (i : ℕ) (x : TrackValue) → slice_get w.tracks i ≡ Some x
     → slice_get (watched w a).tracks i ≡ Some (touched w.position a x)
 tracks_touched w a i x at =
     let k = number_of w.grid a in
     let old = map (touched w.position a) w.tracks in
-    let own : List Kept = if begins_track w.levels.tracking w.writes k a
+    let own : List TrackValue = if begins_track w.levels.tracking w.writes k a
     then begun w.grid k w.position a ∷ [] else [] in
     let more = opened_tracks (opens_at w k a (tracks_noted w k a)) in
     let within : i < length w.tracks = elim (slice_get_cases w.tracks i).1 [
@@ -60,11 +60,11 @@ kept_alone w a none =
     let searches = not-true (searches_at w a) parts.1 in
     rw (searches, begins) (simp append-nil)
 
-map-twice : (f g : Kept → Kept) (xs : List Kept) → map g (map f xs) ≡ map (λ x. g (f x)) xs
+map-twice : (f g : TrackValue → TrackValue) (xs : List TrackValue) → map g (map f xs) ≡ map (λ x. g (f x)) xs
 map-twice f g [] = refl
 map-twice f g (x ∷ xs) = ap (λ ys. g (f x) ∷ ys) (map-twice f g xs)
 
-map-itself : (xs : List Kept) → xs ≡ map (λ x. x) xs
+map-itself : (xs : List TrackValue) → xs ≡ map (λ x. x) xs
 map-itself [] = refl
 map-itself (x ∷ xs) = ap (λ ys. x ∷ ys) (map-itself xs)
 

@@ -5,7 +5,7 @@ use Rattle.std.specs.FinMap as finite
 use Rattle.base.specs.Levels.{Levels}
 use Rattle.base.specs.Lines.{Grid}
 use Rattle.sharing_rules.specs.declared.line_kind.LineKind.TheVariants.{Observed}
-use Rattle.line_tracks.specs.Kept.{IsBlank, IsInTime, Kept}
+use Rattle.line_tracks.specs.TrackValue.{IsBlank, IsInTime, TrackValue}
 use Rattle.detector.specs.Counts.{count_at, no_writes}
 use Rattle.detector.specs.Index.{IsShaped}
 use Rattle.detector.specs.Named.{line_of_base, track_named}
@@ -26,7 +26,7 @@ abbrev pub with_written : Watch → ℕ → ℕ → Watch
 with_written w k n = record w { writes = finite.insert w.writes k n }
 
 -- a track behind the others
-abbrev pub with_track : Watch → Kept → Watch
+abbrev pub with_track : Watch → TrackValue → Watch
 with_track w x = record w { tracks = w.tracks ++ x ∷ [] }
 
 -- A line that isn't there yet, and was written no more often than there were accesses.
@@ -38,7 +38,7 @@ pub record CanAddLine (w : Watch) (k n : ℕ) : Type 0 where
 
 -- A track of a written line that has none of its kind yet: a line's own where the line was written
 -- often enough, in time, and blank without a start.
-pub record CanAddTrack (w : Watch) (x : Kept) : Type 0 where
+pub record CanAddTrack (w : Watch) (x : TrackValue) : Type 0 where
   pub fresh : track_named w.grid x.kind (line_of_base w.grid x.range) w.tracks ≡ None
   pub shaped : IsShaped w.grid (line_of_base w.grid x.range) x.kind x.range
   pub written : 0 < count_at w.writes (line_of_base w.grid x.range)

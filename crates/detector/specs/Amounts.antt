@@ -5,14 +5,14 @@ use Rattle.base.specs.Ranges.{holds_address}
 use Rattle.sharing_rules.specs.Listed.{rank}
 use Rattle.sharing_rules.specs.declared.line_kind.LineKind.{LineKind}
 use Rattle.sharing_rules.specs.declared.line_kind.LineKind.TheVariants as kind
-use Rattle.line_tracks.specs.Kept.{Kept}
+use Rattle.line_tracks.specs.TrackValue.{TrackValue}
 use Rattle.detector.specs.Watch.{Watch}
 
-abbrev pub is_of : LineKind → Kept → Bool
+abbrev pub is_of : LineKind → TrackValue → Bool
 is_of kind x = rank x.kind == rank kind
 
 -- how many tracks there are of a kind
-abbrev pub kind_count : LineKind → List Kept → ℕ
+abbrev pub kind_count : LineKind → List TrackValue → ℕ
 kind_count kind tracks = count_by (is_of kind) tracks
 
 abbrev pub observed_count : Watch → ℕ

@@ -1,7 +1,7 @@
 -- What accesses change of a detector's value, also of one that no list has.
 use Rattle.std.specs.Prelude.{ℕ, ◌+◌, Bool, not, ◌&&◌, List, [], ◌∷◌, IsTrue}
 use Rattle.base.specs.Touch.{Touch}
-use Rattle.line_tracks.specs.Kept.{Kept}
+use Rattle.line_tracks.specs.TrackValue.{TrackValue}
 use Rattle.detector.specs.Named.{number_of}
 use Rattle.detector.specs.Watch.{Watch, begins_track, searches_at, touched, watched}
 
@@ -11,7 +11,7 @@ watched_all w [] = w
 watched_all w (a ∷ t) = watched_all (watched w a) t
 
 -- a track after each of them, the first of which has a position
-abbrev pub touched_all : ℕ → List Touch → Kept → Kept
+abbrev pub touched_all : ℕ → List Touch → TrackValue → TrackValue
 touched_all position [] x = x
 touched_all position (a ∷ t) x = touched_all (position + 1) t (touched position a x)
 

@@ -7,7 +7,7 @@ use Rattle.detector.specs.declared.line_entry.LineEntry.{LineEntry}
 use Rattle.sharing_rules.specs.Lines.{grid_line, range_of}
 use Rattle.sharing_rules.specs.declared.line_kind.LineKind.{LineKind}
 use Rattle.sharing_rules.specs.declared.line_kind.LineKind.TheVariants.{Observed, Shifted, Doubled}
-use Rattle.line_tracks.specs.Kept.{IsBlank, IsInTime, Kept}
+use Rattle.line_tracks.specs.TrackValue.{IsBlank, IsInTime, TrackValue}
 use Rattle.detector.specs.Named.{line_of_base}
 
 -- the place that an entry names for a kind of track
@@ -39,21 +39,21 @@ IsShaped g k Doubled r =
 
 -- Each track is named once, by the entry of the line in which it begins and under its kind, and no
 -- other place is named.
-pub record IsNamed (names : Names) (g : Grid) (tracks : List Kept) : Type 0 where
-  pub placed : (i : ℕ) (x : Kept) → slice_get tracks i ≡ Some x
+pub record IsNamed (names : Names) (g : Grid) (tracks : List TrackValue) : Type 0 where
+  pub placed : (i : ℕ) (x : TrackValue) → slice_get tracks i ≡ Some x
       → names x.kind (line_of_base g x.range) ≡ Some i
   pub named : (kind : LineKind) (k i : ℕ) → names kind k ≡ Some i
-      → (x : Kept) × (slice_get tracks i ≡ Some x) × (x.kind ≡ kind) × (line_of_base g x.range ≡ k)
-  pub shaped : (i : ℕ) (x : Kept) → slice_get tracks i ≡ Some x
+      → (x : TrackValue) × (slice_get tracks i ≡ Some x) × (x.kind ≡ kind) × (line_of_base g x.range ≡ k)
+  pub shaped : (i : ℕ) (x : TrackValue) → slice_get tracks i ≡ Some x
       → IsShaped g (line_of_base g x.range) x.kind x.range
 
 -- The entries name the tracks. A line that has a track of its own was written at least T times; no
 -- line was written more often than there were accesses, and each track is in time.
-pub record IsIndexed (entry_of : ℕ → LineEntry) (g : Grid) (tracks : List Kept) (T position : ℕ) :
+pub record IsIndexed (entry_of : ℕ → LineEntry) (g : Grid) (tracks : List TrackValue) (T position : ℕ) :
     Type 0 where
   pub names : IsNamed (names_in entry_of) g tracks
   pub late : (k i : ℕ) → (entry_of k).track ≡ Some i → T ≤ (entry_of k).writes
   pub written : (k : ℕ) → (entry_of k).writes ≤ position
-  pub in_time : (i : ℕ) (x : Kept) → slice_get tracks i ≡ Some x → IsInTime x position
-  pub blank : (i : ℕ) (x : Kept) → slice_get tracks i ≡ Some x → x.start ≡ None → IsBlank x
+  pub in_time : (i : ℕ) (x : TrackValue) → slice_get tracks i ≡ Some x → IsInTime x position
+  pub blank : (i : ℕ) (x : TrackValue) → slice_get tracks i ≡ Some x → x.start ≡ None → IsBlank x
   pub few : length tracks ≤ 2 ^ 31

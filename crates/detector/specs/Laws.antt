@@ -1,4 +1,4 @@
 -- The laws of the definitions, by what they are about.
 pub mod Entries
 pub mod Standing
-pub mod PlaceFields
+pub mod TrackNumberFields

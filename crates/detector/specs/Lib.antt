@@ -13,7 +13,7 @@ pub mod Openings
 pub mod PagedEntries
 pub mod Pages
 pub mod Pairs
-pub mod PlaceFields
+pub mod TrackNumberFields
 pub mod Quiet
 pub mod Standing
 pub mod Tasks

@@ -10,7 +10,7 @@ use Rattle.sharing_rules.specs.Opened.{even_lower}
 use Rattle.sharing_rules.specs.Predicted.{doubled_line, is_native_size, shifted_around}
 use Rattle.sharing_rules.specs.Predicted.{word_address}
 use Rattle.sharing_rules.specs.declared.line_kind.LineKind.TheVariants.{Observed, Shifted, Doubled}
-use Rattle.line_tracks.specs.Kept.{Kept}
+use Rattle.line_tracks.specs.TrackValue.{TrackValue}
 use Rattle.line_tracks.specs.declared.pair.Pair.{Pair}
 use Rattle.detector.specs.declared.openings.Around.{Around}
 use Rattle.detector.specs.declared.openings.Openings.{Openings}
@@ -19,7 +19,7 @@ use Rattle.detector.specs.Named.{track_named}
 use Rattle.detector.specs.Openings.{best_of_two}
 
 -- the track at a place, if one is named
-abbrev pub kept_at : List Kept → Option ℕ → Option Kept
+abbrev pub kept_at : List TrackValue → Option ℕ → Option TrackValue
 kept_at tracks place = option_and_then (slice_get tracks) place
 
 -- a native line that lies below 2^32
@@ -29,32 +29,32 @@ pub record IsNativeLine (n k : ℕ) : Type 0 where
   pub small : k + 1 ≤ 2 ^ 30
 
 -- the track at a place, if one is named, is that of line k of n bytes
-pub record IsOwnPlace (n k : ℕ) (tracks : List Kept) (place : Option ℕ) : Type 0 where
+pub record IsOwnPlace (n k : ℕ) (tracks : List TrackValue) (place : Option ℕ) : Type 0 where
   pub within : (i : ℕ) → place ≡ Some i → i < length tracks
-  pub range : (x : Kept) → kept_at tracks place ≡ Some x → x.range ≡ range_of (native_line n k)
-  pub reached : (x : Kept) → kept_at tracks place ≡ Some x → IsNativeLine n k
+  pub range : (x : TrackValue) → kept_at tracks place ≡ Some x → x.range ≡ range_of (native_line n k)
+  pub reached : (x : TrackValue) → kept_at tracks place ≡ Some x → IsNativeLine n k
 
 -- the places of the tracks of lines k and k+1 of n bytes
-pub record ArePair (n k : ℕ) (tracks : List Kept) (lower upper : Option ℕ) : Type 0 where
+pub record ArePair (n k : ℕ) (tracks : List TrackValue) (lower upper : Option ℕ) : Type 0 where
   pub native : IsTrue (is_native_size n)
   pub below : IsOwnPlace n k tracks lower
   pub above : IsOwnPlace n (k + 1) tracks upper
 
 -- what opens for such a pair
-abbrev pub shifted_between : ℕ → ℕ → List Kept → LineEntry → LineEntry → Option Range
+abbrev pub shifted_between : ℕ → ℕ → List TrackValue → LineEntry → LineEntry → Option Range
 shifted_between n k tracks lower upper =
     if is_some lower.shifted then None
     else option_map (λ p. range_of (shifted_around n k p))
     (best_of_two (kept_at tracks lower.track) (kept_at tracks upper.track) n)
 
-abbrev pub doubled_between : ℕ → ℕ → List Kept → LineEntry → LineEntry → Option Range
+abbrev pub doubled_between : ℕ → ℕ → List TrackValue → LineEntry → LineEntry → Option Range
 doubled_between n k tracks lower upper =
     if is_some lower.doubled then None
     else option_map (λ p. range_of (doubled_line n k))
     (best_of_two (kept_at tracks lower.track) (kept_at tracks upper.track) (2 * n))
 
 -- the entries of lines k and k+1 name the tracks
-pub record AreNamedPair (g : Grid) (k : ℕ) (tracks : List Kept) (lower upper : LineEntry)
+pub record AreNamedPair (g : Grid) (k : ℕ) (tracks : List TrackValue) (lower upper : LineEntry)
     : Type 0 where
   pub own : ArePair g.size k tracks lower.track upper.track
   pub lower_own : track_named g Observed k tracks ≡ kept_at tracks lower.track
@@ -63,13 +63,13 @@ pub record AreNamedPair (g : Grid) (k : ℕ) (tracks : List Kept) (lower upper :
   pub doubled : is_some (track_named g Doubled k tracks) ≡ is_some lower.doubled
 
 -- the entries of line k and of its neighbours do
-pub record AreAround (g : Grid) (k : ℕ) (tracks : List Kept) (e : Around) : Type 0 where
+pub record AreAround (g : Grid) (k : ℕ) (tracks : List TrackValue) (e : Around) : Type 0 where
   pub some : 1 ≤ k
   pub lower : AreNamedPair g (k - 1) tracks e.below e.here
   pub upper : AreNamedPair g k tracks e.here e.above
 
 -- the best hot pair of two such lines, by the addresses of its words
-pub record IsPairOf (n k : ℕ) (tracks : List Kept) (lower upper : Option ℕ) (within : ℕ)
+pub record IsPairOf (n k : ℕ) (tracks : List TrackValue) (lower upper : Option ℕ) (within : ℕ)
     (pair : Pair) : Type 0 where
   pub places : ℕ × ℕ
   pub best : best_of_two (kept_at tracks lower) (kept_at tracks upper) within ≡ Some places

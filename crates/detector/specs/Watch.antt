@@ -11,7 +11,7 @@ use Rattle.base.specs.Ranges.{holds_address}
 use Rattle.sharing_rules.specs.Lines.{grid_line, range_of}
 use Rattle.sharing_rules.specs.declared.line_kind.LineKind.TheVariants.{Observed}
 use Rattle.detector.specs.Entries.{Entries}
-use Rattle.line_tracks.specs.Kept.{Kept, note_kept, waiting}
+use Rattle.line_tracks.specs.TrackValue.{TrackValue, note_kept, waiting}
 use Rattle.detector.specs.declared.openings.Openings.{Openings}
 use Rattle.detector.specs.Counts.{Counts, count_at, counts_of, no_writes, with_write}
 use Rattle.detector.specs.Named.{number_of}
@@ -22,10 +22,10 @@ pub record Watch : Type 0 where
   pub grid : Grid
   pub levels : Levels
   pub writes : Counts
-  pub tracks : List Kept
+  pub tracks : List TrackValue
 
 -- what an index and tracks mean under a layout and thresholds, at a position
-abbrev pub watch_of : Entries → List Kept → Grid → Levels → ℕ → Watch
+abbrev pub watch_of : Entries → List TrackValue → Grid → Levels → ℕ → Watch
 watch_of m tracks g v position = record {
   position = position;
   grid = g;
@@ -40,19 +40,19 @@ abbrev pub nothing_seen : Grid → Levels → Watch
 nothing_seen g v = record { position = 0; grid = g; levels = v; writes = no_writes; tracks = [] }
 
 -- a track is noted if its range holds the address
-abbrev pub touched : ℕ → Touch → Kept → Kept
+abbrev pub touched : ℕ → Touch → TrackValue → TrackValue
 touched position a x = if holds_address x.range a.addr then note_kept x position a else x
 
 -- whether an access of line k is its T-th write, and the track that begins there
 abbrev pub begins_track : ℕ → Counts → ℕ → Touch → Bool
 begins_track T writes k a = is_write a.kind && (count_at writes k + 1 == T)
 
-abbrev pub begun : Grid → ℕ → ℕ → Touch → Kept
+abbrev pub begun : Grid → ℕ → ℕ → Touch → TrackValue
 begun g k position a = note_kept (waiting Observed (range_of (grid_line g k))) position a
 
 -- the tracks in which an access of line k is noted: those that were there, and the line's own from
 -- its T-th write on
-abbrev pub tracks_noted : Watch → ℕ → Touch → List Kept
+abbrev pub tracks_noted : Watch → ℕ → Touch → List TrackValue
 tracks_noted w k a =
     map (touched w.position a) w.tracks
     ++ (if begins_track w.levels.tracking w.writes k a then begun w.grid k w.position a ∷ []
@@ -65,7 +65,7 @@ is_search prediction writes k a = option_map_or
     (λ P. is_write a.kind && ((count_at writes k + 1) % P == 0)) prediction false
 
 -- what opens at an access of line k, over the tracks in which it is noted
-abbrev pub opens_at : Watch → ℕ → Touch → List Kept → Openings
+abbrev pub opens_at : Watch → ℕ → Touch → List TrackValue → Openings
 opens_at w k a noted = if is_search w.levels.prediction w.writes k a then openings w.grid k noted
     else nothing_opens
 
@@ -74,7 +74,7 @@ abbrev pub writes_after : ℕ → Touch → Counts → Counts
 writes_after k a writes = if is_write a.kind then with_write writes k else writes
 
 -- the tracks after an access of line k
-abbrev pub tracks_after : Watch → ℕ → Touch → List Kept
+abbrev pub tracks_after : Watch → ℕ → Touch → List TrackValue
 tracks_after w k a = tracks_noted w k a ++ opened_tracks (opens_at w k a (tracks_noted w k a))
 
 -- one access more

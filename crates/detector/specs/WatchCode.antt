@@ -8,7 +8,7 @@ use Rattle.sharing_rules.specs.declared.line_kind.LineKind.TheVariants.{Observed
 use Rattle.sharing_rules.specs.declared.word.Owner.{Owner}
 use Rattle.sharing_rules.specs.declared.word.Owner.TheVariants as owner
 use Rattle.sharing_rules.specs.declared.word.Word.{Word}
-use Rattle.line_tracks.specs.Kept.{Kept}
+use Rattle.line_tracks.specs.TrackValue.{TrackValue}
 use Rattle.detector.specs.Counts.{Counts}
 use Rattle.detector.specs.Watch.{Watch}
 
@@ -51,7 +51,7 @@ word_code =
     (λ w. (w.reads, (w.writes, w.owner)))
     (λ p. record { reads = p.0; writes = p.1.0; owner = p.1.1 }) (λ _. refl)
 
-abbrev kept_code : Coded Kept
+abbrev kept_code : Coded TrackValue
 kept_code =
     code_by (LineKind × ((ℤ × ℕ) × (Option ℕ × (List ℕ × (ℕ × List Word)))))
     (coded× kind_code
@@ -72,7 +72,7 @@ kept_code =
 -- the position, the layout, the thresholds, the counts and the tracks
 abbrev pub watch_code : Coded Watch
 watch_code =
-    code_by (ℕ × ((ℕ × ℕ) × ((ℕ × (Option ℕ × ℕ)) × (Counts × List Kept))))
+    code_by (ℕ × ((ℕ × ℕ) × ((ℕ × (Option ℕ × ℕ)) × (Counts × List TrackValue))))
     (coded× coded_ℕ
     (coded× (coded× coded_ℕ coded_ℕ)
     (coded× (coded× coded_ℕ (coded× (coded_option coded_ℕ) coded_ℕ))

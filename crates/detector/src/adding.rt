@@ -4,20 +4,20 @@ ghost use Rattle.std.specs.Prelude.{List, OnOk, OnErr};
 ghost use Rattle.std.specs.FinMap as finite;
 ghost use Rattle.detector.specs.Entries.{entry_at};
 ghost use Rattle.base.specs.Lines.{Grid};
-ghost use Rattle.line_tracks.specs.Kept.{Kept, saved};
+ghost use Rattle.line_tracks.specs.TrackValue.{TrackValue, saved};
 ghost use Rattle.detector.specs.Added.{IsAddable};
 ghost use Rattle.detector.specs.Counts.{counts_of};
 ghost use Rattle.detector.specs.Index.{IsIndexed, place_in};
 ghost use Rattle.detector.specs.Named.{line_of_base};
 
 use crate::task::name;
-use crate::{LineEntry, LineIndex, Place};
+use crate::{LineEntry, LineIndex, TrackNumber};
 use base::{Layout, NoMemory, Range, Thresholds};
 use line_tracks::{History, LineKind, Shadow, Tracks};
 use sharing_rules::number_of_base;
 
 /// The place that an entry names for a kind of track.
-pub fn place_of(entry: &LineEntry, kind: LineKind) -> Option<u32>
+pub fn named_track(entry: &LineEntry, kind: LineKind) -> Option<u32>
     ensures { result ≡ place_in entry.now kind }
 {
     match kind {
@@ -34,7 +34,7 @@ pub fn set_writes<I: LineIndex>(index: &mut I, line: u64, writes: u64) -> Result
     requires fresh { (entry_at (I.entries index.old) line).writes ≡ 0 }
     ensures counts { OnOk result (counts_of (I.entries index.new)
         ≡ finite.insert (counts_of (I.entries index.old)) line writes) }
-    ensures indexed { (g : Grid) (xs : List Kept) (T p : ℕ) → writes ≤ p
+    ensures indexed { (g : Grid) (xs : List TrackValue) (T p : ℕ) → writes ≤ p
         → IsIndexed (entry_at (I.entries index.old)) g xs T p
         → IsIndexed (entry_at (I.entries index.new)) g xs T p }
     ensures same { OnErr result (I.entries index.new ≡ I.entries index.old) }
@@ -83,7 +83,7 @@ pub fn add_saved<I: LineIndex>(
     let line = line_of(layout, shadow.range());
     match tracks.add_saved(kind, shadow, start, count) {
         Ok(place) => {
-            name(index, line, kind, Place::at(place));
+            name(index, line, kind, TrackNumber::at(place));
             Ok(())
         }
         Err(refused) => Err(refused),

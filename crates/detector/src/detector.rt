@@ -5,7 +5,7 @@ ghost use Rattle.std.specs.Prelude.{OnErr, ℕ, IfSome, IfNone, Some, is_some, s
 ghost use Rattle.sharing_rules.specs.AccessLists.{AccessList};
 ghost use Rattle.detector.specs.Entries.{no_entries};
 ghost use Rattle.sharing_rules.specs.Listed.{may_predict};
-ghost use Rattle.line_tracks.specs.Kept.{Kept, saved};
+ghost use Rattle.line_tracks.specs.TrackValue.{TrackValue, saved};
 ghost use Rattle.line_tracks.specs.Placed.{AreApart};
 ghost use Rattle.detector.specs.Adding.{CanAddLine, CanAddTrack, nothing_kept, with_track};
 ghost use Rattle.detector.specs.Adding.{with_written};
@@ -19,7 +19,7 @@ ghost use Rattle.detector.specs.Standing.{HasEach, StandsFor};
 ghost use Rattle.detector.specs.Watch.{nothing_seen, searches_at, takes_memory, watched};
 
 use crate::LineIndex;
-use crate::adding::{add_saved, place_of, set_writes};
+use crate::adding::{add_saved, named_track, set_writes};
 use crate::dues::Dues;
 use crate::line_entry::LAST_LINE;
 use crate::touch::touch;
@@ -248,7 +248,7 @@ impl<I: LineIndex> Detector<I> {
         requires { line ≤ 2 ^ 30 }
         ensures { result ≡ is_some (track_named self.now.grid kind line self.now.tracks) }
     {
-        place_of(&self.index.peek(line), kind).is_some()
+        named_track(&self.index.peek(line), kind).is_some()
     }
 
     /// All that is kept, in the order in which it came to be kept: a track for each line that was
@@ -269,7 +269,7 @@ impl<I: LineIndex> Detector<I> {
         ensures value { result.now ≡ self.now.tracks }
         // no two have one kind and one base, and each lies as its kind says
         ensures apart { AreApart self.now.tracks }
-        ensures shaped { (i : ℕ) (x : Kept) → slice_get self.now.tracks i ≡ Some x
+        ensures shaped { (i : ℕ) (x : TrackValue) → slice_get self.now.tracks i ≡ Some x
             → IsShaped self.now.grid (line_of_base self.now.grid x.range) x.kind x.range }
         // for each list that it stands for
         ensures told { (t : AccessList) → StandsFor t self.now → HasEach t self.now }

@@ -5,7 +5,7 @@ ghost use Rattle.base.specs.Lines.{is_layout};
 ghost use Rattle.base.specs.Touch.{Touch, is_write};
 ghost use Rattle.sharing_rules.specs.AccessLists.{AccessList};
 ghost use Rattle.sharing_rules.specs.Listed.{may_predict};
-ghost use Rattle.line_tracks.specs.Kept.{Kept};
+ghost use Rattle.line_tracks.specs.TrackValue.{TrackValue};
 ghost use Rattle.detector.specs.Changes.{AddNoTracks, touched_all, watched_all};
 ghost use Rattle.detector.specs.Counts.{count_at};
 ghost use Rattle.detector.specs.Named.{number_of};
@@ -22,7 +22,7 @@ pub fn an_access_changes_what_it_meets()
     ensures writes { (w : Watch) (a : Touch) (k : ℕ) → count_at (watched w a).writes k
         ≡ (if is_write a.kind && (k == number_of w.grid a) then count_at w.writes k + 1
         else count_at w.writes k) }
-    ensures tracks { (w : Watch) (a : Touch) (i : ℕ) (x : Kept) → slice_get w.tracks i ≡ Some x
+    ensures tracks { (w : Watch) (a : Touch) (i : ℕ) (x : TrackValue) → slice_get w.tracks i ≡ Some x
         → slice_get (watched w a).tracks i ≡ Some (touched w.position a x) }
     ensures none_added { (w : Watch) (t : List Touch) → AddNoTracks w t
         → (watched_all w t).tracks ≡ map (touched_all w.position t) w.tracks }

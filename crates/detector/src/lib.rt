@@ -30,7 +30,7 @@ mod write_count;
 
 pub use detector::Detector;
 pub use laws::an_access_changes_what_it_meets;
-pub use line_entry::{LAST_LINE, LineEntry, Place};
+pub use line_entry::{LAST_LINE, LineEntry, TrackNumber};
 pub use line_index::LineIndex;
 pub use line_tracks::Track;
 pub use one_access::see;

@@ -11,40 +11,40 @@ const NOWHERE: u32 = u32::MAX;
 ///
 /// Contracts see it as an option.
 #[derive(Clone, Copy, PartialEq, Eq, Debug)]
-pub struct Place {
+pub struct TrackNumber {
     number: u32,
 }
 
-impl Model for Place {
+impl Model for TrackNumber {
     ghost use Rattle.std.specs.Prelude.{ℕ, Option};
-    ghost use Rattle.detector.specs.PlaceFields.{place_of, fields_of};
-    ghost use Rattle.detector.specs.Laws.PlaceFields.{fields_back};
+    ghost use Rattle.detector.specs.TrackNumberFields.{track_number_of, fields_of};
+    ghost use Rattle.detector.specs.Laws.TrackNumberFields.{fields_back};
 
     ghost Value = { Option ℕ };
 
-    ghost view = { place_of };
+    ghost view = { track_number_of };
 
     ghost inverse = { fields_of };
 
     ghost inverse_ok = { λ a h. fields_back a };
 }
 
-impl Place {
+impl TrackNumber {
     /// No place.
     #[inline(always)]
-    pub fn none() -> Place
+    pub fn none() -> TrackNumber
         ensures { result ≡ None }
     {
-        Place { number: NOWHERE }
+        TrackNumber { number: NOWHERE }
     }
 
     /// A place with a number.
     #[inline(always)]
-    pub fn at(number: u32) -> Place
+    pub fn at(number: u32) -> TrackNumber
         requires { number < 2 ^ 31 }
         ensures { result ≡ Some number }
     {
-        Place { number }
+        TrackNumber { number }
     }
 
     /// Its number, if there is one.
@@ -74,19 +74,19 @@ pub struct LineEntry {
     /// How many writes.
     pub writes: u64,
     /// Where its own track stands, once it has one.
-    pub track: Place,
+    pub track: TrackNumber,
     /// Where its shifted line's track stands, once it has one.
-    pub shifted: Place,
+    pub shifted: TrackNumber,
     /// Where its doubled line's track stands, once it has one.
-    pub doubled: Place,
+    pub doubled: TrackNumber,
 }
 
 /// The entry of a line that was never touched: no write and no track.
 pub const BLANK: LineEntry = LineEntry {
     writes: 0,
-    track: Place { number: NOWHERE },
-    shifted: Place { number: NOWHERE },
-    doubled: Place { number: NOWHERE },
+    track: TrackNumber { number: NOWHERE },
+    shifted: TrackNumber { number: NOWHERE },
+    doubled: TrackNumber { number: NOWHERE },
 };
 
 /// The greatest line number: 2^30, which a line of 4 bytes can have.

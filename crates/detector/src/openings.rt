@@ -11,7 +11,7 @@ ghost use Rattle.detector.specs.Pairs.{AreAround, ArePair, AreShaped, IsPairOf, 
 ghost use Rattle.detector.specs.Pairs.{kept_at, shifted_between};
 ghost use Rattle.sharing_rules.specs.Lines.{native_grid};
 
-use crate::{LineEntry, Place};
+use crate::{LineEntry, TrackNumber};
 use base::{Range, Steps};
 use line_tracks::{Pair, Tracks, best_pair, doubled_range, shifted_range};
 use std::sync::ledger::Ledger;
@@ -44,8 +44,8 @@ pub struct Around {
 // track.
 fn pair_between<L: Ledger>(
     tracks: &Tracks,
-    lower: Place,
-    upper: Place,
+    lower: TrackNumber,
+    upper: TrackNumber,
     within: Option<u32>,
     steps: &mut Steps<L>,
 ) -> Option<Pair>

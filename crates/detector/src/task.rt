@@ -7,7 +7,7 @@ ghost use Rattle.detector.specs.Entries.{blank_entry, entry_at};
 ghost use Rattle.base.specs.declared.layout.Range.{Range as Span};
 ghost use Rattle.base.specs.Lines.{Grid, is_layout, line_number};
 ghost use Rattle.sharing_rules.specs.declared.line_kind.LineKind.TheVariants.{Observed};
-ghost use Rattle.line_tracks.specs.Kept.{waiting};
+ghost use Rattle.line_tracks.specs.TrackValue.{waiting};
 ghost use Rattle.detector.specs.Counts.{counts_of, with_write};
 ghost use Rattle.detector.specs.Index.{IsIndexed, IsNamed, IsReached, names_in};
 ghost use Rattle.detector.specs.Noting.{IsNotable, UndoesAll};
@@ -15,7 +15,8 @@ ghost use Rattle.detector.specs.Openings.{nothing_opens, opened_tracks, waiting_
 ghost use Rattle.detector.specs.Pairs.{AreShaped, IsNativeGrid};
 ghost use Rattle.sharing_rules.specs.Opened.{even_lower};
 ghost use Rattle.detector.specs.Tasks.{IsDue, IsDueAt, IsTask, opened_places, search_steps};
-ghost use Rattle.detector.specs.Tasks.{settled, tracks_begun, tracks_changed, task_opens, with_name};
+ghost use Rattle.detector.specs.Tasks.{settled, tracks_begun, tracks_changed, task_opens};
+ghost use Rattle.detector.specs.Tasks.{with_name};
 ghost use Rattle.detector.specs.Tasks.{with_place};
 ghost use Rattle.detector.specs.Watch.{begun, touched};
 
@@ -23,7 +24,7 @@ use crate::openings::{Around, NOTHING, Openings, search};
 use crate::track_places::places_of;
 use crate::undo::{Undos, note_all_undoably, take_all_back};
 use crate::write_count::count;
-use crate::{LineEntry, LineIndex, Place};
+use crate::{LineEntry, LineIndex, TrackNumber};
 use base::{Access, Layout, NoMemory, Range, Steps};
 use line_tracks::{LineKind, Tracks};
 use std::sync::ledger::Ledger;
@@ -48,10 +49,10 @@ impl Task {
 
 // The places of the tracks that were opened.
 #[derive(Clone, Copy, Drop)]
-struct Opened {
-    below: Place,
-    here: Place,
-    doubled: Place,
+struct OpenedTracks {
+    below: TrackNumber,
+    here: TrackNumber,
+    doubled: TrackNumber,
 }
 
 // Adds a track. There are places for 2^31 of them.
@@ -94,7 +95,11 @@ fn begin<L: Ledger>(
 }
 
 // Adds the track of a range that opens, if there is one.
-fn open_one(tracks: &mut Tracks, kind: LineKind, opening: Option<Range>) -> Result<Place, NoMemory>
+fn open_one(
+    tracks: &mut Tracks,
+    kind: LineKind,
+    opening: Option<Range>,
+) -> Result<TrackNumber, NoMemory>
     requires few { length tracks.old ≤ 2 ^ 31 }
     requires sized { (r : Span) → opening ≡ Some r → r.size % 4 ≡ 0 }
     ensures added { OnOk result (tracks.new ≡ tracks.old ++ waiting_for kind opening) }
@@ -105,15 +110,15 @@ fn open_one(tracks: &mut Tracks, kind: LineKind, opening: Option<Range>) -> Resu
 {
     match opening {
         Some(range) => match add(tracks, kind, range) {
-            Ok(place) => Ok(Place::at(place)),
+            Ok(place) => Ok(TrackNumber::at(place)),
             Err(refused) => Err(refused),
         },
-        None => Ok(Place::none()),
+        None => Ok(TrackNumber::none()),
     }
 }
 
 // Adds the tracks of what opens.
-fn open(tracks: &mut Tracks, openings: Openings) -> Result<Opened, NoMemory>
+fn open(tracks: &mut Tracks, openings: Openings) -> Result<OpenedTracks, NoMemory>
     requires few { length tracks.old ≤ 2 ^ 31 }
     requires sized { (n k : ℕ) × (n % 4 ≡ 0) × AreShaped n k openings }
     ensures added { OnOk result (tracks.new ≡ tracks.old ++ opened_tracks openings) }
@@ -134,7 +139,7 @@ fn open(tracks: &mut Tracks, openings: Openings) -> Result<Opened, NoMemory>
         Ok(place) => place,
         Err(refused) => return Err(refused),
     };
-    Ok(Opened {
+    Ok(OpenedTracks {
         below,
         here,
         doubled,
@@ -145,12 +150,12 @@ fn open(tracks: &mut Tracks, openings: Openings) -> Result<Opened, NoMemory>
 fn own_place<L: Ledger>(
     tracks: &mut Tracks,
     begins: bool,
-    named: Place,
+    named: TrackNumber,
     layout: Layout,
     position: u64,
     access: Access,
     steps: &mut Steps<L>,
-) -> Result<Place, NoMemory>
+) -> Result<TrackNumber, NoMemory>
     requires early { position < 2 ^ 40 }
     requires few { length tracks.old ≤ 2 ^ 31 }
     ensures tracks { OnOk result (tracks.new
@@ -167,7 +172,7 @@ fn own_place<L: Ledger>(
         return Ok(named);
     }
     match begin(tracks, layout, position, access, steps) {
-        Ok(place) => Ok(Place::at(place)),
+        Ok(place) => Ok(TrackNumber::at(place)),
         Err(refused) => Err(refused),
     }
 }
@@ -178,7 +183,7 @@ fn openings_at<I: LineIndex, L: Ledger>(
     tracks: &Tracks,
     searches: bool,
     line: u64,
-    own: Place,
+    own: TrackNumber,
     layout: Layout,
     steps: &mut Steps<L>,
 ) -> Openings
@@ -228,7 +233,7 @@ fn reserve<I: LineIndex>(index: &mut I, line: u64) -> Result<(), NoMemory>
 }
 
 // An entry with a place for a kind.
-fn set_place(entry: &mut LineEntry, kind: LineKind, place: Place)
+fn set_place(entry: &mut LineEntry, kind: LineKind, place: TrackNumber)
     requires { IsTrue (is_some place) }
     ensures { entry.new ≡ with_place entry.old kind place }
 {
@@ -240,7 +245,7 @@ fn set_place(entry: &mut LineEntry, kind: LineKind, place: Place)
 }
 
 /// Names a track of a written line, if a place is given.
-pub fn name<I: LineIndex>(index: &mut I, line: u64, kind: LineKind, place: Place)
+pub fn name<I: LineIndex>(index: &mut I, line: u64, kind: LineKind, place: TrackNumber)
     requires small { line ≤ 2 ^ 30 }
     requires written { (p : ℕ) → place ≡ Some p → 0 < (entry_at (I.entries index.old) line).writes }
     ensures names { names_in (entry_at (I.entries index.new)) ≡ with_name
@@ -269,7 +274,7 @@ fn lower_of(line: u64) -> u64
 }
 
 // Counts a write of a line that has a place, and names its own track and those that were opened.
-fn settle<I: LineIndex>(index: &mut I, line: u64, own: Place, opened: Opened)
+fn settle<I: LineIndex>(index: &mut I, line: u64, own: TrackNumber, opened: OpenedTracks)
     requires small { line ≤ 2 ^ 30 }
     requires placed { IsTrue (I.has_place index.old line) }
     requires few { (entry_at (I.entries index.old) line).writes < 2 ^ 40 }

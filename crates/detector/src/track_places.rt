@@ -2,13 +2,13 @@
 ghost use Rattle.std.specs.Prelude.{◌≡◌, ◌+◌, ◌≤◌, ◌<◌, ◌^◌, is_some, if◌then◌else◌, length};
 ghost use Rattle.std.specs.Prelude.{Some, slice_get};
 ghost use Rattle.base.specs.Ranges.{holds_address};
-ghost use Rattle.line_tracks.specs.Kept.{Kept};
+ghost use Rattle.line_tracks.specs.TrackValue.{TrackValue};
 ghost use Rattle.detector.specs.Entries.{entry_at};
 ghost use Rattle.detector.specs.Noting.{AreHeld, CanTouch, CanTouchAll, HoldsAt, places};
 ghost use Rattle.detector.specs.Noting.{touched_at, touched_places};
 ghost use Rattle.detector.specs.Noting;
 
-use crate::{LineEntry, LineIndex, Place};
+use crate::{LineEntry, LineIndex, TrackNumber};
 use base::{Access, Steps};
 use line_tracks::Tracks;
 use std::sync::ledger::Ledger;
@@ -16,14 +16,14 @@ use std::sync::ledger::Ledger;
 /// The places of the tracks that may hold an address of a line: its own, the shifted ones of its
 /// pairs with the line above and with the line below, and the doubled one of its even pair.
 #[derive(Clone, Copy, Drop)]
-pub struct Places {
-    pub own: Place,
-    pub shifted: Place,
-    pub below: Place,
-    pub doubled: Place,
+pub struct TrackNumbers {
+    pub own: TrackNumber,
+    pub shifted: TrackNumber,
+    pub below: TrackNumber,
+    pub doubled: TrackNumber,
 }
 
-impl Places {
+impl TrackNumbers {
     /// Whether the predicted lines of its pairs and of its even pair have all opened.
     #[inline(always)]
     pub fn have_opened(self) -> bool
@@ -35,7 +35,7 @@ impl Places {
 
 /// The places that the entries of a line and of the one below it name.
 #[inline(always)]
-pub fn places_of<I: LineIndex>(index: &I, line: u64) -> Places
+pub fn places_of<I: LineIndex>(index: &I, line: u64) -> TrackNumbers
     requires { line ≤ 2 ^ 30 }
     ensures { result ≡ places (entry_at (I.entries index.now)) line }
 {
@@ -46,12 +46,12 @@ pub fn places_of<I: LineIndex>(index: &I, line: u64) -> Places
 
 /// The same, where both entries were looked up.
 #[inline(always)]
-pub fn places_between(line: u64, here: LineEntry, below: LineEntry) -> Places
+pub fn places_between(line: u64, here: LineEntry, below: LineEntry) -> TrackNumbers
     ensures { result ≡ Noting.places_between line here below }
 {
     // Taken out of an array, since a branch that goes as lines come is foretold badly.
     let doubled = [below.doubled, here.doubled][(line % 2) as usize];
-    Places {
+    TrackNumbers {
         own: here.track,
         shifted: here.shifted,
         below: below.shifted,
@@ -63,7 +63,7 @@ pub fn places_between(line: u64, here: LineEntry, below: LineEntry) -> Places
 #[inline(always)]
 pub fn holds(tracks: &Tracks, place: u32, access: Access) -> bool
     requires { place < length tracks.now }
-    ensures { (x : Kept) → slice_get tracks.now place ≡ Some x
+    ensures { (x : TrackValue) → slice_get tracks.now place ≡ Some x
         → result ≡ holds_address x.range access.addr }
 {
     tracks.all()[place as usize].contains(access.addr())
@@ -73,7 +73,7 @@ pub fn holds(tracks: &Tracks, place: u32, access: Access) -> bool
 #[inline(always)]
 fn note_at<L: Ledger>(
     tracks: &mut Tracks,
-    place: Place,
+    place: TrackNumber,
     position: u64,
     access: Access,
     steps: &mut Steps<L>,
@@ -94,7 +94,7 @@ fn note_at<L: Ledger>(
 #[inline(always)]
 fn note_held<L: Ledger>(
     tracks: &mut Tracks,
-    place: Place,
+    place: TrackNumber,
     position: u64,
     access: Access,
     steps: &mut Steps<L>,
@@ -115,7 +115,7 @@ fn note_held<L: Ledger>(
 #[inline(always)]
 pub fn note_places<L: Ledger>(
     tracks: &mut Tracks,
-    places: Places,
+    places: TrackNumbers,
     position: u64,
     access: Access,
     steps: &mut Steps<L>,

@@ -1,11 +1,11 @@
 // Notes that can be undone.
 ghost use Rattle.std.specs.Prelude.{◌≡◌, ◌+◌, ◌≤◌, ◌<◌, ◌^◌, List, is_some, if◌then◌else◌};
-ghost use Rattle.line_tracks.specs.Kept.{Kept};
+ghost use Rattle.line_tracks.specs.TrackValue.{TrackValue};
 ghost use Rattle.detector.specs.Noting.{CanTouch, CanTouchAll, Undoes, UndoesAll, touched_at};
 ghost use Rattle.detector.specs.Noting.{touched_places};
 
-use crate::Place;
-use crate::track_places::{Places, holds};
+use crate::TrackNumber;
+use crate::track_places::{TrackNumbers, holds};
 use base::{Access, Steps};
 use line_tracks::{Mark, Tracks};
 use std::sync::ledger::Ledger;
@@ -20,7 +20,7 @@ pub struct Undo {
 /// Notes the track at a place, if its range holds the address, and gives what undoes that.
 pub fn note_undoably<L: Ledger>(
     tracks: &mut Tracks,
-    place: Place,
+    place: TrackNumber,
     position: u64,
     access: Access,
     steps: &mut Steps<L>,
@@ -42,8 +42,8 @@ pub fn note_undoably<L: Ledger>(
 
 /// Undoes the last note, if there was one.
 pub fn take_back(tracks: &mut Tracks, undo: Option<Undo>)
-    requires { (xs : List Kept) × Undoes undo tracks.old xs }
-    ensures { (xs : List Kept) → Undoes undo tracks.old xs → tracks.new ≡ xs }
+    requires { (xs : List TrackValue) × Undoes undo tracks.old xs }
+    ensures { (xs : List TrackValue) → Undoes undo tracks.old xs → tracks.new ≡ xs }
 {
     if let Some(undo) = undo {
         let Undo { place, mark } = undo;
@@ -63,7 +63,7 @@ pub struct Undos {
 /// Notes the tracks at these places whose ranges hold the address, and gives what undoes that.
 pub fn note_all_undoably<L: Ledger>(
     tracks: &mut Tracks,
-    places: Places,
+    places: TrackNumbers,
     position: u64,
     access: Access,
     steps: &mut Steps<L>,
@@ -88,8 +88,8 @@ pub fn note_all_undoably<L: Ledger>(
 
 /// Undoes them, the last one first.
 pub fn take_all_back(tracks: &mut Tracks, undos: Undos)
-    requires { (xs : List Kept) × UndoesAll undos tracks.old xs }
-    ensures { (xs : List Kept) → UndoesAll undos tracks.old xs → tracks.new ≡ xs }
+    requires { (xs : List TrackValue) × UndoesAll undos tracks.old xs }
+    ensures { (xs : List TrackValue) → UndoesAll undos tracks.old xs → tracks.new ≡ xs }
 {
     let Undos {
         own,

@@ -4,7 +4,7 @@ ghost use Rattle.detector.specs.Entries.{entry_at};
 
 use crate::MapIndex;
 use base::NoMemory;
-use detector::{LineEntry, LineIndex, PagedIndex, Place};
+use detector::{LineEntry, LineIndex, PagedIndex, TrackNumber};
 use std::process::Abort;
 use std::test::Fail;
 
@@ -31,9 +31,9 @@ fn set_writes<I: LineIndex>(index: &mut I, line: u64, writes: u64) -> Result<(),
 fn written(writes: u64) -> LineEntry {
     LineEntry {
         writes,
-        track: Place::none(),
-        shifted: Place::none(),
-        doubled: Place::none(),
+        track: TrackNumber::none(),
+        shifted: TrackNumber::none(),
+        doubled: TrackNumber::none(),
     }
 }
 

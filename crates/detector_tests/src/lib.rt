@@ -15,6 +15,8 @@ mod indexes;
 mod lists;
 mod map_index;
 #[cfg(test)]
+mod observed_trace;
+#[cfg(test)]
 mod pairs;
 #[cfg(test)]
 mod random_lists;
@@ -26,8 +28,6 @@ mod resumed;
 mod saved;
 #[cfg(test)]
 mod shadows;
-#[cfg(test)]
-mod sighted;
 #[cfg(test)]
 mod standing;
 #[cfg(test)]

@@ -8,7 +8,7 @@ ghost use Rattle.detector.specs.Lending.{KeepsPlaces};
 ghost use Rattle.detector_tests.specs.MapEntries.{map_entries, map_entry, map_place};
 
 use base::NoMemory;
-use detector::{LAST_LINE, LineEntry, LineIndex, Place};
+use detector::{LAST_LINE, LineEntry, LineIndex, TrackNumber};
 use std::alloc::Global;
 use std::collections::BTreeMap;
 
@@ -18,9 +18,9 @@ fn blank() -> LineEntry
 {
     LineEntry {
         writes: 0,
-        track: Place::none(),
-        shifted: Place::none(),
-        doubled: Place::none(),
+        track: TrackNumber::none(),
+        shifted: TrackNumber::none(),
+        doubled: TrackNumber::none(),
     }
 }
 

@@ -12,7 +12,7 @@ use crate::known_files::{FileId, KnownFiles};
 use crate::log::{Call, Log};
 use crate::meter::Meter;
 use crate::open_files::{OpenFiles, ReadBytes};
-use crate::reasons::tell_fault;
+use crate::reasons::report_fault;
 use crate::run_end::RunEnd;
 use shelf::{RunShown, Shelf, ShelfError};
 use std::alloc::{AllocError, Global};
@@ -79,7 +79,7 @@ pub struct DiskShelf<'a, R: Files + Print + Eprint + Clock + AllocGlobal, K: Con
     runtime: &'a R,
     contents: PhantomData<K>,
     log: Log,
-    files: Opened<R::File>,
+    files: FilesOfCall<R::File>,
     meter: Meter,
     stderr: Option<Stderr>,
     run_end: RunEnd,
@@ -118,7 +118,7 @@ fn fault_of(count: &mut u64, error: &io::Error) -> ShelfError
 }
 
 // Says why a call of the system failed, and counts it. Room is made for it before.
-fn tell_and_count<R: Eprint + AllocGlobal>(
+fn report_and_count<R: Eprint + AllocGlobal>(
     runtime: &R,
     meter: &mut Meter,
     count: &mut u64,
@@ -129,7 +129,7 @@ fn tell_and_count<R: Eprint + AllocGlobal>(
     ensures later { count.old ≤ count.new }
 {
     meter.make_room(runtime);
-    tell_fault(runtime, name, &error);
+    report_fault(runtime, name, &error);
     fault_of(count, &error)
 }
 
@@ -144,7 +144,7 @@ struct Expected {
 // that are open, those that are known, and the regular files that standard output and standard
 // error are, where they are any.
 #[derive(Drop)]
-struct Opened<F: Drop> {
+struct FilesOfCall<F: Drop> {
     closed: Vec<F>,
     read: OpenFiles<F>,
     written: OpenFiles<F>,
@@ -154,10 +154,10 @@ struct Opened<F: Drop> {
     expected: Option<Expected>,
 }
 
-impl<F: Read + Write + Seek + OpenFile + Drop> Opened<F> {
+impl<F: Read + Write + Seek + OpenFile + Drop> FilesOfCall<F> {
     // None is open yet.
     fn new<R: Files<File = F> + AllocGlobal>(runtime: &R) -> Self {
-        Opened {
+        FilesOfCall {
             closed: stand_ins(runtime),
             read: OpenFiles::new(runtime.alloc()),
             written: OpenFiles::new(runtime.alloc()),
@@ -310,7 +310,7 @@ fn file_of_stream<R: Files>(runtime: &R, path: &str) -> Option<FileId> {
 // Prints a piece, unless standard output is a file that is read or written.
 fn print_to<R: Files + Print>(
     runtime: &R,
-    files: &Opened<R::File>,
+    files: &FilesOfCall<R::File>,
     piece: &[u8],
 ) -> io::Result<()> {
     if files.prints_over() {
@@ -329,7 +329,7 @@ impl<'a, R: Files + Print + Eprint + Clock + AllocGlobal, K: Contents> DiskShelf
             runtime,
             contents: PhantomData,
             log: Log::new(),
-            files: Opened::new(runtime),
+            files: FilesOfCall::new(runtime),
             meter,
             stderr: None,
             run_end: RunEnd::new(),
@@ -365,12 +365,12 @@ impl<'a, R: Files + Print + Eprint + Clock + AllocGlobal, K: Contents> DiskShelf
 
     /// Says on standard error how a run went, once it is over: that no hart was free for the latest
     /// that was to start, and an exit code other than 0. Nothing that contracts see changes.
-    pub fn tell_run_end(&mut self)
+    pub fn report_run_end(&mut self)
         ensures { self.new ≡ self.old }
     {
         if !self.files.says_over() {
             self.meter.make_room(self.runtime);
-            self.run_end.tell(self.runtime);
+            self.run_end.report(self.runtime);
         }
     }
 
@@ -432,7 +432,7 @@ impl<R: Files + Print + Eprint + Clock + AllocGlobal, K: Contents> Shelf for Dis
                 });
                 Ok(read.count)
             }
-            Err(error) => Err(tell_and_count(
+            Err(error) => Err(report_and_count(
                 self.runtime,
                 &mut self.meter,
                 &mut self.reads,
@@ -448,7 +448,7 @@ impl<R: Files + Print + Eprint + Clock + AllocGlobal, K: Contents> Shelf for Dis
                 self.log = self.log.and(&Call::Begin { name });
                 Ok(())
             }
-            Err(error) => Err(tell_and_count(
+            Err(error) => Err(report_and_count(
                 self.runtime,
                 &mut self.meter,
                 &mut self.writes,
@@ -465,7 +465,7 @@ impl<R: Files + Print + Eprint + Clock + AllocGlobal, K: Contents> Shelf for Dis
                 self.log = self.log.and(&Call::Append { name, piece });
                 Ok(())
             }
-            Err(error) => Err(tell_and_count(
+            Err(error) => Err(report_and_count(
                 self.runtime,
                 &mut self.meter,
                 &mut self.writes,
@@ -483,7 +483,7 @@ impl<R: Files + Print + Eprint + Clock + AllocGlobal, K: Contents> Shelf for Dis
                 Ok(())
             }
             Err(error) => {
-                tell_fault(self.runtime, STANDARD_OUTPUT, &error);
+                report_fault(self.runtime, STANDARD_OUTPUT, &error);
                 Err(fault_of(&mut self.prints, &error))
             }
         }

@@ -104,7 +104,7 @@ impl<F: Read + Write + Seek + OpenFile + Drop> OpenFiles<F> {
     }
 
     // The place of the file of a name, if it is open.
-    fn place_of(&self, name: &str) -> Option<usize> {
+    fn index_of_name(&self, name: &str) -> Option<usize> {
         self.files
             .iter()
             .position(|file| file.name.as_str() == name)
@@ -112,7 +112,7 @@ impl<F: Read + Write + Seek + OpenFile + Drop> OpenFiles<F> {
 
     /// Whether a file is open under a name.
     pub fn has(&self, name: &str) -> bool {
-        self.place_of(name).is_some()
+        self.index_of_name(name).is_some()
     }
 
     /// Keeps a file of so many bytes that was opened just now.
@@ -144,7 +144,7 @@ impl<F: Read + Write + Seek + OpenFile + Drop> OpenFiles<F> {
     pub fn read_at(&mut self, name: &str, at: u64, into: &mut [u8]) -> io::Result<ReadBytes>
         ensures { IfOk result (λ read. read.count ≤ length into.new) }
     {
-        let Some(place) = self.place_of(name) else {
+        let Some(place) = self.index_of_name(name) else {
             return Err(io::Error::from(ErrorKind::NotFound));
         };
         match self.files.get_mut(place) {
@@ -153,12 +153,12 @@ impl<F: Read + Write + Seek + OpenFile + Drop> OpenFiles<F> {
         }
     }
 
-    /// Reads the first bytes of the file of a name again, as many as fit: none where it isn't open or
-    /// can't be read again.
+    /// Reads the first bytes of the file of a name again, as many as fit: none where it isn't open
+    /// or can't be read again.
     pub fn front_of(&mut self, name: &str, into: &mut [u8]) -> usize
         ensures { result ≤ length into.new }
     {
-        let Some(place) = self.place_of(name) else {
+        let Some(place) = self.index_of_name(name) else {
             return 0;
         };
         match self.files.get_mut(place) {
@@ -172,7 +172,7 @@ impl<F: Read + Write + Seek + OpenFile + Drop> OpenFiles<F> {
 
     /// Makes the file of a name empty.
     pub fn empty(&mut self, name: &str) -> io::Result<()> {
-        let Some(place) = self.place_of(name) else {
+        let Some(place) = self.index_of_name(name) else {
             return Err(io::Error::from(ErrorKind::NotFound));
         };
         match self.files.get_mut(place) {
@@ -183,7 +183,7 @@ impl<F: Read + Write + Seek + OpenFile + Drop> OpenFiles<F> {
 
     /// Adds a piece to the file of a name, and answers how many bytes were written to it.
     pub fn add(&mut self, name: &str, piece: &[u8]) -> io::Result<u64> {
-        let Some(place) = self.place_of(name) else {
+        let Some(place) = self.index_of_name(name) else {
             return Err(io::Error::from(ErrorKind::NotFound));
         };
         match self.files.get_mut(place) {

@@ -23,7 +23,7 @@ fn shown(alloc: Global, name: &str) -> Result<String, AllocError> {
 }
 
 /// Says why a call of the disk failed: the name and the system's reason.
-pub fn tell_fault<R: Eprint + AllocGlobal>(runtime: &R, name: &str, error: &io::Error) {
+pub fn report_fault<R: Eprint + AllocGlobal>(runtime: &R, name: &str, error: &io::Error) {
     let alloc = runtime.alloc();
     let _ = match (shown(alloc, name), reason_of(alloc, error)) {
         (Ok(name), Ok(reason)) => eprintln!(runtime; "predator: {name}: {reason}"),

@@ -30,7 +30,7 @@ impl RunEnd {
     }
 
     /// Says it on standard error.
-    pub fn tell<R: Eprint>(&self, runtime: &R) {
+    pub fn report<R: Eprint>(&self, runtime: &R) {
         match self.taken_harts {
             Some(harts) if harts < MOST_HARTS => {
                 let _ = eprintln!(runtime;

@@ -2,7 +2,7 @@
 use Rattle.std.specs.Prelude.{◌≡◌, ℕ, ◌<◌, ◌≤◌, ◌^◌, eqb, IsTrue, List, sum_by}
 use Rattle.std.specs.List.{AllByRecursion, list_any}
 use Rattle.finite_cache.specs.Bounded.{has, set_of}
-use Rattle.finite_cache.specs.Kept.{Parts, WaySet, harts_of, lists_of, use_of}
+use Rattle.finite_cache.specs.CacheState.{Parts, WaySet, harts_of, lists_of, use_of}
 use Rattle.base.specs.Shapes.{CacheShape}
 use Rattle.finite_cache.specs.declared.rows.Tally.{Tally}
 

@@ -1,7 +1,7 @@
 -- The tables of the program as the parts that are kept.
 use Rattle.std.specs.Prelude.{ℕ}
 use Rattle.indexmap.specs.IndexMap.{IndexMap}
-use Rattle.finite_cache.specs.Kept.{LineUse, Parts, WaySet}
+use Rattle.finite_cache.specs.CacheState.{LineUse, Parts, WaySet}
 use Rattle.finite_cache.specs.declared.rows.Tally.{Tally}
 
 abbrev pub parts_of : {S T U : Type 0} → IndexMap ℕ WaySet S → IndexMap ℕ LineUse T

@@ -1,7 +1,7 @@
 pub mod Bounded
 pub mod Counts
 pub mod Fits
-pub mod Kept
+pub mod CacheState
 pub mod KeptParts
 pub mod Laws
 pub mod Rows

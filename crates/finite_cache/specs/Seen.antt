@@ -6,11 +6,11 @@ use Rattle.trace_format.specs.declared.record.TraceRecord.{TraceRecord}
 use Rattle.trace_format.specs.declared.record.TraceRecord.TheVariants as records
 use Rattle.trace_passes.specs.Accounts.{Account, BeginsAt, CameBy}
 use Rattle.base.specs.Shapes.{CacheShape}
-use Rattle.finite_cache.specs.Kept.{Kept, StandsFor, wants_memory}
+use Rattle.finite_cache.specs.CacheState.{CacheState, StandsFor, wants_memory}
 use Rattle.finite_cache.specs.Texts.{caches_text}
 
 -- how they account for the accesses of a trace: with a shape
-abbrev pub cache_account : Account Kept Touch CacheShape
+abbrev pub cache_account : Account CacheState Touch CacheShape
 cache_account = record {
   listed = touch_in;
   StandsFor = StandsFor;
@@ -19,15 +19,15 @@ cache_account = record {
 }
 
 -- from what was kept first, what is kept now came by these records
-abbrev pub HasSeen : Kept → Kept → List TraceRecord → Type 0
+abbrev pub HasSeen : CacheState → CacheState → List TraceRecord → Type 0
 HasSeen = CameBy cache_account
 
 -- its first access has this position
-abbrev pub begins_at : Kept → ℕ → Type 0
+abbrev pub begins_at : CacheState → ℕ → Type 0
 begins_at = BeginsAt cache_account
 
 -- whether a record may want memory: an access that may
-abbrev pub record_wants_memory : Kept → TraceRecord → Bool
+abbrev pub record_wants_memory : CacheState → TraceRecord → Bool
 record_wants_memory k (records.Touch a pc) = wants_memory k.shape k.parts a
 record_wants_memory k _ = false
 

@@ -2,7 +2,7 @@
 use Rattle.std.specs.Prelude.{ℕ, Bool, not, ◌&&◌, ◌==◌, List}
 use Rattle.std.specs.List.{list_any}
 use Rattle.finite_cache.specs.Bounded.{has, set_of}
-use Rattle.finite_cache.specs.Kept.{cell_of}
+use Rattle.finite_cache.specs.CacheState.{cell_of}
 use Rattle.base.specs.Shapes.{CacheShape}
 
 -- whether a list has it

@@ -3,8 +3,8 @@ ghost use Rattle.std.specs.Prelude.{◌≡◌, ◌<◌, ◌≤◌, ◌^◌, ◌�
 ghost use Rattle.std.specs.Prelude.{OnErr, Some, option_map, slice_get};
 ghost use Rattle.sharing_rules.specs.AccessLists.{AccessList};
 ghost use Rattle.finite_cache.specs.Fits.{bounded_sum, unbounded_sum};
-ghost use Rattle.finite_cache.specs.Kept.{HasNoted, MeansTheSame, StandsFor, nothing_kept};
-ghost use Rattle.finite_cache.specs.Kept.{row_kept, totals_kept, use_of, wants_memory};
+ghost use Rattle.finite_cache.specs.CacheState.{HasNoted, MeansTheSame, StandsFor, nothing_kept};
+ghost use Rattle.finite_cache.specs.CacheState.{row_kept, totals_kept, use_of, wants_memory};
 ghost use Rattle.finite_cache.specs.Rows.{all_evicted, rows_of, totals_of};
 ghost use Rattle.finite_cache.specs.Seen.{HasSeen};
 
@@ -35,11 +35,11 @@ pub struct Caches {
 
 impl Model for Caches {
     ghost use Rattle.std.specs.Prelude.{◌≤◌};
-    ghost use Rattle.finite_cache.specs.Kept.{Kept};
+    ghost use Rattle.finite_cache.specs.CacheState.{CacheState};
     ghost use Rattle.finite_cache.specs.KeptParts.{parts_of};
     ghost use Rattle.finite_cache.specs.Fits.{AreFit};
 
-    ghost Value = { Kept };
+    ghost Value = { CacheState };
 
     ghost view = { λ m. record {
       shape = m.shape;

@@ -17,7 +17,7 @@ pub struct LineUse {
 }
 
 impl Model for LineUse {
-    ghost use Rattle.finite_cache.specs.Kept.{LineUse as Used};
+    ghost use Rattle.finite_cache.specs.CacheState.{LineUse as Used};
 
     ghost Value = { Used };
 

@@ -2,7 +2,7 @@
 ghost use Rattle.std.specs.Prelude.{◌≡◌, ◌≤◌, ◌^◌};
 ghost use Rattle.std.specs.NonZero.{non_zero_usize_get};
 ghost use Rattle.finite_cache.specs.Bounded.{line_in, set_of};
-ghost use Rattle.finite_cache.specs.Kept as kept;
+ghost use Rattle.finite_cache.specs.CacheState as kept;
 
 use base::{Hart, Shape};
 use std::num::NonZeroUsize;

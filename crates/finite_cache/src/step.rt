@@ -1,5 +1,6 @@
 // One access more, over the tables of what is kept.
-ghost use Rattle.std.specs.Prelude.{◌≡◌, ℕ, ◌+◌, ◌<◌, ◌≤◌, ◌==◌, ◌&&◌, ◌^◌, ◌∷◌, [], eqb, nat_eq, not};
+ghost use Rattle.std.specs.Prelude.{◌≡◌, ℕ, ◌+◌, ◌<◌, ◌≤◌, ◌==◌, ◌&&◌, ◌^◌, ◌∷◌, [], eqb, nat_eq};
+ghost use Rattle.std.specs.Prelude.{not};
 ghost use Rattle.std.specs.Prelude.{false, if◌then◌else◌, is_some, length};
 ghost use Rattle.std.specs.Prelude.{IfOk, IsFalse, IsOk, IsTrue, OnErr, OnOk};
 ghost use Rattle.std.specs.Option.{ForSome, option_map_or};
@@ -11,8 +12,9 @@ ghost use Rattle.sharing_rules.specs.Arrivals.{note_arrival};
 ghost use Rattle.finite_cache.specs.Bounded.{has, left, line_in, set_of, used, without};
 ghost use Rattle.finite_cache.specs.Fits.{AreFit, AreNoted, HaveWays, bounded_sum, unbounded_sum};
 ghost use Rattle.finite_cache.specs.Counts.{one_if};
-ghost use Rattle.finite_cache.specs.Kept.{IsStep, MeanTheSame, cell_of, evicted_now, harts_of};
-ghost use Rattle.finite_cache.specs.Kept.{lines_at, lists_of, use_of, wants_memory};
+ghost use Rattle.finite_cache.specs.CacheState.{IsStep, MeanTheSame, cell_of, evicted_now};
+ghost use Rattle.finite_cache.specs.CacheState.{harts_of};
+ghost use Rattle.finite_cache.specs.CacheState.{lines_at, lists_of, use_of, wants_memory};
 ghost use Rattle.finite_cache.specs.KeptParts.{parts_of};
 ghost use Rattle.base.specs.Shapes.{is_shape};
 ghost use Rattle.finite_cache.specs.Sweeps.{had_by_another, is_cell_of_another};
@@ -142,7 +144,7 @@ fn tally_after(
     requires early { position < 2 ^ 40 }
     requires bounded { bounded_sum rows.now.entries ≤ position }
     requires unbounded { unbounded_sum rows.now.entries ≤ position }
-    ensures { result ≡ Rattle.finite_cache.specs.Kept.tally_after
+    ensures { result ≡ Rattle.finite_cache.specs.CacheState.tally_after
         (lookup (eqb line) rows.now.entries) position cached held }
 {
     match rows.get(&line) {
@@ -167,7 +169,7 @@ fn count_write(rows: &mut IndexMap<u64, Tally>, line: u64, position: u64, cached
     requires room { is_some (lookup (nat_eq line) rows.old.entries) ≡ false
         → 0 < spare rows.old }
     ensures { rows.new.entries ≡ insert_entry nat_eq rows.old.entries line
-        (Rattle.finite_cache.specs.Kept.tally_after (lookup (eqb line) rows.old.entries)
+        (Rattle.finite_cache.specs.CacheState.tally_after (lookup (eqb line) rows.old.entries)
         position cached held) }
 {
     let tally = tally_after(rows, line, position, cached, held);

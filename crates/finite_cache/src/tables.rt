@@ -8,7 +8,7 @@ ghost use Rattle.indexmap.specs.IndexMap.{insert_entry, set_value_at, values};
 ghost use Rattle.sharing_rules.specs.Arrivals.{note_arrival};
 ghost use Rattle.finite_cache.specs.Bounded.{has, in_front, without};
 ghost use Rattle.finite_cache.specs.Fits.{HaveWays};
-ghost use Rattle.finite_cache.specs.Kept.{harts_of, lines_at, use_of};
+ghost use Rattle.finite_cache.specs.CacheState.{harts_of, lines_at, use_of};
 
 use crate::line_use::LineUse;
 use crate::way_set::WaySet;

@@ -9,7 +9,7 @@ ghost use Rattle.report.specs.Lines.{rest_of_line};
 ghost use Rattle.sharing_rules.specs.AccessLists.{AccessList};
 ghost use Rattle.trace_format.specs.declared.record.TraceRecord.{TraceRecord as Record};
 ghost use Rattle.base.specs.Shapes.{CacheShape};
-ghost use Rattle.finite_cache.specs.Kept.{StandsFor, nothing_kept, row_kept};
+ghost use Rattle.finite_cache.specs.CacheState.{StandsFor, nothing_kept, row_kept};
 ghost use Rattle.finite_cache.specs.Seen.{HasSeen, caches_of_records};
 ghost use Rattle.finite_cache.specs.Texts.{caches_text, comes_first, count_words, end_lines};
 ghost use Rattle.finite_cache.specs.Texts.{head_lines, is_told, lines_of_caches, row_line};

@@ -20,7 +20,7 @@ pub struct WaySet {
 
 impl Model for WaySet {
     ghost use Rattle.std.specs.Map.{keys_of};
-    ghost use Rattle.finite_cache.specs.Kept.{WaySet as Ways};
+    ghost use Rattle.finite_cache.specs.CacheState.{WaySet as Ways};
 
     ghost Value = { Ways };
 

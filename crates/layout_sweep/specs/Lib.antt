@@ -1,6 +1,6 @@
 pub mod Counts
 pub mod Histories
-pub mod Kept
+pub mod WindowHistory
 pub mod Laws
 pub mod Pages
 pub mod Seen

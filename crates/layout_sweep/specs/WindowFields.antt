@@ -2,7 +2,7 @@
 use Rattle.std.specs.Prelude.{◌≡◌, ◌≢◌, ℕ, ◌+◌, ◌*◌, ◌/◌, ◌%◌, ◌<◌, ◌==◌, ◌&&◌, not, if◌then◌else◌}
 use Rattle.std.specs.Prelude.{List, Option, None, Some, IsTrue, ◌⊎◌}
 use Rattle.line_tracks.specs.HistoryFields.{entries_of, fields_of as entry_fields}
-use Rattle.layout_sweep.specs.Kept.{Kept}
+use Rattle.layout_sweep.specs.WindowHistory.{WindowHistory}
 use Rattle.layout_sweep.specs.declared.window.Window.TheInside.{Inside}
 
 -- before the first write
@@ -12,7 +12,7 @@ unwritten = 1048576
 abbrev pub history_of : ℕ → Option (List ℕ)
 history_of n = if n == 1048576 then None else Some (entries_of n)
 
-abbrev pub kept : Inside → Kept
+abbrev pub kept : Inside → WindowHistory
 kept w = record { history = history_of w.harts; taken = w.taken }
 
 -- two harts that differ, or one
@@ -29,7 +29,7 @@ abbrev pub harts_of : Option (List ℕ) → ℕ
 harts_of None = 1048576
 harts_of (Some hs) = (entry_fields hs).both
 
-abbrev pub fields_of : Kept → Inside
+abbrev pub fields_of : WindowHistory → Inside
 fields_of k = record { harts = harts_of k.history; taken = k.taken }
 
 -- after a read

@@ -19,9 +19,9 @@ pub struct Window {
 const UNWRITTEN: u32 = 1_048_576;
 
 impl Model for Window {
-    ghost use Rattle.layout_sweep.specs.Kept.{Kept};
+    ghost use Rattle.layout_sweep.specs.WindowHistory.{WindowHistory};
 
-    ghost Value = { Kept };
+    ghost Value = { WindowHistory };
 
     ghost use Rattle.layout_sweep.specs.WindowFields.{AreFit, fields_of, kept};
 

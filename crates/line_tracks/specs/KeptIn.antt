@@ -5,10 +5,10 @@ use Rattle.sharing_rules.specs.Opened.{Opened}
 use Rattle.sharing_rules.specs.Tracks.{Traced, track_of}
 use Rattle.sharing_rules.specs.declared.line_kind.LineKind.{LineKind}
 use Rattle.base.specs.declared.layout.Range.{Range}
-use Rattle.line_tracks.specs.Kept.{Kept}
+use Rattle.line_tracks.specs.TrackValue.{TrackValue}
 
 -- a track of a kind and a range
-abbrev pub kept_as : LineKind → Range → Traced → Kept
+abbrev pub kept_as : LineKind → Range → Traced → TrackValue
 kept_as kind r x = record {
   kind = kind;
   range = r;
@@ -20,5 +20,5 @@ kept_as kind r x = record {
 }
 
 -- what is kept of a line that is observed, or that opened
-abbrev pub kept_in : AccessList → Opened → Kept
+abbrev pub kept_in : AccessList → Opened → TrackValue
 kept_in t o = kept_as o.kind (range_of o.line) (track_of o.line o.from t)

@@ -2,7 +2,7 @@
 pub mod CellFields
 pub mod Few
 pub mod HistoryFields
-pub mod Kept
+pub mod TrackValue
 pub mod Placed
 pub mod Quiet
 pub mod WordLines

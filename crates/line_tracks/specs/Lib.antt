@@ -2,7 +2,7 @@ pub mod CellFields
 pub mod Entries
 pub mod HistoryFields
 pub mod HotRows
-pub mod Kept
+pub mod TrackValue
 pub mod KeptIn
 pub mod Laws
 pub mod Neighbours

@@ -39,8 +39,8 @@ abbrev pub blank : Range → RangeWords
 blank r = record { range = r; words = map (λ i. tally []) (below (r.size / 4)) }
 
 -- which word of a range an address is in
-abbrev pub place_of : Range → ℕ → ℕ
-place_of r a = nat_abs (pos a -ℤ r.base) / 4
+abbrev pub word_index : Range → ℕ → ℕ
+word_index r a = nat_abs (pos a -ℤ r.base) / 4
 
 -- with word i another one
 abbrev pub set_word : RangeWords → ℕ → Word → RangeWords
@@ -48,8 +48,8 @@ set_word v i w = record { range = v.range; words = slice_set v.words i w }
 
 -- with one access more of the word that it touches
 abbrev pub note_words : RangeWords → Touch → RangeWords
-note_words v a = option_map_or (λ w. set_word v (place_of v.range a.addr) (note_word w a))
-    (slice_get v.words (place_of v.range a.addr)) v
+note_words v a = option_map_or (λ w. set_word v (word_index v.range a.addr) (note_word w a))
+    (slice_get v.words (word_index v.range a.addr)) v
 
 -- whether word i is hot
 abbrev pub is_hot_place : List Word → ℕ → Bool

@@ -3,7 +3,7 @@ use Rattle.std.specs.Prelude.{◌≡◌, ℕ, List, [], Option, Some, None}
 use Rattle.line_tracks.specs.declared.track.Started.{Started}
 use Rattle.line_tracks.specs.declared.track.Track.TheInside.{Inside}
 use Rattle.line_tracks.specs.declared.track.Mark.TheInside.{Inside as MarkInside}
-use Rattle.line_tracks.specs.Kept.{Kept, IsBlank, Marked}
+use Rattle.line_tracks.specs.TrackValue.{TrackValue, IsBlank, Marked}
 
 abbrev pub start_of : Option Started → Option ℕ
 start_of None = None
@@ -13,7 +13,7 @@ abbrev pub entries_of : Option Started → List ℕ
 entries_of None = []
 entries_of (Some b) = b.history
 
-abbrev pub kept_of : Inside → Kept
+abbrev pub kept_of : Inside → TrackValue
 kept_of t = record {
   kind = t.kind;
   range = t.shadow.range;

@@ -9,7 +9,7 @@ ghost use Rattle.sharing_rules.specs.Lines.{Line, range_of};
 ghost use Rattle.sharing_rules.specs.Words.{accesses, tally, words_since};
 ghost use Rattle.sharing_rules.specs.Places.{below};
 ghost use Rattle.line_tracks.specs.RangeWords.{AreWords, blank, is_hot_place, is_possible};
-ghost use Rattle.line_tracks.specs.RangeWords.{note_words, place_of, set_word};
+ghost use Rattle.line_tracks.specs.RangeWords.{note_words, word_index, set_word};
 
 use crate::cell::Cell;
 use base::{Access, NoMemory, Range};
@@ -56,7 +56,7 @@ fn distance(range: Range, addr: u32) -> u64
 #[inline(always)]
 fn place_in(range: Range, addr: u32) -> usize
     requires { IsTrue (holds_address range addr) }
-    ensures place { result ≡ place_of range addr }
+    ensures place { result ≡ word_index range addr }
     ensures within { 4 * result < range.size }
     ensures small { result < 2 ^ 30 }
 {
@@ -133,7 +133,7 @@ impl Shadow {
     /// Which of its words an address of the range is in.
     pub fn place(&self, addr: u32) -> u32
         requires { IsTrue (holds_address self.now.range addr) }
-        ensures value { result ≡ place_of self.now.range addr }
+        ensures value { result ≡ word_index self.now.range addr }
         ensures within { result < self.now.range.size / 4 }
         ensures words { AreWords self.now }
     {

@@ -7,8 +7,8 @@ ghost use Rattle.base.specs.Touch.{Touch, is_write};
 ghost use Rattle.sharing_rules.specs.AccessLists.{AccessList};
 ghost use Rattle.sharing_rules.specs.Lines.{Line};
 ghost use Rattle.line_tracks.specs.Entries.{entries_after_read, has_another};
-ghost use Rattle.line_tracks.specs.Kept.{CanRestore, IsBlank, IsInTime, IsTrackOf, mark_of};
-ghost use Rattle.line_tracks.specs.Kept.{note_kept, restored, saved, waiting, words_of};
+ghost use Rattle.line_tracks.specs.TrackValue.{CanRestore, IsBlank, IsInTime, IsTrackOf, mark_of};
+ghost use Rattle.line_tracks.specs.TrackValue.{note_kept, restored, saved, waiting, words_of};
 
 use crate::{History, Shadow};
 use base::{Access, Kind, NoMemory, Range, Steps};
@@ -38,9 +38,9 @@ pub struct Track {
 }
 
 impl Model for Track {
-    ghost use Rattle.line_tracks.specs.Kept.{Kept};
+    ghost use Rattle.line_tracks.specs.TrackValue.{TrackValue};
 
-    ghost Value = { Kept };
+    ghost Value = { TrackValue };
 
     ghost use Rattle.line_tracks.specs.TrackView.{kept_of, IsBlankBefore};
 
@@ -61,7 +61,7 @@ pub struct Mark {
 impl Model for Mark {
     ghost use Rattle.std.specs.Prelude.{IsTrue};
     ghost use Rattle.line_tracks.specs.RangeWords.{is_possible};
-    ghost use Rattle.line_tracks.specs.Kept.{Marked};
+    ghost use Rattle.line_tracks.specs.TrackValue.{Marked};
 
     ghost Value = { Marked };
 

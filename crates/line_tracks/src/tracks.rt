@@ -7,8 +7,9 @@ ghost use Rattle.base.specs.Ranges.{holds_address};
 ghost use Rattle.base.specs.Touch.{Touch};
 ghost use Rattle.sharing_rules.specs.AccessLists.{AccessList};
 ghost use Rattle.sharing_rules.specs.Lines.{Line, range_of};
-ghost use Rattle.line_tracks.specs.Kept.{CanNote, CanRestore, IsBlank, IsInTime, IsTrackOf, Kept};
-ghost use Rattle.line_tracks.specs.Kept.{mark_of, note_kept, restored, saved, waiting};
+ghost use Rattle.line_tracks.specs.TrackValue.{CanNote, CanRestore, IsBlank, IsInTime, IsTrackOf};
+ghost use Rattle.line_tracks.specs.TrackValue.{TrackValue};
+ghost use Rattle.line_tracks.specs.TrackValue.{mark_of, note_kept, restored, saved, waiting};
 
 use crate::track::{Mark, Track};
 use crate::{History, Shadow};
@@ -29,9 +30,9 @@ pub struct Tracks {
 
 impl Model for Tracks {
     ghost use Rattle.std.specs.Prelude.{List};
-    ghost use Rattle.line_tracks.specs.Kept.{Kept};
+    ghost use Rattle.line_tracks.specs.TrackValue.{TrackValue};
 
-    ghost Value = { List Kept };
+    ghost Value = { List TrackValue };
 
     ghost view = { λ s. s.tracks.items };
 }
@@ -113,15 +114,15 @@ impl Tracks {
     )
         requires there { index < length self.old }
         requires early { position < 2 ^ 40 }
-        requires ready { (x : Kept) → slice_get self.old index ≡ Some x
+        requires ready { (x : TrackValue) → slice_get self.old index ≡ Some x
             → CanNote x position access.addr }
-        ensures exact { (x : Kept) → slice_get self.old index ≡ Some x
+        ensures exact { (x : TrackValue) → slice_get self.old index ≡ Some x
             → self.new ≡ slice_set self.old index (note_kept x position access) }
-        ensures in_time { (x : Kept) → slice_get self.old index ≡ Some x
+        ensures in_time { (x : TrackValue) → slice_get self.old index ≡ Some x
             → IsInTime (note_kept x position access) (position + 1) }
         ensures step { steps.new ≡ steps.old + 1 }
         // where it was the track of a list and a line, it is that of the list with the access
-        ensures follows { (x : Kept) → slice_get self.old index ≡ Some x
+        ensures follows { (x : TrackValue) → slice_get self.old index ≡ Some x
             → (l : Line) (from : ℕ) (t : AccessList)
             → IsTrue (is_layout l.size l.offset) → length t ≡ position → from ≤ position
             → IsTrackOf l from t x → IsTrackOf l from (t ++ access ∷ [])
@@ -150,11 +151,11 @@ impl Tracks {
     /// What undoes one access of an address in the range of a track.
     pub fn mark(&self, index: u32, addr: u32) -> Mark
         requires there { index < length self.now }
-        requires holds { (x : Kept) → slice_get self.now index ≡ Some x
+        requires holds { (x : TrackValue) → slice_get self.now index ≡ Some x
             → IsTrue (holds_address x.range addr) }
-        ensures value { (x : Kept) → slice_get self.now index ≡ Some x → result ≡ mark_of x addr }
+        ensures value { (x : TrackValue) → slice_get self.now index ≡ Some x → result ≡ mark_of x addr }
         // after one access of the address the track can be restored
-        ensures undoes { (x : Kept) → slice_get self.now index ≡ Some x → (position : ℕ) (a : Touch)
+        ensures undoes { (x : TrackValue) → slice_get self.now index ≡ Some x → (position : ℕ) (a : Touch)
             → a.addr ≡ addr
             → CanRestore (note_kept x position a) result }
     {
@@ -165,11 +166,11 @@ impl Tracks {
     /// Gives a track the start, the entries, the count and the word of a mark. It takes no memory.
     pub fn restore(&mut self, index: u32, mark: Mark)
         requires there { index < length self.old }
-        requires ready { (x : Kept) → slice_get self.old index ≡ Some x → CanRestore x mark }
-        ensures exact { (x : Kept) → slice_get self.old index ≡ Some x
+        requires ready { (x : TrackValue) → slice_get self.old index ≡ Some x → CanRestore x mark }
+        ensures exact { (x : TrackValue) → slice_get self.old index ≡ Some x
             → self.new ≡ slice_set self.old index (restored x mark) }
         // after one note of a track its mark gives it back
-        ensures undoes { (x : Kept) (position : ℕ) (a : Touch)
+        ensures undoes { (x : TrackValue) (position : ℕ) (a : Touch)
             → slice_get self.old index ≡ Some (note_kept x position a)
             → mark ≡ mark_of x a.addr → self.new ≡ slice_set self.old index x }
     {

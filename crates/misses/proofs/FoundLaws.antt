@@ -7,7 +7,7 @@ use Rattle.std.specs.List.{AllByRecursion, IsDistinct}
 use Rattle.std.specs.Map.{keys_of, lookup, values_of}
 use Rattle.std.specs.Prelude.{slice_get, nat_eq, is_some}
 use Rattle.indexmap.specs.IndexMap.{insert_entry, set_value_at}
-use Rattle.misses.specs.Kept.{LineEntry}
+use Rattle.misses.specs.MissCounts.{LineEntry}
 
 apart : (q : ℕ) (es : List (ℕ × LineEntry)) (i k : ℕ) (l : LineEntry)
     → AllByRecursion (λ y. eqb q y ≡ false) (keys_of es) → slice_get es i ≡ Some (k, l)

@@ -14,7 +14,7 @@ use Rattle.std.specs.Option.{option_map_or}
 use Rattle.std.specs.Prelude.{Option, nat_eq, nat_lt, is_some, replicate, slice_index_or, slice_set}
 use Rattle.std.specs.Prelude.{if◌then◌else◌, take, drop}
 use Rattle.indexmap.specs.IndexMap.{insert_entry}
-use Rattle.misses.specs.Kept.{no_visits, visits_of}
+use Rattle.misses.specs.MissCounts.{no_visits, visits_of}
 use Rattle.misses.specs.Seats.{AreSeated, IsRound, free_seat, is_its, is_open, place_among, seat_of}
 use Rattle.misses.specs.Seats.{seen}
 use Rattle.misses.specs.declared.line_misses.Visits.{Visits}

@@ -6,7 +6,7 @@ use Rattle.std.specs.Prelude.{OnOk}
 use Rattle.std.proofs.lemmas.List.{append-nil}
 use Rattle.base.specs.Lines.{Grid}
 use Rattle.base.specs.TextLines.{text_of}
-use Rattle.misses.specs.Kept.{Kept, StandsFor}
+use Rattle.misses.specs.MissCounts.{MissCounts, StandsFor}
 use Rattle.misses.specs.Laws.Totals.{rows-stand}
 use Rattle.misses.specs.Rows.{all_costs, row_of, rows_of}
 use Rattle.misses.specs.declared.all_lines.Row.{Row}
@@ -24,14 +24,14 @@ use Rattle.misses.specs.Seen.{HasMissed, miss_account, missed, misses_begin_at}
 use Rattle.misses.specs.Seen.{misses_noted, nothing_missed}
 use Rattle.misses.specs.Texts.{misses_lines, misses_of_records, told_rows}
 use Rattle.trace_passes.specs.Lives.{objects_noted}
-use Rattle.misses.specs.declared.observer.MissSightings.{MissSightings}
+use Rattle.misses.specs.declared.observer.MissObservations.{MissObservations}
 use Rattle.trace_format.specs.Laws.Touches.{counted-one, room-next}
 use Rattle.trace_passes.specs.Laws.Accounts.{came-none, came-on, objects-beside}
 use Rattle.trace_passes.specs.Laws.Noting.{none_left, same_objects}
 
 -- ---- one record more
 
-noted_position : (k : Kept) (x : TraceRecord) → (misses_noted k x).position
+noted_position : (k : MissCounts) (x : TraceRecord) → (misses_noted k x).position
     ≡ counted_after k.position x
 noted_position k (records.Touch a pc) = refl
 noted_position k (records.Alloc addr size sites) = refl
@@ -39,41 +39,41 @@ noted_position k (records.Free addr) = refl
 noted_position k (records.Symbol kind addr size name) = refl
 noted_position k (records.End e) = refl
 
-noted_grid : (k : Kept) (x : TraceRecord) → (misses_noted k x).grid ≡ k.grid
+noted_grid : (k : MissCounts) (x : TraceRecord) → (misses_noted k x).grid ≡ k.grid
 noted_grid k (records.Touch a pc) = refl
 noted_grid k (records.Alloc addr size sites) = refl
 noted_grid k (records.Free addr) = refl
 noted_grid k (records.Symbol kind addr size name) = refl
 noted_grid k (records.End e) = refl
 
-pub misses_next : (old new : MissSightings) (x : TraceRecord) → new ≡ missed old x
+pub misses_next : (old new : MissObservations) (x : TraceRecord) → new ≡ missed old x
     → ((t : AccessList) → StandsFor t old.misses
     → StandsFor (t ++ touches_in (x ∷ [])) new.misses)
     → GivenNext HasMissed old new x
 misses_next old new x is stands begun xs so_far =
     let one : CameBy miss_account old new (x ∷ []) = record {
       stands = stands;
-      position = ap (λ (s : MissSightings). s.misses.position) is
+      position = ap (λ (s : MissObservations). s.misses.position) is
           ∙ noted_position old.misses x ∙ counted-one old.misses.position x;
-      setting = ap (λ (s : MissSightings). s.misses.grid) is ∙ noted_grid old.misses x;
+      setting = ap (λ (s : MissObservations). s.misses.grid) is ∙ noted_grid old.misses x;
     } in
     record {
       accesses = came-on miss_account begun old new xs (x ∷ []) so_far.accesses one;
       objects = objects-beside miss_account (λ s. s.objects) begun old new xs x so_far.accesses
-          so_far.objects (ap (λ (s : MissSightings). s.objects) is);
+          so_far.objects (ap (λ (s : MissObservations). s.objects) is);
     }
 
 -- both parts with one record more
-module _ {T E : Type 0} (r : Result T E) (old : MissSightings) (k : Kept) (o : Objects)
+module _ {T E : Type 0} (r : Result T E) (old : MissObservations) (k : MissCounts) (o : Objects)
     (x : TraceRecord) (misses : k ≡ misses_noted old.misses x)
     (objects : OnOk r (o ≡ objects_noted old.objects x old.misses.position))
   where
-    abbrev now : MissSightings
+    abbrev now : MissObservations
     now = record { misses = k; objects = o }
 
     noted_both : o ≡ objects_noted old.objects x old.misses.position → now ≡ missed old x
     noted_both is =
-        ap (λ (m : Kept). record { misses = m; objects = o }) misses
+        ap (λ (m : MissCounts). record { misses = m; objects = o }) misses
         ∙ ap (λ (os : Objects). record { misses = misses_noted old.misses x; objects = os }) is
 
     pub both_noted : OnOk r (now ≡ missed old x)
@@ -98,7 +98,7 @@ nothing_missed_yet g = record {
       (sym (append-nil _ ∙ none_left 0 []));
 }
 
-pub room_for_miss : (now : MissSightings) (x : TraceRecord)
+pub room_for_miss : (now : MissObservations) (x : TraceRecord)
     → HasRoom misses_begin_at HasMissed now (x ∷ [])
     → counted_after now.misses.position x ≤ last_position
 room_for_miss now x room =
@@ -106,7 +106,7 @@ room_for_miss now x room =
     room.given_so_far.accesses.position room.first room.begins_there room.room
 
 -- ---- the text
-pub missed_text : (g : Grid) (now : MissSightings) (items : List TraceRecord) (total : Costs)
+pub missed_text : (g : Grid) (now : MissObservations) (items : List TraceRecord) (total : Costs)
     → HasMissed (nothing_missed g) now items
     → ((t : AccessList) → StandsFor t now.misses → total ≡ all_costs now.misses.grid t)
     → text_of (misses_lines now.misses.grid now.misses.position now.objects
@@ -114,7 +114,7 @@ pub missed_text : (g : Grid) (now : MissSightings) (items : List TraceRecord) (t
 unfolding misses_of_records
 missed_text g now items total so_far costs =
     let t : AccessList = touches_in items in
-    let k : Kept = now.misses in
+    let k : MissCounts = now.misses in
     let stands : StandsFor t k = so_far.accesses.stands [] refl in
     ap (λ (rs : List Row). text_of (misses_lines k.grid k.position now.objects (told_rows rs) total))
     (rows-stand k t stands)
@@ -123,6 +123,6 @@ missed_text g now items total so_far costs =
     ∙ ap (λ (q : Grid). text_of (misses_lines q k.position now.objects (told_rows (rows_of q t))
     (all_costs q t))) so_far.accesses.setting
     ∙ ap (λ p. text_of (misses_lines g p now.objects (told_rows (rows_of g t)) (all_costs g t)))
-    (ap (λ (x : Kept). x.position) stands)
+    (ap (λ (x : MissCounts). x.position) stands)
     ∙ ap (λ (o : Objects). text_of (misses_lines g (length t) o (told_rows (rows_of g t))
     (all_costs g t))) so_far.objects

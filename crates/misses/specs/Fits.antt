@@ -1,7 +1,7 @@
 -- Lines of so many words whose counts are within a bound.
 use Rattle.std.specs.Prelude.{◌≡◌, ℕ, ◌/◌, ◌<◌, ◌≤◌, ◌^◌, length, List}
 use Rattle.std.specs.List.{AllByRecursion}
-use Rattle.misses.specs.Kept.{LineEntry}
+use Rattle.misses.specs.MissCounts.{LineEntry}
 use Rattle.misses.specs.declared.line_misses.Counts.{Counts}
 
 -- counts below 2^40

@@ -5,7 +5,7 @@ pub mod Costs
 pub mod Entered
 pub mod Entries
 pub mod Fits
-pub mod Kept
+pub mod MissCounts
 pub mod KeptLines
 pub mod KeptOf
 pub mod Loads

@@ -1,6 +1,6 @@
 pub mod Entries
 pub mod Fits
-pub mod Kept
+pub mod MissCounts
 pub mod Laws
 pub mod Misses
 pub mod Rows

@@ -6,7 +6,7 @@ use Rattle.sharing_rules.specs.Lines.{grid_line}
 use Rattle.misses.specs.declared.line_misses.Costs.{Costs}
 use Rattle.misses.specs.declared.line_misses.Counts.{Counts}
 use Rattle.misses.specs.declared.all_lines.Row.{Row}
-use Rattle.misses.specs.Kept.{LineEntry, accessed_lines, lines_of}
+use Rattle.misses.specs.MissCounts.{LineEntry, accessed_lines, lines_of}
 use Rattle.misses.specs.Misses.{cold, useful, useless}
 
 abbrev pub costs_of : Counts → Costs

@@ -4,7 +4,7 @@ use Rattle.std.specs.Prelude.{◌≡◌, ◌⊎◌, ℕ, ◌-◌, ◌<◌, ◌^�
 use Rattle.std.specs.Prelude.{List, length, Option, Some, None, if◌then◌else◌, slice_index_or}
 use Rattle.std.specs.Prelude.{bit_and}
 use Rattle.std.specs.Map.{lookup}
-use Rattle.misses.specs.Kept.{no_visits}
+use Rattle.misses.specs.MissCounts.{no_visits}
 use Rattle.misses.specs.declared.line_misses.Visits.{Visits}
 
 -- the seat where nobody sits: 256 is no hart's number

@@ -3,7 +3,7 @@ use Rattle.std.specs.Prelude.{ℕ, ◌-◌, ◌*◌, not, ◌&&◌, ◌==◌, Li
 use Rattle.base.specs.Lines.{Grid}
 use Rattle.sharing_rules.specs.AccessLists.{AccessList}
 use Rattle.sharing_rules.specs.Places.{Question, count_places}
-use Rattle.misses.specs.Kept.{accessed_lines, lines_of}
+use Rattle.misses.specs.MissCounts.{accessed_lines, lines_of}
 use Rattle.misses.specs.Misses.{is_in, is_miss, is_needed}
 
 -- the layout of lines of one word; its line k begins at address 4 (k - 1)

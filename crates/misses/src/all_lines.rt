@@ -8,8 +8,9 @@ ghost use Rattle.base.specs.Lines.{line_number};
 ghost use Rattle.sharing_rules.specs.AccessLists.{AccessList};
 ghost use Rattle.sharing_rules.specs.Lines.{word_place};
 ghost use Rattle.misses.specs.Fits.{AreFit};
-ghost use Rattle.misses.specs.Kept.{LineEntry, StandsFor, blank_line, cost_in, cost_of, kept_of};
-ghost use Rattle.misses.specs.Kept.{has_come, has_come_to, note_access, note_line};
+ghost use Rattle.misses.specs.MissCounts.{LineEntry, StandsFor, blank_line, cost_in, cost_of};
+ghost use Rattle.misses.specs.MissCounts.{kept_of};
+ghost use Rattle.misses.specs.MissCounts.{has_come, has_come_to, note_access, note_line};
 
 use crate::line_misses::{Cost, Costs, Counts, LineMisses};
 use crate::recent::Recent;
@@ -40,12 +41,12 @@ pub struct Misses {
 }
 
 impl Model for Misses {
-    ghost use Rattle.misses.specs.Kept.{Kept};
+    ghost use Rattle.misses.specs.MissCounts.{MissCounts};
     ghost use Rattle.std.specs.Prelude.{IsTrue};
     ghost use Rattle.base.specs.Lines.{is_layout};
     ghost use Rattle.misses.specs.Fits.{AreFit, IsWithin};
 
-    ghost Value = { Kept };
+    ghost Value = { MissCounts };
 
     ghost view = { λ m. record {
       grid = m.layout;
@@ -180,8 +181,8 @@ fn find(lines: &IndexMap<u64, LineMisses>, recent: &mut Recent, number: u64) -> 
     look_up(lines, recent, number)
 }
 
-// Which word of its line an address is in. Most lines have 64 bytes, and a mask takes less time than
-// a division.
+// Which word of its line an address is in. Most lines have 64 bytes, and a mask takes less time
+// than a division.
 #[inline(always)]
 fn place_in(line: CacheLine, addr: u32) -> usize
     ensures { result ≡ word_place line addr }
@@ -206,7 +207,7 @@ fn note_in(
     requires within { word_place line access.now.addr < line.size / 4 }
     requires fit { AreFit line.size position lines.old.entries }
     ensures told { IfOk result (λ cost. cost ≡ cost_in lines.old.entries line access.now) }
-    ensures noted { OnOk result (lines.new.entries ≡ Rattle.misses.specs.Kept.note_in
+    ensures noted { OnOk result (lines.new.entries ≡ Rattle.misses.specs.MissCounts.note_in
         lines.old.entries line position access.now) }
     ensures refused { OnErr result (lines.new.entries ≡ lines.old.entries) }
     ensures known { IsTrue (has_come_to lines.old.entries line.number access.now.hart)

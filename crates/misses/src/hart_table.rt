@@ -4,7 +4,7 @@ ghost use Rattle.std.specs.Prelude.{◌≡◌, ℕ, ◌<◌, ◌^◌, None, Some
 ghost use Rattle.std.specs.Prelude.{OnOk, OnErr, IsOk, IsTrue, if◌then◌else◌, slice_set};
 ghost use Rattle.std.specs.Map.{lookup};
 ghost use Rattle.indexmap.specs.IndexMap.{insert_entry};
-ghost use Rattle.misses.specs.Kept.{visits_of};
+ghost use Rattle.misses.specs.MissCounts.{visits_of};
 ghost use Rattle.misses.specs.Seats.{IsRound, is_its, is_open, place_among, seat_of, seen};
 
 use crate::comers::Comers;
@@ -38,7 +38,7 @@ impl Model for HartTable {
 
 // The place of a hart.
 #[inline(always)]
-fn place_of(seats: &Vec<Seat>, hart: u16) -> usize
+fn seat_index(seats: &Vec<Seat>, hart: u16) -> usize
     ensures { result ≡ place_among (length seats.now.items) hart }
 {
     usize::from(hart) & seats.len().saturating_sub(1)
@@ -49,7 +49,7 @@ fn place_of(seats: &Vec<Seat>, hart: u16) -> usize
 fn seat_at(seats: &Vec<Seat>, hart: u16) -> Seat
     ensures { result ≡ seat_of seats.now.items hart }
 {
-    match seats.get(place_of(seats, hart)) {
+    match seats.get(seat_index(seats, hart)) {
         Some(seat) => *seat,
         None => Seat::free(),
     }
@@ -63,7 +63,7 @@ fn put_at(seats: &mut Vec<Seat>, hart: u16, seat: Seat) -> bool
     ensures put { seats.new.items ≡ if result then slice_set seats.old.items
         (place_among (length seats.old.items) hart) seat else seats.old.items }
 {
-    let place = place_of(seats, hart);
+    let place = seat_index(seats, hart);
     match seats.get_mut(place) {
         Some(old) => {
             if old.number() == hart {
@@ -81,7 +81,7 @@ fn is_open(seats: &Vec<Seat>, hart: u16) -> bool
     ensures { result ≡ is_open seats.now.items hart }
 {
     let number = seat_at(seats, hart).number();
-    !seats.is_empty() && (number >= NO_HART || place_of(seats, number) != place_of(seats, hart))
+    !seats.is_empty() && (number >= NO_HART || seat_index(seats, number) != seat_index(seats, hart))
 }
 
 // Makes twice as many seats, each the same as the one that its harts had.
@@ -140,7 +140,7 @@ fn add(seats: &mut Vec<Seat>, hart: u16, visits: Visits) -> Result<(), NoMemory>
         Ok(()) => {}
         Err(fault) => return Err(fault),
     }
-    let place = place_of(seats, hart);
+    let place = seat_index(seats, hart);
     seats[place] = Seat::of(hart, visits);
     Ok(())
 }

@@ -1,6 +1,6 @@
 // The latest write of a word, in 8 bytes.
 ghost use Rattle.std.specs.Prelude.{◌≡◌, ◌<◌, ◌^◌};
-ghost use Rattle.misses.specs.Kept.{unwritten};
+ghost use Rattle.misses.specs.MissCounts.{unwritten};
 
 use crate::line_misses::LastWrite;
 use std::marker::Model;

@@ -4,7 +4,7 @@ ghost use Rattle.base.specs.Lines.{Grid, is_layout, line_number};
 ghost use Rattle.base.specs.Touch.{Touch};
 ghost use Rattle.sharing_rules.specs.AccessLists.{AccessList};
 ghost use Rattle.sharing_rules.specs.Places.{count_places};
-ghost use Rattle.misses.specs.Kept.{lines_of};
+ghost use Rattle.misses.specs.MissCounts.{lines_of};
 ghost use Rattle.misses.specs.Misses.{cold, is_cold, is_miss, is_needed, useful, useless};
 ghost use Rattle.misses.specs.WordLines.{IsAlone};
 ghost use Rattle.misses.specs.WordsApart.{came_along, misses_apart, needed_apart};
@@ -37,8 +37,8 @@ pub fn word_lines_waste_nothing()
         → IsTrue (is_needed (line_number 4 0) (line_number 4 0 a.addr) t a) }
 {}
 
-/// What a line for each word saves: the misses of a line, less those of its words' own lines, are at
-/// most its misses for nothing. They are exactly these less the words that came along, which the
+/// What a line for each word saves: the misses of a line, less those of its words' own lines, are
+/// at most its misses for nothing. They are exactly these less the words that came along, which the
 /// line brought together with another word that its hart needed.
 pub fn padding_saves_what_is_useless()
     // a line's needed loads, and the words that came along, are the needed loads of its words' own

@@ -7,10 +7,11 @@
 //! needed.
 //!
 //! The definitions stand in `specs/Misses.antt`, over whole lists, and the laws in `specs/Laws/`:
-//! each needed load has a miss of its own, under lines of 4 bytes nothing is useless, and a line for
-//! each word saves at most what is useless. `Misses` keeps one latest write of each line and of each
-//! word in it, and two positions of each hart in it, which is enough to tell both. [`MissSightings`]
-//! sees the records of a trace and has the text: `specs/Seen.antt` and `specs/Texts.antt`.
+//! each needed load has a miss of its own, under lines of 4 bytes nothing is useless, and a line
+//! for each word saves at most what is useless. `Misses` keeps one latest write of each line and of
+//! each word in it, and two positions of each hart in it, which is enough to tell both.
+//! [`MissObservations`] sees the records of a trace and has the text: `specs/Seen.antt` and
+//! `specs/Texts.antt`.
 #![tactic(auto)]
 
 mod all_lines;
@@ -27,5 +28,5 @@ mod text;
 pub use all_lines::{Misses, Row};
 pub use laws::{costs_add_up, padding_saves_what_is_useless, word_lines_waste_nothing};
 pub use line_misses::Costs;
-pub use observer::MissSightings;
+pub use observer::MissObservations;
 pub use recent::Recent;

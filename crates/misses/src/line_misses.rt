@@ -1,10 +1,10 @@
 // What is kept of a line.
 ghost use Rattle.std.specs.Prelude.{◌≡◌, ◌+◌, ◌<◌, ◌^◌, length, slice_set, OnOk};
 ghost use Rattle.std.specs.Prelude.{OnErr, IfOk, IsOk, IsTrue};
-ghost use Rattle.misses.specs.Kept.{blank_line, cost_of, counts_after, has_come};
-ghost use Rattle.misses.specs.Kept.{misses_now, needs_now, note_line};
+ghost use Rattle.misses.specs.MissCounts.{blank_line, cost_of, counts_after, has_come};
+ghost use Rattle.misses.specs.MissCounts.{misses_now, needs_now, note_line};
 ghost use Rattle.misses.specs.Fits.{IsFew};
-ghost use Rattle.misses.specs.Kept.{visits_after, visits_of};
+ghost use Rattle.misses.specs.MissCounts.{visits_after, visits_of};
 
 use crate::hart_table::HartTable;
 use crate::kept_write::KeptWrite;
@@ -61,7 +61,7 @@ pub struct LineMisses {
 }
 
 impl Model for LineMisses {
-    ghost use Rattle.misses.specs.Kept.{LineEntry};
+    ghost use Rattle.misses.specs.MissCounts.{LineEntry};
 
     ghost Value = { LineEntry };
 
@@ -131,7 +131,7 @@ impl Counts {
 
 // So many words of which none was written.
 fn blank_words(alloc: Global, count: usize) -> Result<Vec<KeptWrite>, NoMemory>
-    ensures { IfOk result (λ v. v.items ≡ Rattle.misses.specs.Kept.blank_words count) }
+    ensures { IfOk result (λ v. v.items ≡ Rattle.misses.specs.MissCounts.blank_words count) }
 {
     let mut words = Vec::with_capacity(alloc, count)?;
     for _ in 0..count {

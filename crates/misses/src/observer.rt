@@ -2,7 +2,7 @@
 // other.
 ghost use Rattle.std.specs.Prelude.{◌≡◌, ◌∷◌, ◌++◌, ◌≤◌, [], IfOk, IsFalse, IsOk, List, OnOk};
 ghost use Rattle.base.specs.Lines.{Grid};
-ghost use Rattle.misses.specs.Kept.{StandsFor};
+ghost use Rattle.misses.specs.MissCounts.{StandsFor};
 ghost use Rattle.sharing_rules.specs.AccessLists.{AccessList};
 ghost use Rattle.misses.specs.Seen.{HasMissed, missed, misses_noted};
 ghost use Rattle.misses.specs.Seen.{misses_want_memory, nothing_missed, wants_memory};
@@ -23,7 +23,7 @@ use trace_passes::{Observer, note_object};
 /// What the records of a trace have shown so far of the misses of each line under a layout, and a
 /// table of the symbols and blocks.
 #[derive(Drop)]
-pub struct MissSightings {
+pub struct MissObservations {
     /// What the accesses show.
     pub misses: Misses,
     /// The symbols and blocks.
@@ -48,13 +48,13 @@ fn note_miss(misses: &mut Misses, item: &TraceRecord) -> Result<(), NoMemory>
     }
 }
 
-impl MissSightings {
+impl MissObservations {
     /// Nothing seen yet, under a layout.
-    pub fn new(alloc: Global, layout: Layout) -> MissSightings
+    pub fn new(alloc: Global, layout: Layout) -> MissObservations
         ensures blank { result ≡ nothing_missed layout }
         ensures begun { HasMissed result result [] }
     {
-        MissSightings {
+        MissObservations {
             misses: Misses::new(alloc, layout),
             objects: ObjectTable::new(alloc),
         }
@@ -98,7 +98,7 @@ impl MissSightings {
     }
 }
 
-impl Observer for MissSightings {
+impl Observer for MissObservations {
     ghost use Rattle.std.specs.Prelude.{IsFalse};
     ghost use Rattle.misses.specs.Seen.{HasMissed, misses_begin_at, wants_memory};
 
@@ -110,6 +110,6 @@ impl Observer for MissSightings {
 
     #[inline]
     fn note(&mut self, item: &TraceRecord) -> Result<(), NoMemory> {
-        MissSightings::note(self, item)
+        MissObservations::note(self, item)
     }
 }

@@ -4,7 +4,7 @@ pub mod LiveLaws
 pub mod Lives
 pub mod MadeTrees
 pub mod NumberLaws
-pub mod Places
+pub mod SymbolKeys
 pub mod SymbolLaws
 pub mod TableLaws
 pub mod TreeLaws

@@ -11,7 +11,7 @@ pub enum SymbolKind {
 
 // Where a symbol lies, which no two symbols of a table share.
 #[derive(Clone, Copy, PartialEq, Eq, Hash, Debug)]
-pub(crate) struct Place {
+pub(crate) struct SymbolKey {
     pub(crate) kind: SymbolKind,
     pub(crate) addr: u32,
     pub(crate) size: u32,

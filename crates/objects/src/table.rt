@@ -16,7 +16,7 @@ ghost use Rattle.objects.specs.Blocks.{is_live_at, meets_live};
 ghost use Rattle.objects.specs.Objects.{no_objects};
 
 use crate::block::Block;
-use crate::symbol::{Place, SymbolKind};
+use crate::symbol::{SymbolKey, SymbolKind};
 use base::{Name, NoMemory};
 use indexmap::IndexMap;
 use std::alloc::Global;
@@ -61,7 +61,7 @@ fn is_function(kind: SymbolKind) -> bool
 /// Contracts see both lists.
 #[derive(Drop)]
 pub struct ObjectTable {
-    symbols: IndexMap<Place, Name>,
+    symbols: IndexMap<SymbolKey, Name>,
     blocks: Vec<Block>,
     // the number of the live block at an address
     live: BTreeMap<u32, usize>,
@@ -138,7 +138,7 @@ impl ObjectTable {
         ensures known { let new = kept_symbol kind addr size name.now in
             IsTrue (list_any (is_in_place_of new) self.old.symbols) → IsOk result }
     {
-        let place = Place { kind, addr, size };
+        let place = SymbolKey { kind, addr, size };
         if self.symbols.contains_key(&place) {
             return Ok(());
         }
@@ -194,7 +194,7 @@ impl ObjectTable {
         ensures { result ≡ list_any (is_in_place_of (kept_symbol kind addr size []))
             self.now.symbols }
     {
-        self.symbols.contains_key(&Place { kind, addr, size })
+        self.symbols.contains_key(&SymbolKey { kind, addr, size })
     }
 
     /// Whether a block lives at the address of one of the live blocks here.

@@ -1,12 +1,13 @@
 //! A new place for each word of an object, so that no two harts share a line for its sake, and what
 //! that comes to over the same accesses.
 //!
-//! `specs/Words.antt` says what the words of an object are, and who touches each; `specs/Plans.antt`
-//! where each goes, and `specs/Recounts.antt` what that saves. Three passes over a trace tell it all:
-//! [`Finder`] seeks the object, [`Owners`] keeps who touches its words, access by access, and
-//! [`Recount`] counts the accesses where they are and where a [`Plan`] moves them.
+//! `specs/Words.antt` says what the words of an object are, and who touches each;
+//! `specs/Plans.antt` where each goes, and `specs/Recounts.antt` what that saves. Three passes over
+//! a trace tell it all: [`Finder`] seeks the object, [`Owners`] keeps who touches its words, access
+//! by access, and [`Recount`] counts the accesses where they are and where a [`Plan`] moves them.
 #![tactic(auto)]
 
+mod cases;
 mod extent;
 mod finder;
 mod groups;
@@ -18,8 +19,8 @@ mod recount;
 mod refusal;
 mod sums;
 mod text;
-mod told;
 
+pub use cases::cases_of_a_placement;
 pub use extent::Extent;
 pub use finder::Finder;
 pub use laws::{
@@ -32,4 +33,3 @@ pub use recount::Recount;
 pub use refusal::PlaceRefusal;
 pub use sums::Sums;
 pub use text::write_place;
-pub use told::what_is_told;

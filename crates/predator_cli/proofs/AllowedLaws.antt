@@ -7,9 +7,9 @@ use Rattle.std.specs.Prelude.{ℤ, pos, negsuc, ◌==◌, nat_lt, IfSome, IsTrue
 use Rattle.std.specs.Prelude.{option_and_then, unwrap_or}
 use Rattle.base.specs.Levels.{Levels, are_levels, is_from_to}
 use Rattle.base.specs.Lines.{Grid, is_layout}
-use Rattle.command_files.specs.Readings.{first_refusal}
-use Rattle.command_files.specs.SettingsFiles.{layout_of, levels_of, settings_in, settings_readings}
-use Rattle.command_files.specs.SettingsFiles.{settings_refusal}
+use Rattle.command_io.specs.Readings.{first_refusal}
+use Rattle.command_io.specs.SettingsFiles.{layout_of, levels_of, settings_in, settings_readings}
+use Rattle.command_io.specs.SettingsFiles.{settings_refusal}
 use Rattle.command_line.specs.Set.{AskedSettings, asked_under}
 use Rattle.toml.specs.Data.{Data, Members, as_integer, get_member, no_members}
 use Rattle.settings.specs.Answers.{behind_own, changed_values, judged_table, judged_under}

@@ -21,14 +21,14 @@ use Rattle.trace_format.specs.declared.fault.TraceFault.TheVariants as trace
 use Rattle.trace_passes.specs.Passes.{Trace, refusal_of, trace_of}
 use Rattle.trace_passes.specs.declared.wanted.Refusal.{Refusal}
 use Rattle.trace_passes.specs.declared.wanted.Refusal.TheVariants as refusals
-use Rattle.command_files.specs.Faults.{fault_text}
-use Rattle.command_files.specs.Readings.{FailsInOrder, IsRefusal, IsStopped, Reading, RoseAt}
-use Rattle.command_files.specs.Readings.{first_refusal, names_of}
-use Rattle.command_files.specs.Statuses.{done, kind_of, refusal}
-use Rattle.command_files.specs.Works.{Work, done_with}
-use Rattle.command_files.specs.declared.status.Status.{Status}
-use Rattle.command_files.specs.declared.status.Status.TheVariants as status
-use Rattle.command_files.specs.Laws.Readings.{none_alone, refused_stopped}
+use Rattle.command_io.specs.Faults.{fault_text}
+use Rattle.command_io.specs.Readings.{FailsInOrder, IsRefusal, IsStopped, Reading, RoseAt}
+use Rattle.command_io.specs.Readings.{first_refusal, names_of}
+use Rattle.command_io.specs.Statuses.{done, kind_of, refusal}
+use Rattle.command_io.specs.Works.{Work, done_with}
+use Rattle.command_io.specs.declared.status.Status.{Status}
+use Rattle.command_io.specs.declared.status.Status.TheVariants as status
+use Rattle.command_io.specs.Laws.Readings.{none_alone, refused_stopped}
 use Rattle.shelf.specs.Laws.Told.{goes_map, told, told_both, told_map}
 use Rattle.predator_cli.specs.Answer.{answer_of}
 use Rattle.predator_cli.specs.Commands.{RepeatsReport, manner_of, readings_of, work_of}

@@ -6,8 +6,8 @@ use Rattle.shelf.specs.Laws.Told.{told_map}
 use Rattle.shelf.specs.Shelf.{Files, Outside, content}
 use Rattle.trace_passes.specs.Passes.{Trace, trace_of}
 use Rattle.trace_passes.specs.declared.wanted.Wanted.{Wanted}
-use Rattle.command_files.specs.Readings.{IsAccepted, Reading}
-use Rattle.command_files.specs.Works.{Work, done_with}
+use Rattle.command_io.specs.Readings.{IsAccepted, Reading}
+use Rattle.command_io.specs.Works.{Work, done_with}
 use Rattle.predator_cli.specs.Commands.{RepeatsReport, readings_of, work_of}
 use Rattle.predator_cli.specs.Counting.{IsTextOf, IsToTell, counted_readings, counted_work}
 use Rattle.predator_cli.specs.Meets.{IsAnswered}

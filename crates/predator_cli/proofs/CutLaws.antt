@@ -13,8 +13,8 @@ use Rattle.base.specs.declared.ending.Ending.{Ending}
 use Rattle.report.specs.OfLists.{report_of}
 use Rattle.sharing_rules.specs.AccessLists.{AccessList}
 use Rattle.trace_passes.specs.Lives.{objects_after, objects_of}
-use Rattle.sightings.specs.Seen.{report_of_records}
-use Rattle.sightings.specs.Laws.Seen.{objects_after-end}
+use Rattle.observations.specs.Seen.{report_of_records}
+use Rattle.observations.specs.Laws.Seen.{objects_after-end}
 use Rattle.saved_state.specs.OfLists.{state_of_list}
 use Rattle.trace_format.specs.Rules.{touch_in, touches_in}
 use Rattle.trace_format.specs.declared.record.TraceRecord.{TraceRecord}

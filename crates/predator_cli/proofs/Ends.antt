@@ -5,13 +5,13 @@ use Rattle.shelf.specs.Shelf.{Files, Narrows, Outside, Told, Goes, Rose, OnlyPri
 use Rattle.shelf.specs.Shelf.{Adds}
 use Rattle.shelf.specs.Shelf.{AddsFront}
 use Rattle.command_line.specs.Words.{Demand, outputs as outputs_of}
-use Rattle.command_files.specs.Readings.{IsAccepted, IsStopped, first_refusal}
-use Rattle.command_files.specs.Works.{Work, done_with, refused_with}
-use Rattle.command_files.specs.Statuses.{Kind, kind_of, done, refusal}
-use Rattle.command_files.specs.Statuses.{hides_no_memory}
+use Rattle.command_io.specs.Readings.{IsAccepted, IsStopped, first_refusal}
+use Rattle.command_io.specs.Works.{Work, done_with, refused_with}
+use Rattle.command_io.specs.Statuses.{Kind, kind_of, done, refusal}
+use Rattle.command_io.specs.Statuses.{hides_no_memory}
 use Rattle.shelf.specs.Files.{AreWhole, Output}
-use Rattle.command_files.specs.declared.status.Status.{Status}
-use Rattle.command_files.specs.declared.status.Status.TheVariants as status
+use Rattle.command_io.specs.declared.status.Status.{Status}
+use Rattle.command_io.specs.declared.status.Status.TheVariants as status
 use Rattle.shelf.specs.Laws.Files.{none_begun}
 use Rattle.shelf.specs.Laws.Told.{goes_same, narrows_by, narrows_same, narrows_then, only_none}
 use Rattle.shelf.specs.Laws.Told.{told, told_both, told_map, told_same}

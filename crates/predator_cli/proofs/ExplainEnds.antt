@@ -9,9 +9,9 @@ use Rattle.settings.specs.declared.values.Settings.{Settings}
 use Rattle.shelf.specs.Laws.Told.{told_both}
 use Rattle.shelf.specs.Shelf.{Files, Outside, Told, content}
 use Rattle.trace_format.specs.declared.record.TraceRecord.{TraceRecord}
-use Rattle.command_files.specs.Laws.Settings.{settings_chosen}
-use Rattle.command_files.specs.Readings.{IsAccepted}
-use Rattle.command_files.specs.SettingsFiles.{settings_in}
+use Rattle.command_io.specs.Laws.Settings.{settings_chosen}
+use Rattle.command_io.specs.Readings.{IsAccepted}
+use Rattle.command_io.specs.SettingsFiles.{settings_in}
 use Rattle.predator_cli.specs.Explain.{IsToExplain, as_run, explain_readings, explain_work}
 use Rattle.predator_cli.specs.Explain.{explained}
 use Rattle.predator_cli.specs.Meets.{IsWorked}

@@ -4,11 +4,11 @@ use Rattle.std.proofs.Common.{◌∙◌, refl, inl, inr}
 use Rattle.shelf.specs.Shelf.{Files, Narrows, Outside, Told, Goes, OnlyPrints}
 use Rattle.shelf.specs.Shelf.{AddsFront}
 use Rattle.command_line.specs.Words.{Demand}
-use Rattle.command_files.specs.Statuses.{Kind, kind_of, done, refusal, read_fault, write_fault}
-use Rattle.command_files.specs.Statuses.{no_memory}
-use Rattle.command_files.specs.Faults.{fault_text}
-use Rattle.command_files.specs.declared.status.Status.{Status}
-use Rattle.command_files.specs.declared.status.Status.TheVariants as status
+use Rattle.command_io.specs.Statuses.{Kind, kind_of, done, refusal, read_fault, write_fault}
+use Rattle.command_io.specs.Statuses.{no_memory}
+use Rattle.command_io.specs.Faults.{fault_text}
+use Rattle.command_io.specs.declared.status.Status.{Status}
+use Rattle.command_io.specs.declared.status.Status.TheVariants as status
 use Rattle.shelf.specs.Laws.Told.{goes_map, narrows_by, narrows_then, rose_later, told, told_map}
 use Rattle.shelf.specs.Laws.Told.{told_same}
 use Rattle.shelf.specs.Laws.Told.{whole_prefix}

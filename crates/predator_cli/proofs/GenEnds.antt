@@ -6,8 +6,8 @@ use Rattle.shelf.specs.Files.{AreCut, AreWritten}
 use Rattle.shelf.specs.Shelf.{Files, Outside}
 use Rattle.shelf.specs.declared.shelf.ShelfError.{ShelfError}
 use Rattle.trace_files.specs.Made.{made_file}
-use Rattle.command_files.specs.Statuses.{status_of_writing}
-use Rattle.command_files.specs.declared.status.Status.TheVariants as status
+use Rattle.command_io.specs.Statuses.{status_of_writing}
+use Rattle.command_io.specs.declared.status.Status.TheVariants as status
 use Rattle.shelf.specs.Laws.Told.{told}
 use Rattle.predator_cli.specs.Gen.{gen_work, summary_of}
 use Rattle.predator_cli.specs.Meets.{IsFaulty, IsWorked}

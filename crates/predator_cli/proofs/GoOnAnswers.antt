@@ -25,16 +25,16 @@ use Rattle.trace_passes.specs.declared.wanted.Refusal.{Refusal}
 use Rattle.trace_passes.specs.declared.wanted.Wanted.{Wanted}
 use Rattle.predator_cli.specs.Answer.{answer_of}
 use Rattle.predator_cli.specs.GoesOn.{HoldsBoth, begun_of}
-use Rattle.command_files.specs.Readings.{Reading, first_refusal}
+use Rattle.command_io.specs.Readings.{Reading, first_refusal}
 use Rattle.predator_cli.specs.Replay.{begun_in, grid_in, levels_in, replay_readings, replay_work}
 use Rattle.predator_cli.specs.Replay.{state_readings, trace_reading, wanted_after}
-use Rattle.command_files.specs.SettingsFiles.{settings_readings}
+use Rattle.command_io.specs.SettingsFiles.{settings_readings}
 use Rattle.predator_cli.specs.States.{judged_state, state_of_records, state_refusal}
 use Rattle.predator_cli.specs.TraceFaults.{status_of_refusal}
-use Rattle.command_files.specs.Works.{Work, refused_with}
+use Rattle.command_io.specs.Works.{Work, refused_with}
 use Rattle.predator_cli.specs.declared.state_file.Begun.{Begun}
-use Rattle.command_files.specs.declared.status.Status.{Status}
-use Rattle.command_files.specs.Laws.Readings.{accepted_both}
+use Rattle.command_io.specs.declared.status.Status.{Status}
+use Rattle.command_io.specs.Laws.Readings.{accepted_both}
 
 -- ---- the trace
 

@@ -26,8 +26,8 @@ use Rattle.sharing_rules.specs.AccessLists.{AccessList}
 use Rattle.sharing_rules.specs.Listed.{may_predict}
 use Rattle.shelf.specs.Shelf.{Files, content}
 use Rattle.trace_passes.specs.Lives.{objects_after, objects_of}
-use Rattle.sightings.specs.Seen.{HasSeen, IsNotable, report_of_records}
-use Rattle.sightings.specs.Sights.{Sighted, report_of_sighted, sighted_after}
+use Rattle.observations.specs.Seen.{HasSeen, IsNotable, report_of_records}
+use Rattle.observations.specs.ObservedTraces.{ObservedTrace, report_of_observed, observed_after}
 use Rattle.saved_state.specs.OfLists.{MayKeep, state_of_list}
 use Rattle.saved_state.specs.Spelling.{spell_state}
 use Rattle.trace_format.specs.Rules.{touch_in, touches_in}
@@ -37,11 +37,11 @@ use Rattle.predator_cli.specs.GoesOn.{MayStand, begun_of, work_of_both}
 use Rattle.predator_cli.specs.Replay.{begun_in, ended_at, grid_in, levels_in, replay_work}
 use Rattle.predator_cli.specs.Replay.{shown, work_after}
 use Rattle.predator_cli.specs.States.{differing_field, judged_state, state_of_records}
-use Rattle.predator_cli.specs.States.{state_of_sighted}
-use Rattle.command_files.specs.Works.{Work, done_with}
+use Rattle.predator_cli.specs.States.{state_of_observed}
+use Rattle.command_io.specs.Works.{Work, done_with}
 use Rattle.predator_cli.specs.declared.state_file.Begun.{Begun}
-use Rattle.command_files.specs.declared.status.StateFault.TheVariants as state
-use Rattle.command_files.specs.declared.status.Status.TheVariants as status
+use Rattle.command_io.specs.declared.status.StateFault.TheVariants as state
+use Rattle.command_io.specs.declared.status.Status.TheVariants as status
 use Rattle.predator_cli.proofs.StateFiles.{objects_found, state_resumed}
 
 -- ---- the state is taken up
@@ -89,7 +89,7 @@ taken_up g v harts before may read again =
 -- what is taken up is as it is where records are noted
 pub kept_notable : (g : Grid) (v : Levels) (harts : ℕ) (before : List TraceRecord)
     → MayStand g v harts before → NoTwoAlike (objects_of before).symbols
-    → IsNotable (begun_of g v harts before).sightings
+    → IsNotable (begun_of g v harts before).observations
 kept_notable g v harts before may apart = record {
   layout = may.kept.layout;
   native = may.kept.predictable;
@@ -101,8 +101,8 @@ kept_notable g v harts before may apart = record {
         → 0 < v.tracking
     first_level v h = grind (arith, nat_tests)
 
-module _ (g : Grid) (v : Levels) (harts : ℕ) (before items : List TraceRecord) (now : Sighted)
-    (seen : HasSeen (begun_of g v harts before).sightings now items)
+module _ (g : Grid) (v : Levels) (harts : ℕ) (before items : List TraceRecord) (now : ObservedTrace)
+    (seen : HasSeen (begun_of g v harts before).observations now items)
     (stood : StandsFor (touches_in before) (kept_of_list g v harts (touches_in before)))
     (behind : objects_after (objects_of before) (length (touches_in before)) items
     ≡ objects_of (before ++ items))
@@ -115,7 +115,7 @@ module _ (g : Grid) (v : Levels) (harts : ℕ) (before items : List TraceRecord)
     objects_now : now.objects ≡ objects_of (before ++ items)
     objects_now = seen.objects ∙ behind
 
-    pub notable_now : IsNotable (begun_of g v harts before).sightings
+    pub notable_now : IsNotable (begun_of g v harts before).observations
         → NoTwoAlike (objects_of (before ++ items)).symbols → IsNotable now
     notable_now begun apart =
         let same = sym seen.accesses.setting in
@@ -128,10 +128,10 @@ module _ (g : Grid) (v : Levels) (harts : ℕ) (before items : List TraceRecord)
         }
 
     -- the report is that of all records
-    pub text_now : (ending : Ending) → report_of_sighted (ended_at now.watch.position ending) now
+    pub text_now : (ending : Ending) → report_of_observed (ended_at now.watch.position ending) now
         ≡ report_of (ended_at now.watch.position ending) now.watch.grid now.watch.levels now.objects
         (touches_in (before ++ items))
-        → report_of_sighted (ended_at now.watch.position ending) now
+        → report_of_observed (ended_at now.watch.position ending) now
         ≡ report_of_records (ended_at (length (touches_in (before ++ items))) ending) g v
         (before ++ items)
     unfolding report_of_records
@@ -143,18 +143,18 @@ module _ (g : Grid) (v : Levels) (harts : ℕ) (before items : List TraceRecord)
     -- and so is the state
     pub state_now : spell_state (state_of harts now.watch) ≡ state_of_list now.watch.grid
         now.watch.levels harts (touches_in (before ++ items))
-        → state_of_sighted harts now ≡ state_of_records g v harts (before ++ items)
-    unfolding state_of_sighted state_of_records
+        → state_of_observed harts now ≡ state_of_records g v harts (before ++ items)
+    unfolding state_of_observed state_of_records
     state_now saved =
         ap (λ (b : List ℕ). b ++ spell_objects now.objects) saved
         ∙ λ i. state_of_list (seen.accesses.setting i).0 (seen.accesses.setting i).1 harts
         (touches_in (before ++ items)) ++ spell_objects (objects_now i)
 
 -- by what is known of records that are noted, and of what stands for a list
-module _ (seen : (begun : Sighted) (items : List TraceRecord) → IsNotable begun
-    → HasSeen begun (sighted_after begun items) items)
-    (report : (ending : Ending) (s : Sighted) (t : AccessList) → IsNotable s → StandsFor t s.watch
-    → report_of_sighted ending s
+module _ (seen : (begun : ObservedTrace) (items : List TraceRecord) → IsNotable begun
+    → HasSeen begun (observed_after begun items) items)
+    (report : (ending : Ending) (s : ObservedTrace) (t : AccessList) → IsNotable s → StandsFor t s.watch
+    → report_of_observed ending s
     ≡ report_of ending s.watch.grid s.watch.levels s.objects t)
     (objects : (before items : List TraceRecord)
     → objects_after (objects_of before) (length (touches_in before)) items
@@ -173,8 +173,8 @@ module _ (seen : (begun : Sighted) (items : List TraceRecord) → IsNotable begu
         ≡ work_of_both save g v harts before t
     gone_on save g v harts before t may same =
         let items = all_records t in
-        let first : Sighted = (begun_of g v harts before).sightings in
-        let now : Sighted = sighted_after first items in
+        let first : ObservedTrace = (begun_of g v harts before).observations in
+        let now : ObservedTrace = observed_after first items in
         let notable = kept_notable g v harts before may (apart before) in
         let came = seen first items notable in
         let stood = stands g v harts (touches_in before) may.kept in
@@ -188,8 +188,8 @@ module _ (seen : (begun : Sighted) (items : List TraceRecord) → IsNotable begu
         let state = state_now g v harts before items now came stood behind
         (saved harts (touches_in (before ++ items)) now.watch still.layout still.native counted)
         in
-        ap (λ (n : ℕ). shown save (report_of_sighted (ended_at now.watch.position t.ending) now)
-        (state_of_sighted n now)) same
+        ap (λ (n : ℕ). shown save (report_of_observed (ended_at now.watch.position t.ending) now)
+        (state_of_observed n now)) same
         ∙ λ i. shown save (text i) (state i)
 
 -- ---- what a replay gives that is asked for

@@ -16,7 +16,7 @@ use Rattle.saved_state.specs.ObjectJudging.{is_life}
 use Rattle.saved_state.specs.ObjectRules.{IsSavable, IsSavedBlock, IsSavedSymbol}
 use Rattle.base.specs.Touch.{Touch}
 use Rattle.trace_passes.specs.Lives.{objects_of}
-use Rattle.sightings.specs.Origins.{IsBlockOf, IsSymbolOf}
+use Rattle.observations.specs.Origins.{IsBlockOf, IsSymbolOf}
 use Rattle.saved_state.specs.OfLists.{AreOf}
 use Rattle.trace_format.specs.Rules.{IsGoodRecord, IsGoodSymbol, touches_in}
 use Rattle.trace_format.specs.declared.record.TraceRecord.{TraceRecord}

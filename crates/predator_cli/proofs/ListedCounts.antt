@@ -16,7 +16,7 @@ use Rattle.base.specs.declared.layout.Range.{Range}
 use Rattle.command_line.specs.Explain.{ExplainDemand}
 use Rattle.guest.specs.GuestCalls.{RunEvent, quiet, touch, alloc, free, output}
 use Rattle.guest.specs.Runs.{Run, sited_among}
-use Rattle.takings.specs.Watched.{sited, sited_run}
+use Rattle.invalidations.specs.Watched.{sited, sited_run}
 use Rattle.objects.specs.Symbols.{Symbol, symbols_of as kept_symbols}
 use Rattle.program_files.specs.Symbols.{symbols_of}
 use Rattle.run_recorder.specs.Recorded.{records_in, trace_for}
@@ -36,17 +36,17 @@ use Rattle.sharing_rules.specs.Laws.Opened.{doubled-some, observed-some, opened_
 use Rattle.sharing_rules.specs.Laws.Orders.{in_order-permutes}
 use Rattle.shelf.specs.Shelf.{Files, content}
 use Rattle.trace_passes.specs.Lives.{symbols_in}
-use Rattle.takings.specs.Kept.{kept_of}
-use Rattle.takings.specs.Latest.{accesses_of}
-use Rattle.takings.specs.Laws.Listed.{listed-counted}
-use Rattle.takings.specs.Takings.{taking_count}
-use Rattle.takings.specs.Text.{table_lines}
+use Rattle.invalidations.specs.LineInvalidations.{kept_of}
+use Rattle.invalidations.specs.Latest.{accesses_of}
+use Rattle.invalidations.specs.Laws.Listed.{listed-counted}
+use Rattle.invalidations.specs.Invalidations.{invalidation_count}
+use Rattle.invalidations.specs.Text.{table_lines}
 use Rattle.trace_format.specs.Rules.{touch_in, touches_in}
 use Rattle.trace_format.specs.declared.record.TraceRecord.{TraceRecord}
 use Rattle.trace_format.specs.declared.record.TraceRecord.TheVariants as records
 use Rattle.trace_format.specs.declared.record.Version.{Version}
 use Rattle.trace_passes.specs.Passes.{all_records}
-use Rattle.command_files.specs.SettingsFiles.{chosen_settings, levels_of, native_of}
+use Rattle.command_io.specs.SettingsFiles.{chosen_settings, levels_of, native_of}
 use Rattle.predator_cli.specs.Explain.{as_run, explain_work}
 use Rattle.predator_cli.specs.ListedCounts.{TellsCount, TellsListedCount}
 use Rattle.predator_cli.specs.Run.{run_for_demand, symbol_record, symbol_records, version_with}
@@ -192,7 +192,7 @@ tells_listed demand allowed files = λ to_trace to_output pcs f m same start.
     let line : f.line ≡ l =
     same_line f.line l (listed_laid settings.line (levels_of None settings) t f m some) small same
     in
-    let count : f.count ≡ taking_count l demand.start (sited_run r) =
+    let count : f.count ≡ invalidation_count l demand.start (sited_run r) =
     listed-counted (native_of settings) (levels_of None settings) t f m
     ∙ ap (λ (x : Line). line_count_since x f.start t) line
     ∙ ap (λ s. line_count_since l s t) start

@@ -1,11 +1,12 @@
 -- What is judged before a command writes is judged first of all.
-use Rattle.std.proofs.Common.{◌≡◌, List, [], ◌∷◌, ◌++◌, Option, Some, None, refl, ap, subst, sym, ◌∙◌}
+use Rattle.std.proofs.Common.{◌≡◌, List, [], ◌∷◌, ◌++◌, Option, Some, None, refl, ap, subst, sym}
+use Rattle.std.proofs.Common.{◌∙◌}
 use Rattle.std.specs.Option.{option_map_or}
 use Rattle.shelf.specs.Shelf.{Files, Outside}
-use Rattle.command_files.specs.Laws.Readings.{accepted_first, refused_first, stopped_first}
-use Rattle.command_files.specs.Readings.{IsStopped, Reading, first_refusal}
-use Rattle.command_files.specs.Works.{Work, refused_with}
-use Rattle.command_files.specs.declared.status.Status.{Status}
+use Rattle.command_io.specs.Laws.Readings.{accepted_first, refused_first, stopped_first}
+use Rattle.command_io.specs.Readings.{IsStopped, Reading, first_refusal}
+use Rattle.command_io.specs.Works.{Work, refused_with}
+use Rattle.command_io.specs.declared.status.Status.{Status}
 use Rattle.predator_cli.specs.Judged.{judged_leaving}
 use Rattle.predator_cli.specs.Manners.{Manner, all_but_last, judged_before, judged_first, left_of}
 use Rattle.predator_cli.specs.Manners.{read_again, read_along}

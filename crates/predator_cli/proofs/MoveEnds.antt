@@ -30,11 +30,11 @@ use Rattle.trace_format.specs.declared.fault.TraceFault.TheVariants as trace
 use Rattle.trace_passes.specs.Passes.{Trace, spell_trace, trace_of}
 use Rattle.trace_passes.specs.declared.wanted.Refusal.{Refusal}
 use Rattle.trace_passes.specs.declared.wanted.Refusal.TheVariants as refusals
-use Rattle.command_files.specs.Readings.{FailsInOrder, IsAccepted, IsRefusal, first_refusal}
-use Rattle.command_files.specs.Statuses.{done, refusal}
-use Rattle.command_files.specs.Works.{Work, done_with, refused_with}
-use Rattle.command_files.specs.declared.status.Status.{Status}
-use Rattle.command_files.specs.declared.status.Status.TheVariants as status
+use Rattle.command_io.specs.Readings.{FailsInOrder, IsAccepted, IsRefusal, first_refusal}
+use Rattle.command_io.specs.Statuses.{done, refusal}
+use Rattle.command_io.specs.Works.{Work, done_with, refused_with}
+use Rattle.command_io.specs.declared.status.Status.{Status}
+use Rattle.command_io.specs.declared.status.Status.TheVariants as status
 use Rattle.predator_cli.specs.Answer.{answer_of}
 use Rattle.predator_cli.specs.Commands.{leaves}
 use Rattle.predator_cli.specs.Copies.{copy_with}

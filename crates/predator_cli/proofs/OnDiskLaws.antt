@@ -1,8 +1,8 @@
 -- What is said of a call says of contents that agree with all that was read.
 use Rattle.std.proofs.Common.{◌≡◌, ℕ, Bool, Option, Some, None, if◌then◌else◌, subst, sym}
-use Rattle.command_files.specs.Numbers.{number_of}
-use Rattle.command_files.specs.Statuses.{Kind, done, kind_of, refusal}
-use Rattle.command_files.specs.declared.status.Status.{Status}
+use Rattle.command_io.specs.Numbers.{number_of}
+use Rattle.command_io.specs.Statuses.{Kind, done, kind_of, refusal}
+use Rattle.command_io.specs.declared.status.Status.{Status}
 use Rattle.command_line.specs.Words.{Demand}
 use Rattle.disk_shelf.specs.Disk.{Seen, disk_outside, fresh_outside, held_by}
 use Rattle.predator_cli.specs.Answer.{answer_of}

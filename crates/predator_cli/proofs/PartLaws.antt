@@ -13,13 +13,13 @@ use Rattle.std.specs.Prelude.{IsTrue, flat_map, unwrap_or}
 use Rattle.std.specs.Str.{bytes_eq}
 use Rattle.base.specs.Levels.{Levels, is_from_to}
 use Rattle.base.specs.Lines.{Grid}
-use Rattle.command_files.specs.Laws.Readings.{accepted_both, none_alone}
-use Rattle.command_files.specs.Laws.Settings.{settings_chosen, settings_pass}
-use Rattle.command_files.specs.Readings.{first_refusal}
-use Rattle.command_files.specs.SettingsFiles.{layout_of, levels_of, settings_in}
-use Rattle.command_files.specs.SettingsFiles.{settings_readings}
-use Rattle.command_files.specs.Works.{Work, done_with, refused_with}
-use Rattle.command_files.specs.declared.status.Status.{Status}
+use Rattle.command_io.specs.Laws.Readings.{accepted_both, none_alone}
+use Rattle.command_io.specs.Laws.Settings.{settings_chosen, settings_pass}
+use Rattle.command_io.specs.Readings.{first_refusal}
+use Rattle.command_io.specs.SettingsFiles.{layout_of, levels_of, settings_in}
+use Rattle.command_io.specs.SettingsFiles.{settings_readings}
+use Rattle.command_io.specs.Works.{Work, done_with, refused_with}
+use Rattle.command_io.specs.declared.status.Status.{Status}
 use Rattle.command_line.specs.Replay.{ReplayDemand}
 use Rattle.command_line.specs.Split.{SplitDemand}
 use Rattle.command_line.specs.Words.{replay}

@@ -6,8 +6,8 @@ use Rattle.std.specs.Option.{option_map_or}
 use Rattle.std.specs.Prelude.{IsFalse, IsTrue}
 use Rattle.std.specs.Result.{result_map_both}
 use Rattle.base.specs.Lines.{is_line_size, line_number}
-use Rattle.command_files.specs.Works.{done_or_refused, done_with}
-use Rattle.command_files.specs.declared.status.Status.TheVariants as status
+use Rattle.command_io.specs.Works.{done_or_refused, done_with}
+use Rattle.command_io.specs.declared.status.Status.TheVariants as status
 use Rattle.command_line.specs.Place.{PlaceDemand}
 use Rattle.placement.specs.Groups.{group_of, many_group, untouched_group}
 use Rattle.placement.specs.Laws.Groups.{IsLineSize, line-sized}

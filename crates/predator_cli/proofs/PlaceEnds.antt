@@ -13,11 +13,11 @@ use Rattle.shelf.specs.Shelf.{Files, HasRead, Outside, Told}
 use Rattle.trace_format.specs.declared.record.TraceRecord.{TraceRecord}
 use Rattle.trace_passes.specs.Passes.{HasPassed, Trace, all_records}
 use Rattle.trace_passes.specs.declared.passes.Passed.{Passed}
-use Rattle.command_files.specs.Faults.{fault_text}
-use Rattle.command_files.specs.Readings.{IsAccepted}
-use Rattle.command_files.specs.Statuses.{Kind, kind_of, done, refusal, read_fault, write_fault}
-use Rattle.command_files.specs.Statuses.{no_memory}
-use Rattle.command_files.specs.declared.status.Status.{Status}
+use Rattle.command_io.specs.Faults.{fault_text}
+use Rattle.command_io.specs.Readings.{IsAccepted}
+use Rattle.command_io.specs.Statuses.{Kind, kind_of, done, refusal, read_fault, write_fault}
+use Rattle.command_io.specs.Statuses.{no_memory}
+use Rattle.command_io.specs.declared.status.Status.{Status}
 use Rattle.predator_cli.specs.Meets.{EndsAs, HasFailed, IsAnswered, IsFaulty, IsPrintable, IsQuiet}
 use Rattle.predator_cli.specs.Place.{Means, WasRead, place_readings, records_for, records_of}
 use Rattle.predator_cli.specs.Written.{Writes}

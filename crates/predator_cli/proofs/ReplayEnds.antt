@@ -12,15 +12,15 @@ use Rattle.settings.specs.declared.values.Settings.{Settings}
 use Rattle.shelf.specs.Shelf.{Files, Narrows, Outside, Told, content}
 use Rattle.shelf.specs.declared.shelf.ShelfError.{ShelfError}
 use Rattle.trace_passes.specs.Passes.{Trace, trace_of}
-use Rattle.command_files.specs.Readings.{IsAccepted, IsReadFrom, IsStopped, Reading}
-use Rattle.command_files.specs.SettingsFiles.{layout_of, levels_of, settings_in, settings_readings}
-use Rattle.command_files.specs.Statuses.{status_of_writing}
-use Rattle.command_files.specs.Works.{done_with, output_for}
-use Rattle.command_files.specs.declared.status.Status.{Status}
-use Rattle.command_files.specs.declared.status.Status.TheVariants as status
-use Rattle.command_files.specs.Laws.Settings.{settings_chosen}
-use Rattle.command_files.specs.Laws.Readings.{accepted_behind, alike_accepted, alike_stopped}
-use Rattle.command_files.specs.Laws.Readings.{stopped_behind, stopped_first, told_again}
+use Rattle.command_io.specs.Readings.{IsAccepted, IsReadFrom, IsStopped, Reading}
+use Rattle.command_io.specs.SettingsFiles.{layout_of, levels_of, settings_in, settings_readings}
+use Rattle.command_io.specs.Statuses.{status_of_writing}
+use Rattle.command_io.specs.Works.{done_with, output_for}
+use Rattle.command_io.specs.declared.status.Status.{Status}
+use Rattle.command_io.specs.declared.status.Status.TheVariants as status
+use Rattle.command_io.specs.Laws.Settings.{settings_chosen}
+use Rattle.command_io.specs.Laws.Readings.{accepted_behind, alike_accepted, alike_stopped}
+use Rattle.command_io.specs.Laws.Readings.{stopped_behind, stopped_first, told_again}
 use Rattle.shelf.specs.Laws.Files.{AreCut-behind, AreWritten-behind}
 use Rattle.shelf.specs.Laws.Told.{told, told_both, told_map, told_still}
 use Rattle.predator_cli.specs.Meets.{IsFaulty, IsWorked}

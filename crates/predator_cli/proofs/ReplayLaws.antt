@@ -12,13 +12,13 @@ use Rattle.objects.specs.Objects.{Objects}
 use Rattle.saved_state.specs.ObjectSpelling.{spell_objects}
 use Rattle.base.specs.Levels.{Levels}
 use Rattle.base.specs.Lines.{Grid}
-use Rattle.sightings.specs.Seen.{HasSeen}
-use Rattle.sightings.specs.Sights.{Sighted, nothing_sighted}
+use Rattle.observations.specs.Seen.{HasSeen}
+use Rattle.observations.specs.ObservedTraces.{ObservedTrace, nothing_observed}
 use Rattle.saved_state.specs.OfLists.{state_of_list}
 use Rattle.saved_state.specs.Spelling.{spell_state}
 use Rattle.trace_format.specs.Rules.{touches_in}
 use Rattle.trace_format.specs.declared.record.TraceRecord.{TraceRecord}
-use Rattle.predator_cli.specs.States.{state_of_records, state_of_sighted}
+use Rattle.predator_cli.specs.States.{state_of_records, state_of_observed}
 
 -- every line that the report of a replay lists is recounted
 pub replay_recounted : (d : ReplayDemand) (files : Files) → ReplayIsRecounted d files
@@ -31,12 +31,12 @@ replay_recounted d files =
           (touches_in (before ++ all_records t));
     }
 
-module _ (harts : ℕ) (s : Sighted) (w : Watch) (o : Objects) (all first second : List ℕ)
+module _ (harts : ℕ) (s : ObservedTrace) (w : Watch) (o : Objects) (all first second : List ℕ)
     (both : all ≡ first ++ second)
     (objects : second ≡ spell_objects o) (watch_is : w ≡ s.watch) (objects_are : o ≡ s.objects)
   where
-    pub held_state : first ≡ spell_state (state_of harts w) → all ≡ state_of_sighted harts s
-    unfolding state_of_sighted
+    pub held_state : first ≡ spell_state (state_of harts w) → all ≡ state_of_observed harts s
+    unfolding state_of_observed
     held_state spelled =
         both ∙ ap (λ (b : List ℕ). b ++ second) spelled
         ∙ ap (λ (b : List ℕ). spell_state (state_of harts w) ++ b) objects
@@ -44,7 +44,7 @@ module _ (harts : ℕ) (s : Sighted) (w : Watch) (o : Objects) (all first second
         ∙ ap (λ (x : Objects). spell_state (state_of harts s.watch) ++ spell_objects x) objects_are
 
     pub seen_state : (g : Grid) (v : Levels) (items : List TraceRecord)
-        → HasSeen (nothing_sighted g v) s items
+        → HasSeen (nothing_observed g v) s items
         → first ≡ state_of_list w.grid w.levels harts (touches_in items) → all
         ≡ state_of_records g v harts items
     unfolding state_of_records

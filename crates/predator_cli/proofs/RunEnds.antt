@@ -31,14 +31,14 @@ use Rattle.shelf.specs.OnTheirWay.{AreApart}
 use Rattle.run_recorder.specs.Recorded.{IsKept, names_of, outputs_for, trace_for}
 use Rattle.run_recorder.specs.declared.run_file.Content.TheVariants as Content
 use Rattle.run_recorder.specs.declared.run_file.RunFile.{RunFile}
-use Rattle.command_files.specs.Readings.{first_refusal}
-use Rattle.command_files.specs.SettingsFiles.{chosen_settings, levels_of, native_of, settings_in}
-use Rattle.command_files.specs.SettingsFiles.{settings_readings}
-use Rattle.command_files.specs.Statuses.{status_of_writing}
-use Rattle.command_files.specs.Works.{Work, done_with, output_for}
-use Rattle.command_files.specs.declared.status.Status.{Status}
-use Rattle.command_files.specs.Laws.Settings.{settings_chosen, settings_pass}
-use Rattle.command_files.specs.Laws.Readings.{none_alone, passed}
+use Rattle.command_io.specs.Readings.{first_refusal}
+use Rattle.command_io.specs.SettingsFiles.{chosen_settings, levels_of, native_of, settings_in}
+use Rattle.command_io.specs.SettingsFiles.{settings_readings}
+use Rattle.command_io.specs.Statuses.{status_of_writing}
+use Rattle.command_io.specs.Works.{Work, done_with, output_for}
+use Rattle.command_io.specs.declared.status.Status.{Status}
+use Rattle.command_io.specs.Laws.Settings.{settings_chosen, settings_pass}
+use Rattle.command_io.specs.Laws.Readings.{none_alone, passed}
 use Rattle.shelf.specs.Laws.Files.{AreCut-behind, AreWritten-behind}
 use Rattle.shelf.specs.Laws.Told.{told_both, told_still}
 use Rattle.predator_cli.specs.Again.{ReplayRepeatsRun, RunRepeats, RunTellsSites, TellsSites}

@@ -14,11 +14,11 @@ use Rattle.guest.specs.Configs.{Config, first_config}
 use Rattle.guest.specs.LeastPlaces.{heap_over}
 use Rattle.guest.specs.Runs.{IsShort, Run, run_of}
 use Rattle.guest.specs.declared.setup.Setup.{Setup}
-use Rattle.command_files.specs.ProgramFiles.{space_of}
-use Rattle.command_files.specs.Readings.{first_refusal}
-use Rattle.command_files.specs.SettingsFiles.{chosen_settings, levels_of, native_of, settings_in}
-use Rattle.command_files.specs.Laws.Settings.{settings_chosen}
-use Rattle.command_files.specs.Laws.Readings.{none_alone}
+use Rattle.command_io.specs.ProgramFiles.{space_of}
+use Rattle.command_io.specs.Readings.{first_refusal}
+use Rattle.command_io.specs.SettingsFiles.{chosen_settings, levels_of, native_of, settings_in}
+use Rattle.command_io.specs.Laws.Settings.{settings_chosen}
+use Rattle.command_io.specs.Laws.Readings.{none_alone}
 use Rattle.shelf.specs.Laws.Told.{told_both}
 use Rattle.predator_cli.specs.Recounts.{RunIsRecounted}
 use Rattle.predator_cli.specs.Run.{RunStaysWithin, trace_for_demand}

@@ -19,10 +19,10 @@ use Rattle.run_recorder.specs.Laws.{run-plain, run-told, touches-without}
 use Rattle.run_recorder.specs.Recorded.{records_in, records_of, trace_for}
 use Rattle.settings.specs.declared.values.Settings.{Settings}
 use Rattle.shelf.specs.Shelf.{Files, content}
-use Rattle.sightings.specs.Seen.{report_of_records}
-use Rattle.takings.specs.BlameRecords.{sited_in, sited_item}
-use Rattle.takings.specs.Watched.{sited, sited_run}
-use Rattle.takings.specs.declared.sited.Sited.{Sited}
+use Rattle.observations.specs.Seen.{report_of_records}
+use Rattle.invalidations.specs.BlameRecords.{sited_in, sited_item}
+use Rattle.invalidations.specs.Watched.{sited, sited_run}
+use Rattle.invalidations.specs.declared.sited.Sited.{Sited}
 use Rattle.trace_format.specs.Pcs.{without_pc, without_pcs}
 use Rattle.trace_format.specs.Reading.{counted_after}
 use Rattle.trace_format.specs.Rules.{touches_in}
@@ -31,7 +31,7 @@ use Rattle.trace_format.specs.declared.record.TraceRecord.TheVariants as records
 use Rattle.trace_format.specs.declared.record.Version.TheVariants.{One, Three}
 use Rattle.trace_passes.specs.Lives.{death_in, lived, made_in, objects_of, symbols_in}
 use Rattle.trace_passes.specs.Passes.{all_records}
-use Rattle.command_files.specs.SettingsFiles.{levels_of, native_of}
+use Rattle.command_io.specs.SettingsFiles.{levels_of, native_of}
 use Rattle.predator_cli.specs.Again.{TellsSites}
 use Rattle.predator_cli.specs.Replay.{report_of}
 use Rattle.predator_cli.specs.Run.{run_for_demand, symbol_records, trace_for_demand, version_with}

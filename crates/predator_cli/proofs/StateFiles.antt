@@ -18,12 +18,12 @@ use Rattle.base.specs.declared.faults.ResumeFault.{ResumeFault}
 use Rattle.base.specs.declared.faults.ResumeFault.TheVariants as resume
 use Rattle.saved_state.specs.ObjectJudging.{objects_judged}
 use Rattle.sharing_rules.specs.Listed.{may_predict}
-use Rattle.command_files.specs.Readings.{IsAccepted, IsJudged, IsReadFrom, IsStopped}
-use Rattle.command_files.specs.Statuses.{status_of_resume}
-use Rattle.command_files.specs.declared.status.StateFault.TheVariants as state
-use Rattle.command_files.specs.declared.status.Status.{Status}
-use Rattle.command_files.specs.declared.status.Status.TheVariants as status
-use Rattle.command_files.specs.Laws.Readings.{alike_accepted, alike_stopped}
+use Rattle.command_io.specs.Readings.{IsAccepted, IsJudged, IsReadFrom, IsStopped}
+use Rattle.command_io.specs.Statuses.{status_of_resume}
+use Rattle.command_io.specs.declared.status.StateFault.TheVariants as state
+use Rattle.command_io.specs.declared.status.Status.{Status}
+use Rattle.command_io.specs.declared.status.Status.TheVariants as status
+use Rattle.command_io.specs.Laws.Readings.{alike_accepted, alike_stopped}
 use Rattle.shelf.specs.Laws.Told.{told_map}
 use Rattle.predator_cli.specs.Replay.{begun_under, state_readings}
 use Rattle.predator_cli.specs.States.{begun_with, differing_field, judged_state, objects_then}

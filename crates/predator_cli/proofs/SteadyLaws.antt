@@ -2,10 +2,10 @@
 use Rattle.std.proofs.Common.{◌≡◌, ◌≢◌, ℕ, List, [], ◌∷◌, Option, inl, inr, arith, subst}
 use Rattle.shelf.specs.Shelf.{Outside}
 use Rattle.command_line.specs.Words.{Demand}
-use Rattle.command_files.specs.Readings.{RoseAt}
-use Rattle.command_files.specs.Statuses.{kind_of, write_fault}
-use Rattle.command_files.specs.declared.status.Status.{Status}
-use Rattle.command_files.specs.declared.status.Status.TheVariants as status
+use Rattle.command_io.specs.Readings.{RoseAt}
+use Rattle.command_io.specs.Statuses.{kind_of, write_fault}
+use Rattle.command_io.specs.declared.status.Status.{Status}
+use Rattle.command_io.specs.declared.status.Status.TheVariants as status
 use Rattle.predator_cli.specs.Answer.{inputs, outputs}
 use Rattle.predator_cli.specs.Meets.{IsCaused, NoFaults, ReadingFailed}
 

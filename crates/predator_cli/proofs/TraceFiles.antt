@@ -10,9 +10,9 @@ use Rattle.trace_passes.specs.declared.passes.PassFault.TheVariants.{NoMemory, R
 use Rattle.trace_passes.specs.declared.wanted.Refusal.{Refusal}
 use Rattle.trace_passes.specs.declared.wanted.Refusal.TheVariants as refusals
 use Rattle.trace_passes.specs.declared.wanted.Wanted.{Wanted}
-use Rattle.command_files.specs.Readings.{IsRefusal, IsStopped, first_refusal}
-use Rattle.command_files.specs.Laws.Readings.{accepted_alone, fault_stopped, memory_stopped}
-use Rattle.command_files.specs.Laws.Readings.{refused_stopped}
+use Rattle.command_io.specs.Readings.{IsRefusal, IsStopped, first_refusal}
+use Rattle.command_io.specs.Laws.Readings.{accepted_alone, fault_stopped, memory_stopped}
+use Rattle.command_io.specs.Laws.Readings.{refused_stopped}
 use Rattle.shelf.specs.Laws.Told.{told_map}
 use Rattle.predator_cli.specs.Replay.{refuses_trace, trace_reading}
 use Rattle.predator_cli.specs.TraceFaults.{status_of_pass, status_of_refusal}

@@ -11,10 +11,10 @@ use Rattle.shelf.specs.declared.shelf.ShelfError.TheVariants.{Failed, NoMemory}
 use Rattle.command_line.specs.Words.{Demand, outputs as outputs_of}
 use Rattle.shelf.specs.Files.{AreCut, AreWhole, AreWritten, BegunInOrder, Output}
 use Rattle.shelf.specs.Files.{RoseAmong, bytes_for}
-use Rattle.command_files.specs.Readings.{RoseAt, first_refusal}
-use Rattle.command_files.specs.Statuses.{status_of_writing}
-use Rattle.command_files.specs.Works.{Work}
-use Rattle.command_files.specs.declared.status.Status.{Status}
+use Rattle.command_io.specs.Readings.{RoseAt, first_refusal}
+use Rattle.command_io.specs.Statuses.{status_of_writing}
+use Rattle.command_io.specs.Works.{Work}
+use Rattle.command_io.specs.declared.status.Status.{Status}
 use Rattle.shelf.specs.Laws.Files.{BegunInOrder-others}
 use Rattle.shelf.specs.Laws.Told.{goes_map, told, told_both, told_map, told_still}
 use Rattle.predator_cli.specs.Written.{OnlyAt}

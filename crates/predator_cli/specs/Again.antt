@@ -9,13 +9,13 @@ use Rattle.shelf.specs.Files.{bytes_for}
 use Rattle.run_recorder.specs.Recorded.{sited_records}
 use Rattle.settings.specs.declared.values.Settings.{Settings}
 use Rattle.shelf.specs.Shelf.{Files, content}
-use Rattle.takings.specs.BlameRecords.{sited_in}
-use Rattle.takings.specs.Watched.{sited, sited_run}
+use Rattle.invalidations.specs.BlameRecords.{sited_in}
+use Rattle.invalidations.specs.Watched.{sited, sited_run}
 use Rattle.trace_format.specs.Pcs.{without_pcs}
 use Rattle.trace_passes.specs.Passes.{Trace, all_records, trace_of}
-use Rattle.command_files.specs.SettingsFiles.{chosen_settings, settings_in}
-use Rattle.command_files.specs.Statuses.{Kind, done, refusal, read_fault, write_fault, no_memory}
-use Rattle.command_files.specs.Works.{Work, done_with}
+use Rattle.command_io.specs.SettingsFiles.{chosen_settings, settings_in}
+use Rattle.command_io.specs.Statuses.{Kind, done, refusal, read_fault, write_fault, no_memory}
+use Rattle.command_io.specs.Works.{Work, done_with}
 use Rattle.predator_cli.specs.Judged.{judged}
 use Rattle.predator_cli.specs.Replay.{replay_readings, replay_work}
 use Rattle.predator_cli.specs.Run.{run_for_demand, run_readings, run_work, trace_for_demand}

@@ -6,9 +6,9 @@ use Rattle.shelf.specs.Shelf.{Files}
 use Rattle.command_line.specs.Names.{are_apart}
 use Rattle.command_line.specs.Words.{Demand, inputs as inputs_of, meaning, outputs as outputs_of}
 use Rattle.command_line.specs.declared.demand.Demand as code
-use Rattle.command_files.specs.Readings.{Reading, names_of}
-use Rattle.command_files.specs.Works.{Work, refused_with}
-use Rattle.command_files.specs.declared.status.Status.TheVariants as status
+use Rattle.command_io.specs.Readings.{Reading, names_of}
+use Rattle.command_io.specs.Works.{Work, refused_with}
+use Rattle.command_io.specs.declared.status.Status.TheVariants as status
 use Rattle.predator_cli.specs.Commands.{first_readings_of, leaves, manner_of, readings_of, work_of}
 use Rattle.predator_cli.specs.Judged.{judged_leaving}
 use Rattle.predator_cli.specs.Manners.{Manner, judged_before}

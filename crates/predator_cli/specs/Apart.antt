@@ -4,7 +4,7 @@ use Rattle.std.specs.Prelude.{◌≡◌, ◌≢◌, ℕ, ◌+◌, ◌<◌, ◌�
 use Rattle.base.specs.Lines.{line_number}
 use Rattle.base.specs.TextLines.{text_of}
 use Rattle.base.specs.Touch.{word_of}
-use Rattle.command_files.specs.Works.{done_with}
+use Rattle.command_io.specs.Works.{done_with}
 use Rattle.command_line.specs.Place.{PlaceDemand}
 use Rattle.placement.specs.ObjectLines.{HasLinesToItself, object_total}
 use Rattle.placement.specs.Plans.{Planned, has_room, moved_list, place, plan_of}

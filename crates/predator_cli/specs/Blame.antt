@@ -1,13 +1,14 @@
--- The command `blame`: which instructions and which harts take the lines of a trace from each other.
+-- The command `blame`: which instructions and which harts take the lines of a trace from each
+-- other.
 use Rattle.std.specs.Prelude.{ℕ, List, true}
 use Rattle.command_line.specs.TraceLayouts.{LayoutDemand}
 use Rattle.base.specs.Lines.{Grid}
 use Rattle.shelf.specs.Shelf.{Files}
-use Rattle.takings.specs.BlameRecords.{blame_of_records}
+use Rattle.invalidations.specs.BlameRecords.{blame_of_records}
 use Rattle.trace_passes.specs.Passes.{Trace, all_records}
 use Rattle.trace_passes.specs.declared.wanted.Wanted.{Wanted}
-use Rattle.command_files.specs.Readings.{Reading}
-use Rattle.command_files.specs.Works.{Work}
+use Rattle.command_io.specs.Readings.{Reading}
+use Rattle.command_io.specs.Works.{Work}
 use Rattle.predator_cli.specs.Counting.{counted_readings, counted_work}
 use Rattle.predator_cli.specs.Replay.{whole}
 

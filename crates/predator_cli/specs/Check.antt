@@ -4,10 +4,10 @@ use Rattle.command_line.specs.Check.{CheckDemand}
 use Rattle.program_files.specs.Summaries.{placed_text}
 use Rattle.settings.specs.declared.values.Settings.{Settings}
 use Rattle.shelf.specs.Shelf.{Files, content}
-use Rattle.command_files.specs.Readings.{Reading}
-use Rattle.command_files.specs.SettingsFiles.{chosen_settings, settings_readings}
-use Rattle.command_files.specs.ProgramFiles.{program_reading, space_of}
-use Rattle.command_files.specs.Works.{Work, done_with}
+use Rattle.command_io.specs.Readings.{Reading}
+use Rattle.command_io.specs.SettingsFiles.{chosen_settings, settings_readings}
+use Rattle.command_io.specs.ProgramFiles.{program_reading, space_of}
+use Rattle.command_io.specs.Works.{Work, done_with}
 
 abbrev pub check_readings : CheckDemand → List Reading
 check_readings demand = settings_readings demand.settings ++ program_reading demand.settings

@@ -5,8 +5,8 @@ use Rattle.command_line.specs.Words.{Demand, replay, check, run, split, gen, con
 use Rattle.command_line.specs.Words.{caches, place, relocate, misses, blame, explain}
 use Rattle.shelf.specs.Files.{Output}
 use Rattle.shelf.specs.Shelf.{Files}
-use Rattle.command_files.specs.Readings.{Reading}
-use Rattle.command_files.specs.Works.{Work}
+use Rattle.command_io.specs.Readings.{Reading}
+use Rattle.command_io.specs.Works.{Work}
 use Rattle.predator_cli.specs.Again.{RunRepeats}
 use Rattle.predator_cli.specs.Apart.{PlaceKeepsApart}
 use Rattle.predator_cli.specs.Blame.{blame_readings, blame_work}

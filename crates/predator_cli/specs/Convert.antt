@@ -7,8 +7,8 @@ use Rattle.trace_format.specs.Rules.{touches_in}
 use Rattle.trace_format.specs.declared.record.Version.{Version}
 use Rattle.trace_format.specs.declared.record.Version.TheVariants.{One, Two, Three}
 use Rattle.trace_passes.specs.Passes.{Trace}
-use Rattle.command_files.specs.Readings.{Reading}
-use Rattle.command_files.specs.Works.{Work}
+use Rattle.command_io.specs.Readings.{Reading}
+use Rattle.command_io.specs.Works.{Work}
 use Rattle.predator_cli.specs.Copies.{copied_reading, copy_of, copy_text}
 
 abbrev pub convert_readings : ConvertDemand → List Reading

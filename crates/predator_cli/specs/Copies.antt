@@ -6,10 +6,10 @@ use Rattle.shelf.specs.Files.{Output}
 use Rattle.shelf.specs.Shelf.{Files, content}
 use Rattle.trace_files.specs.Copies.{any}
 use Rattle.trace_passes.specs.Passes.{Trace, trace_of}
-use Rattle.command_files.specs.Readings.{Reading, reading}
-use Rattle.command_files.specs.Texts.{line}
-use Rattle.command_files.specs.Works.{Work, done_with}
-use Rattle.command_files.specs.declared.status.Status.TheVariants as status
+use Rattle.command_io.specs.Readings.{Reading, reading}
+use Rattle.command_io.specs.Texts.{line}
+use Rattle.command_io.specs.Works.{Work, done_with}
+use Rattle.command_io.specs.declared.status.Status.TheVariants as status
 use Rattle.predator_cli.specs.Replay.{refuses_trace}
 
 -- a trace of any number of harts, whose first access may have any position

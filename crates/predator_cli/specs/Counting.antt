@@ -4,8 +4,8 @@ use Rattle.std.specs.Option.{option_map_or}
 use Rattle.shelf.specs.Shelf.{Files, Outside, content}
 use Rattle.trace_passes.specs.Passes.{Trace, trace_of}
 use Rattle.trace_passes.specs.declared.wanted.Wanted.{Wanted}
-use Rattle.command_files.specs.Readings.{IsAccepted, IsReadFrom, Reading}
-use Rattle.command_files.specs.Works.{Work, done_with}
+use Rattle.command_io.specs.Readings.{IsAccepted, IsReadFrom, Reading}
+use Rattle.command_io.specs.Works.{Work, done_with}
 use Rattle.predator_cli.specs.Replay.{trace_reading}
 
 -- the one file that is read: a trace as it is wanted

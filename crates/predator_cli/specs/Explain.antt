@@ -3,16 +3,16 @@ use Rattle.std.specs.Prelude.{◌≡◌, false, List, [], None}
 use Rattle.command_line.specs.Explain.{ExplainDemand}
 use Rattle.command_line.specs.Run.{RunDemand}
 use Rattle.guest.specs.Runs.{Run}
-use Rattle.takings.specs.Watched.{sited_run}
+use Rattle.invalidations.specs.Watched.{sited_run}
 use Rattle.objects.specs.Symbols.{symbols_of}
 use Rattle.shelf.specs.Shelf.{Files, Outside, Told, content}
 use Rattle.sharing_rules.specs.Lines.{line_at}
 use Rattle.trace_passes.specs.Lives.{symbols_in}
-use Rattle.takings.specs.Text.{explain_text}
+use Rattle.invalidations.specs.Text.{explain_text}
 use Rattle.trace_format.specs.declared.record.TraceRecord.{TraceRecord}
-use Rattle.command_files.specs.Readings.{IsAccepted, Reading}
-use Rattle.command_files.specs.SettingsFiles.{chosen_settings}
-use Rattle.command_files.specs.Works.{Work}
+use Rattle.command_io.specs.Readings.{IsAccepted, Reading}
+use Rattle.command_io.specs.SettingsFiles.{chosen_settings}
+use Rattle.command_io.specs.Works.{Work}
 use Rattle.predator_cli.specs.Run.{run_for_demand, run_readings, status_for, symbol_records}
 
 -- the run that is asked for, which writes nothing

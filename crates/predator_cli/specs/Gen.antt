@@ -9,10 +9,10 @@ use Rattle.trace_files.specs.Made.{made, made_file}
 use Rattle.trace_passes.specs.Passes.{all_records}
 use Rattle.detector.specs.TotalsOf.{totals_of}
 use Rattle.detector.specs.declared.totals.Totals.{Totals}
-use Rattle.command_files.specs.Readings.{Reading}
-use Rattle.command_files.specs.SettingsFiles.{levels_of, native_of, usual_settings}
-use Rattle.command_files.specs.Works.{Work}
-use Rattle.command_files.specs.declared.status.Status.TheVariants as status
+use Rattle.command_io.specs.Readings.{Reading}
+use Rattle.command_io.specs.SettingsFiles.{levels_of, native_of, usual_settings}
+use Rattle.command_io.specs.Works.{Work}
+use Rattle.command_io.specs.declared.status.Status.TheVariants as status
 
 -- nothing is read
 abbrev pub gen_readings : GenDemand → List Reading

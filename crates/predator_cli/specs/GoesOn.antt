@@ -11,21 +11,21 @@ use Rattle.base.specs.Lines.{Grid}
 use Rattle.base.specs.declared.ending.Ending.{Ending}
 use Rattle.shelf.specs.Shelf.{Files, content}
 use Rattle.trace_passes.specs.Lives.{objects_of}
-use Rattle.sightings.specs.Seen.{report_of_records}
-use Rattle.sightings.specs.Sights.{Sighted, report_of_sighted, sighted_after}
+use Rattle.observations.specs.Seen.{report_of_records}
+use Rattle.observations.specs.ObservedTraces.{ObservedTrace, report_of_observed, observed_after}
 use Rattle.saved_state.specs.OfLists.{MayKeep}
 use Rattle.trace_format.specs.Rules.{touches_in}
 use Rattle.trace_format.specs.declared.record.TraceRecord.{TraceRecord}
 use Rattle.trace_passes.specs.Passes.{Trace, all_records, trace_of}
 use Rattle.predator_cli.specs.Replay.{ended_at, grid_in, levels_in, replay_work, shown}
-use Rattle.predator_cli.specs.States.{state_of_records, state_of_sighted}
-use Rattle.command_files.specs.Works.{Work}
+use Rattle.predator_cli.specs.States.{state_of_records, state_of_observed}
+use Rattle.command_io.specs.Works.{Work}
 use Rattle.predator_cli.specs.declared.state_file.Begun.{Begun}
 
 -- what was seen of records whose state is taken up
 abbrev pub begun_of : Grid → Levels → ℕ → List TraceRecord → Begun
 begun_of g v harts before = record {
-  sightings =
+  observations =
       record {
         watch = kept_of_list g v harts (touches_in before);
         objects = objects_of before;
@@ -65,20 +65,20 @@ pub record HoldsBoth (demand : ReplayDemand) (files : Files) (harts : ℕ) (befo
   pub first : t.header.first ≡ length (touches_in before)
 
 -- what was seen once a trace came behind it
-abbrev pub seen_behind : Begun → Trace → Sighted
-seen_behind begun t = sighted_after begun.sightings (all_records t)
+abbrev pub seen_behind : Begun → Trace → ObservedTrace
+seen_behind begun t = observed_after begun.observations (all_records t)
 
 -- No track comes. The report and the state are of the tracks that were there, in order, each with
 -- the accesses of the trace in its range noted, and of no others.
 pub record NotesAlone (demand : ReplayDemand) (files : Files) (begun : Begun) (t : Trace) : Type 0
   where
     pub tracks : (seen_behind begun t).watch.tracks
-        ≡ map (touched_all begun.sightings.watch.position (touches_in (all_records t)))
-        begun.sightings.watch.tracks
+        ≡ map (touched_all begun.observations.watch.position (touches_in (all_records t)))
+        begun.observations.watch.tracks
     pub work : replay_work demand files ≡ shown demand.save
-        (report_of_sighted (ended_at (seen_behind begun t).watch.position t.ending)
+        (report_of_observed (ended_at (seen_behind begun t).watch.position t.ending)
         (seen_behind begun t))
-        (state_of_sighted t.header.harts (seen_behind begun t))
+        (state_of_observed t.header.harts (seen_behind begun t))
 
 -- its end tells how many accesses it has
 abbrev pub TellsItsCount : Trace → Type 0

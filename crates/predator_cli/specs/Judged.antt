@@ -3,8 +3,8 @@ use Rattle.std.specs.Prelude.{List}
 use Rattle.std.specs.Option.{option_map_or}
 use Rattle.shelf.specs.Files.{Output}
 use Rattle.shelf.specs.Shelf.{Files}
-use Rattle.command_files.specs.Readings.{Reading, first_refusal}
-use Rattle.command_files.specs.Works.{Work, refused_with}
+use Rattle.command_io.specs.Readings.{Reading, first_refusal}
+use Rattle.command_io.specs.Works.{Work, refused_with}
 
 -- the first refusal, or the work
 abbrev pub judged : List Reading → (Files → Work) → Files → Work

@@ -11,10 +11,10 @@ use Rattle.sharing_rules.specs.Lines.{Line, line_at, range_of}
 use Rattle.sharing_rules.specs.Listed.{Finding, listed}
 use Rattle.sharing_rules.specs.Members.{Member}
 use Rattle.shelf.specs.Shelf.{Files}
-use Rattle.takings.specs.Text.{counted_line, title_line}
+use Rattle.invalidations.specs.Text.{counted_line, title_line}
 use Rattle.trace_format.specs.Rules.{touches_in}
 use Rattle.trace_passes.specs.Passes.{all_records}
-use Rattle.command_files.specs.SettingsFiles.{chosen_settings, levels_of, native_of}
+use Rattle.command_io.specs.SettingsFiles.{chosen_settings, levels_of, native_of}
 use Rattle.predator_cli.specs.Explain.{as_run, explain_work}
 use Rattle.predator_cli.specs.Run.{trace_for_demand}
 

@@ -3,7 +3,7 @@ use Rattle.std.specs.Prelude.{List, [], ◌∷◌}
 use Rattle.std.specs.Option.{option_map_or}
 use Rattle.shelf.specs.Files.{Output}
 use Rattle.shelf.specs.Shelf.{Files}
-use Rattle.command_files.specs.Readings.{Reading, first_refusal}
+use Rattle.command_io.specs.Readings.{Reading, first_refusal}
 
 pub data Manner : Type 0 where
   -- all files are judged before an output is begun

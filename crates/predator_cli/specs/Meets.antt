@@ -2,14 +2,14 @@
 use Rattle.std.specs.Prelude.{◌≡◌, ◌⊎◌, ℕ, false, List, Option, None}
 use Rattle.shelf.specs.Shelf.{Files, Outside, Told, Narrows, Goes, Rose, Adds, AddsFront}
 use Rattle.command_line.specs.Words.{Demand, outputs as outputs_of}
-use Rattle.command_files.specs.Readings.{FailsInOrder, RoseAt, first_refusal, IsAccepted}
-use Rattle.command_files.specs.Works.{done_with}
-use Rattle.command_files.specs.Statuses.{Kind, kind_of, done, refusal, read_fault, write_fault}
+use Rattle.command_io.specs.Readings.{FailsInOrder, RoseAt, first_refusal, IsAccepted}
+use Rattle.command_io.specs.Works.{done_with}
+use Rattle.command_io.specs.Statuses.{Kind, kind_of, done, refusal, read_fault, write_fault}
 use Rattle.shelf.specs.Files.{AreWhole}
-use Rattle.command_files.specs.Statuses.{no_memory, hides_no_memory}
-use Rattle.command_files.specs.Faults.{fault_text}
-use Rattle.command_files.specs.declared.status.Status.{Status}
-use Rattle.command_files.specs.declared.status.Status.TheVariants as status
+use Rattle.command_io.specs.Statuses.{no_memory, hides_no_memory}
+use Rattle.command_io.specs.Faults.{fault_text}
+use Rattle.command_io.specs.declared.status.Status.{Status}
+use Rattle.command_io.specs.declared.status.Status.TheVariants as status
 use Rattle.predator_cli.specs.Commands.{RepeatsReport, readings_of, work_of}
 use Rattle.predator_cli.specs.Written.{OnlyAt, Writes}
 use Rattle.predator_cli.specs.Answer.{answer_of, files_of, first_files_of, inputs, outputs}

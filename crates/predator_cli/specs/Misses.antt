@@ -5,8 +5,8 @@ use Rattle.base.specs.Lines.{Grid}
 use Rattle.shelf.specs.Shelf.{Files}
 use Rattle.misses.specs.Texts.{misses_of_records}
 use Rattle.trace_passes.specs.Passes.{Trace, all_records}
-use Rattle.command_files.specs.Readings.{Reading}
-use Rattle.command_files.specs.Works.{Work}
+use Rattle.command_io.specs.Readings.{Reading}
+use Rattle.command_io.specs.Works.{Work}
 use Rattle.predator_cli.specs.Counting.{counted_readings, counted_work}
 use Rattle.predator_cli.specs.Replay.{whole}
 

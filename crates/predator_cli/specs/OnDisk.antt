@@ -1,9 +1,9 @@
 -- What a call of the program does to the system's files, by what it has read of them.
 use Rattle.std.specs.Prelude.{◌≡◌, ℕ, Option, None, IsTrue}
 use Rattle.std.specs.List.{list_all}
-use Rattle.command_files.specs.Numbers.{number_of}
-use Rattle.command_files.specs.Statuses.{done, kind_of, refusal}
-use Rattle.command_files.specs.declared.status.Status.{Status}
+use Rattle.command_io.specs.Numbers.{number_of}
+use Rattle.command_io.specs.Statuses.{done, kind_of, refusal}
+use Rattle.command_io.specs.declared.status.Status.{Status}
 use Rattle.command_line.specs.Words.{Demand}
 use Rattle.disk_shelf.specs.Disk.{Seen, agrees, disk_outside, fresh_outside, printed_by, written_by}
 use Rattle.predator_cli.specs.Answer.{answer_of}
@@ -25,8 +25,8 @@ pub record IsAnswered (asked : Option Demand) (files : Files) (seen : Seen) (s :
 
 -- How the program ends: its exit status is the number of a status, and all that is said of a call
 -- with this status holds of what was done to the system's files, with nothing behind it. For all
--- contents that agree with each read, what was done is what they ask for where the work is done, and
--- the status is that of their answer where something is refused.
+-- contents that agree with each read, what was done is what they ask for where the work is done,
+-- and the status is that of their answer where something is refused.
 pub record EndsWith (asked : Option Demand) (files : Files) (seen : Seen) (code : ℕ) : Type 0
   where
     pub status : Status

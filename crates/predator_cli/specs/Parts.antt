@@ -4,9 +4,9 @@ use Rattle.std.specs.Prelude.{◌≡◌, ◌≢◌, ◌≤◌, ◌<◌, ◌^◌,
 use Rattle.std.specs.Prelude.{Option, Some, None}
 use Rattle.std.specs.List.{All}
 use Rattle.base.specs.Lines.{Grid, is_layout}
-use Rattle.command_files.specs.Readings.{first_refusal}
-use Rattle.command_files.specs.SettingsFiles.{settings_in, settings_readings}
-use Rattle.command_files.specs.Works.{Work}
+use Rattle.command_io.specs.Readings.{first_refusal}
+use Rattle.command_io.specs.SettingsFiles.{settings_in, settings_readings}
+use Rattle.command_io.specs.Works.{Work}
 use Rattle.command_line.specs.Replay.{ReplayDemand}
 use Rattle.command_line.specs.Set.{AskedSettings}
 use Rattle.command_line.specs.Split.{SplitDemand}
@@ -99,9 +99,9 @@ SplitRepeats demand files =
 
 -- ---- two halves alone
 
--- The two halves that `split` makes of a trace, each replayed: the first replay finds the first half
--- and saves its state, and the second one finds the second half and that state, of at most 2^40
--- bytes. The settings are the same each time.
+-- The two halves that `split` makes of a trace, each replayed: the first replay finds the first
+-- half and saves its state, and the second one finds the second half and that state, of at most
+-- 2^40 bytes. The settings are the same each time.
 pub record TwoHalves (how : Counting) (demand : SplitDemand) (files : Files) : Type 0 where
   -- the name of the state, and what each replay finds
   pub state : List ℕ

@@ -12,9 +12,9 @@ use Rattle.shelf.specs.Shelf.{Files, Outside, Told, content}
 use Rattle.trace_format.specs.Rules.{touches_in}
 use Rattle.trace_format.specs.declared.record.TraceRecord.{TraceRecord}
 use Rattle.trace_passes.specs.Passes.{all_records, trace_of}
-use Rattle.command_files.specs.Readings.{IsAccepted, Reading}
-use Rattle.command_files.specs.Works.{Work, done_or_refused}
-use Rattle.command_files.specs.declared.status.Status.TheVariants as status
+use Rattle.command_io.specs.Readings.{IsAccepted, Reading}
+use Rattle.command_io.specs.Works.{Work, done_or_refused}
+use Rattle.command_io.specs.declared.status.Status.TheVariants as status
 use Rattle.predator_cli.specs.Counting.{counted_readings}
 use Rattle.predator_cli.specs.Replay.{whole}
 

@@ -12,7 +12,7 @@ use Rattle.shelf.specs.Shelf.{Files, content}
 use Rattle.trace_format.specs.Rules.{touches_in}
 use Rattle.trace_passes.specs.Passes.{Trace, all_records, trace_of}
 use Rattle.trace_format.specs.declared.record.TraceRecord.{TraceRecord}
-use Rattle.command_files.specs.SettingsFiles.{chosen_settings, levels_of, native_of}
+use Rattle.command_io.specs.SettingsFiles.{chosen_settings, levels_of, native_of}
 use Rattle.predator_cli.specs.GoesOn.{HoldsBoth}
 use Rattle.predator_cli.specs.Replay.{grid_in, levels_in}
 use Rattle.predator_cli.specs.Run.{trace_for_demand}

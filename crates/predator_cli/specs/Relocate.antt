@@ -1,4 +1,5 @@
--- The command `move`: a trace with its accesses moved as a table says, written as the trace is read.
+-- The command `move`: a trace with its accesses moved as a table says, written as the trace is
+-- read.
 use Rattle.std.specs.Prelude.{◌≡◌, ◌<◌, ◌≤◌, ℕ, List, [], ◌∷◌, codes, length, Option, None, Some}
 use Rattle.std.specs.Prelude.{Result, Ok, Err, option_map}
 use Rattle.std.specs.List.{All}
@@ -12,10 +13,10 @@ use Rattle.trace_files.specs.declared.move_row.Move.{Move}
 use Rattle.trace_files.specs.declared.table_fault.TableFault.{TableFault}
 use Rattle.trace_format.specs.Rules.{longest_trace, touches_in}
 use Rattle.trace_passes.specs.Passes.{Trace, trace_of}
-use Rattle.command_files.specs.Readings.{Reading, reading}
-use Rattle.command_files.specs.Works.{Work}
-use Rattle.command_files.specs.declared.status.Status.{Status}
-use Rattle.command_files.specs.declared.status.Status.TheVariants as status
+use Rattle.command_io.specs.Readings.{Reading, reading}
+use Rattle.command_io.specs.Works.{Work}
+use Rattle.command_io.specs.declared.status.Status.{Status}
+use Rattle.command_io.specs.declared.status.Status.TheVariants as status
 use Rattle.predator_cli.specs.Copies.{copy_of, copy_text}
 use Rattle.predator_cli.specs.Judged.{judged}
 use Rattle.predator_cli.specs.TraceFaults.{status_of_move}

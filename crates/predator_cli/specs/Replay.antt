@@ -8,17 +8,17 @@ use Rattle.base.specs.Lines.{Grid}
 use Rattle.base.specs.Levels.{Levels}
 use Rattle.base.specs.declared.ending.Ending.{Ending}
 use Rattle.shelf.specs.Shelf.{Files, Outside, Told, content}
-use Rattle.sightings.specs.Seen.{report_of_records}
-use Rattle.sightings.specs.Sights.{report_of_sighted, sighted_after}
+use Rattle.observations.specs.Seen.{report_of_records}
+use Rattle.observations.specs.ObservedTraces.{report_of_observed, observed_after}
 use Rattle.trace_passes.specs.Passes.{Trace, all_records, refusal_of, trace_of}
 use Rattle.trace_passes.specs.declared.wanted.Wanted.{Wanted}
-use Rattle.command_files.specs.Readings.{IsAccepted, Reading, reading}
-use Rattle.command_files.specs.SettingsFiles.{chosen_settings, layout_of, levels_of}
-use Rattle.command_files.specs.SettingsFiles.{settings_readings}
-use Rattle.command_files.specs.Works.{Work, done_with, output_for}
-use Rattle.command_files.specs.declared.status.Status.{Status}
-use Rattle.command_files.specs.declared.status.Status.TheVariants as status
-use Rattle.predator_cli.specs.States.{judged_state, state_of_records, state_of_sighted}
+use Rattle.command_io.specs.Readings.{IsAccepted, Reading, reading}
+use Rattle.command_io.specs.SettingsFiles.{chosen_settings, layout_of, levels_of}
+use Rattle.command_io.specs.SettingsFiles.{settings_readings}
+use Rattle.command_io.specs.Works.{Work, done_with, output_for}
+use Rattle.command_io.specs.declared.status.Status.{Status}
+use Rattle.command_io.specs.declared.status.Status.TheVariants as status
+use Rattle.predator_cli.specs.States.{judged_state, state_of_records, state_of_observed}
 use Rattle.predator_cli.specs.States.{state_refusal}
 use Rattle.predator_cli.specs.TraceFaults.{status_of_refusal}
 use Rattle.predator_cli.specs.declared.state_file.Begun.{Begun}
@@ -61,7 +61,7 @@ wanted_after None = whole
 wanted_after (Some begun) =
     record {
       harts = Some begun.harts;
-      first = Some begun.sightings.watch.position;
+      first = Some begun.observations.watch.position;
       pcs = false;
     }
 
@@ -101,9 +101,9 @@ abbrev pub work_after : Option (List ℕ) → Grid → Levels → Option Begun �
 work_after save g v None t =
     shown save (report_of v g t) (state_of_records g v t.header.harts (all_records t))
 work_after save g v (Some begun) t =
-    let now = sighted_after begun.sightings (all_records t) in
-    shown save (report_of_sighted (ended_at now.watch.position t.ending) now)
-    (state_of_sighted t.header.harts now)
+    let now = observed_after begun.observations (all_records t) in
+    shown save (report_of_observed (ended_at now.watch.position t.ending) now)
+    (state_of_observed t.header.harts now)
 
 abbrev pub replay_work : ReplayDemand → Files → Work
 replay_work demand files =

@@ -32,13 +32,13 @@ use Rattle.run_recorder.specs.declared.run_file.RunFile.{RunFile}
 use Rattle.std.specs.Borrow.{Bor}
 use Rattle.settings.specs.declared.values.Settings.{Settings}
 use Rattle.shelf.specs.Shelf.{Files, Outside, Told, content}
-use Rattle.command_files.specs.Readings.{IsAccepted, Reading, reading}
-use Rattle.command_files.specs.SettingsFiles.{chosen_settings, levels_of, native_of, settings_in}
-use Rattle.command_files.specs.SettingsFiles.{settings_readings}
-use Rattle.command_files.specs.ProgramFiles.{IsStartable, program_reading, space_of}
-use Rattle.command_files.specs.Works.{Work, output_for}
-use Rattle.command_files.specs.declared.status.Status.{Status}
-use Rattle.command_files.specs.declared.status.Status.TheVariants as status
+use Rattle.command_io.specs.Readings.{IsAccepted, Reading, reading}
+use Rattle.command_io.specs.SettingsFiles.{chosen_settings, levels_of, native_of, settings_in}
+use Rattle.command_io.specs.SettingsFiles.{settings_readings}
+use Rattle.command_io.specs.ProgramFiles.{IsStartable, program_reading, space_of}
+use Rattle.command_io.specs.Works.{Work, output_for}
+use Rattle.command_io.specs.declared.status.Status.{Status}
+use Rattle.command_io.specs.declared.status.Status.TheVariants as status
 use Rattle.predator_cli.specs.Replay.{report_of}
 use Rattle.predator_cli.specs.declared.run.Loading.{Loading}
 

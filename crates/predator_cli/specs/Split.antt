@@ -5,8 +5,8 @@ use Rattle.shelf.specs.Shelf.{Files}
 use Rattle.trace_files.specs.Copies.{halves}
 use Rattle.trace_format.specs.Rules.{touches_in}
 use Rattle.trace_passes.specs.Passes.{Trace}
-use Rattle.command_files.specs.Readings.{Reading}
-use Rattle.command_files.specs.Works.{Work}
+use Rattle.command_io.specs.Readings.{Reading}
+use Rattle.command_io.specs.Works.{Work}
 use Rattle.predator_cli.specs.Copies.{copied_reading, copy_of, copy_text}
 
 abbrev pub split_readings : SplitDemand → List Reading

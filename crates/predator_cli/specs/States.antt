@@ -14,15 +14,15 @@ use Rattle.base.specs.Levels.{Levels}
 use Rattle.base.specs.Lines.{Grid}
 use Rattle.base.specs.declared.faults.ResumeFault.{ResumeFault}
 use Rattle.trace_passes.specs.Lives.{objects_of}
-use Rattle.sightings.specs.Sights.{Sighted}
+use Rattle.observations.specs.ObservedTraces.{ObservedTrace}
 use Rattle.saved_state.specs.OfLists.{state_of_list}
 use Rattle.saved_state.specs.Spelling.{spell_state}
 use Rattle.trace_format.specs.Rules.{touches_in}
 use Rattle.trace_format.specs.declared.record.TraceRecord.{TraceRecord}
-use Rattle.command_files.specs.Statuses.{status_of_resume}
-use Rattle.command_files.specs.declared.status.StateFault.TheVariants as state
-use Rattle.command_files.specs.declared.status.Status.{Status}
-use Rattle.command_files.specs.declared.status.Status.TheVariants as status
+use Rattle.command_io.specs.Statuses.{status_of_resume}
+use Rattle.command_io.specs.declared.status.StateFault.TheVariants as state
+use Rattle.command_io.specs.declared.status.Status.{Status}
+use Rattle.command_io.specs.declared.status.Status.TheVariants as status
 use Rattle.predator_cli.specs.declared.state_file.Begun.{Begun}
 
 -- ---- what a state says
@@ -42,7 +42,7 @@ abbrev pub begun_with : Grid → Levels → Watch → ℕ → Objects → Result
 begun_with g v w harts objects =
     option_map_or (λ place. Err (status.State (state.WrongSettings place)))
     (differing_field g v w)
-    (Ok (record { sightings = record { watch = w; objects = objects }; harts = harts }))
+    (Ok (record { observations = record { watch = w; objects = objects }; harts = harts }))
 
 abbrev pub objects_then : Grid → Levels → Resumption → Result Objects ResumeFault
     → Result Begun Status
@@ -73,8 +73,8 @@ state_refusal (Err s) = Some s
 -- ---- what is saved
 
 -- what is seen of a trace of so many harts
-unfoldable pub state_of_sighted : ℕ → Sighted → List ℕ
-state_of_sighted harts s = spell_state (state_of harts s.watch) ++ spell_objects s.objects
+unfoldable pub state_of_observed : ℕ → ObservedTrace → List ℕ
+state_of_observed harts s = spell_state (state_of harts s.watch) ++ spell_objects s.objects
 
 -- of a list of records, by the definitions: the state of its accesses, and its objects
 unfoldable pub state_of_records : Grid → Levels → ℕ → List TraceRecord → List ℕ

@@ -4,8 +4,8 @@ use Rattle.command_line.specs.Sweep.{SweepDemand}
 use Rattle.layout_sweep.specs.Seen.{sweep_of_records}
 use Rattle.shelf.specs.Shelf.{Files}
 use Rattle.trace_passes.specs.Passes.{Trace, all_records}
-use Rattle.command_files.specs.Readings.{Reading}
-use Rattle.command_files.specs.Works.{Work}
+use Rattle.command_io.specs.Readings.{Reading}
+use Rattle.command_io.specs.Works.{Work}
 use Rattle.predator_cli.specs.Counting.{counted_readings, counted_work}
 use Rattle.predator_cli.specs.Replay.{whole}
 

@@ -8,10 +8,10 @@ use Rattle.trace_passes.specs.declared.passes.PassFault.TheVariants as passes
 use Rattle.trace_passes.specs.declared.wanted.Refusal.{Refusal}
 use Rattle.trace_passes.specs.declared.wanted.Refusal.TheVariants as refusals
 use Rattle.saved_state.specs.HeaderPlaces.{harts_place}
-use Rattle.command_files.specs.Statuses.{status_of_trace}
-use Rattle.command_files.specs.declared.status.StateFault.TheVariants as state
-use Rattle.command_files.specs.declared.status.Status.{Status}
-use Rattle.command_files.specs.declared.status.Status.TheVariants as status
+use Rattle.command_io.specs.Statuses.{status_of_trace}
+use Rattle.command_io.specs.declared.status.StateFault.TheVariants as state
+use Rattle.command_io.specs.declared.status.Status.{Status}
+use Rattle.command_io.specs.declared.status.Status.TheVariants as status
 
 -- a header of another number of harts differs from that field of a saved state
 abbrev pub status_of_refusal : Refusal → Status

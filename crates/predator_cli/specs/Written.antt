@@ -5,8 +5,8 @@ use Rattle.std.specs.Str.{bytes_eq}
 use Rattle.shelf.specs.Shelf.{Files, Goes, Outside, Rose, Told}
 use Rattle.command_line.specs.Words.{Demand}
 use Rattle.shelf.specs.Files.{AreWhole, BegunInOrder}
-use Rattle.command_files.specs.Readings.{RoseAt}
-use Rattle.command_files.specs.Statuses.{Kind, done, refusal, read_fault, write_fault, no_memory}
+use Rattle.command_io.specs.Readings.{RoseAt}
+use Rattle.command_io.specs.Statuses.{Kind, done, refusal, read_fault, write_fault, no_memory}
 use Rattle.predator_cli.specs.Answer.{answer_of, manner_in, outputs}
 use Rattle.predator_cli.specs.Manners.{Manner, judged_before, read_again, read_along}
 
@@ -14,8 +14,8 @@ use Rattle.predator_cli.specs.Manners.{Manner, judged_before, read_again, read_a
 abbrev pub AreSame : Files → Files → Type 0
 AreSame before now = (name : List ℕ) → now name ≡ before name
 
--- The outputs are begun in their order, and each that is begun is a front of its bytes. So it is where
--- it is told what is held, and so what the outputs are.
+-- The outputs are begun in their order, and each that is begun is a front of its bytes. So it is
+-- where it is told what is held, and so what the outputs are.
 abbrev pub StandsInPart : Option Demand → Option Files → Option Files → Option Files → Type 0
 StandsInPart asked held before now =
     Told held (λ files. Goes before now (BegunInOrder (answer_of asked files).outputs))
@@ -26,8 +26,8 @@ StandsWhole asked held before now =
     Told held (λ files. Goes before now (AreWhole (answer_of asked files).outputs))
 
 -- At a refusal each file is as it was. Copies whose trace is refused only as it is read again may
--- stand in part; where it is told what is held no trace is, for both readings gave its bytes. What is
--- written as the trace is read is all that the answer leaves of it.
+-- stand in part; where it is told what is held no trace is, for both readings gave its bytes. What
+-- is written as the trace is read is all that the answer leaves of it.
 abbrev pub StaysAtRefusal : Manner → Option Demand → Option Files → Option Files → Option Files
     → Type 0
 StaysAtRefusal judged_before asked held before now = Goes before now AreSame
@@ -52,8 +52,8 @@ StandsAtWriteFault asked old new =
     × StandsWhole asked new.held old.written new.written)
 
 -- Every output is whole where the work is done and where its text isn't printed, every file is as
--- it was at a refusal and at a fault of reading but of copies and of what is written as the trace is
--- read, and the outputs may stand in part where writing one failed and at want of memory.
+-- it was at a refusal and at a fault of reading but of copies and of what is written as the trace
+-- is read, and the outputs may stand in part where writing one failed and at want of memory.
 abbrev pub Writes : Option Demand → Outside → Outside → Kind → Type 0
 Writes asked old new done = StandsWhole asked new.held old.written new.written
 Writes asked old new refusal =

@@ -2,15 +2,15 @@
 // and by which harts. The accesses of the trace have their pcs, as those of version 3.
 use crate::counter::Counter;
 use base::{Layout, NoMemory};
+use invalidations::{Blame, write_blame};
 use std::alloc::Global;
-use takings::{Blame, write_blame};
 use trace_passes::Wanted;
 
 impl Counter for Blame {
     ghost use Rattle.std.specs.Prelude.{◌≡◌, refl};
     ghost use Rattle.command_line.specs.Words.{blame};
     ghost use Rattle.predator_cli.specs.Blame.{blame_text, whole_with_pcs};
-    ghost use Rattle.takings.specs.BlameKept.{nothing_blamed};
+    ghost use Rattle.invalidations.specs.BlameKept.{nothing_blamed};
 
     type Under = Layout;
 

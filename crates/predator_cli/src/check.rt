@@ -6,13 +6,13 @@ ghost use Rattle.program_files.specs.PlacedImages.{IsImageOf};
 ghost use Rattle.program_files.specs.Symbols.{symbols_of};
 ghost use Rattle.program_files.specs.declared.image.Space.{Space};
 ghost use Rattle.program_files.specs.Summaries.{placed_text};
-ghost use Rattle.command_files.specs.Readings.{IsStopped};
+ghost use Rattle.command_io.specs.Readings.{IsStopped};
 ghost use Rattle.predator_cli.specs.Check.{check_readings};
 ghost use Rattle.predator_cli.specs.Meets.{IsAnswered, Meets};
 
 use crate::endings::{answer, stop};
 use base::NoMemory;
-use command_files::{
+use command_io::{
     Judge, PROGRAM_LIMIT, Program, Status, judge_program, read_judged, read_settings,
 };
 use command_line::CheckOptions;
@@ -47,7 +47,7 @@ impl Judge for SummaryOf {
     ghost use Rattle.std.specs.Prelude.{◌^◌};
     ghost use Rattle.settings.specs.Allowed.{IsAllowed};
     ghost use Rattle.predator_cli.specs.Check.{checked};
-    ghost use Rattle.command_files.specs.ProgramFiles.{program_refusal};
+    ghost use Rattle.command_io.specs.ProgramFiles.{program_refusal};
 
     type Given = String;
 

@@ -2,7 +2,7 @@
 ghost use Rattle.std.specs.Prelude.{◌≡◌, ◌⊎◌, false, None, Some};
 ghost use Rattle.command_line.specs.Demands.{texts};
 ghost use Rattle.command_line.specs.Words.{IsBounded, demand_of, meaning};
-ghost use Rattle.command_files.specs.Statuses.{hides_no_memory, kind_of};
+ghost use Rattle.command_io.specs.Statuses.{hides_no_memory, kind_of};
 ghost use Rattle.predator_cli.specs.Meets.{EndsAs, IsCaused, IsComplete, Meets, Prints};
 ghost use Rattle.predator_cli.specs.Meets.{ReadsInPeace};
 ghost use Rattle.predator_cli.specs.Again.{WhereDone};
@@ -23,15 +23,15 @@ use crate::relocate::relocate;
 use crate::replay::replay;
 use crate::run::run;
 use crate::split::split;
-use command_files::Status;
+use command_io::Status;
 use command_line::{Demand, WordsFault, read_words, what_is_asked_is_bounded};
 use finite_cache::Caches;
 use guest::runs_are_short;
+use invalidations::Blame;
 use layout_sweep::Sweep;
-use misses::MissSightings;
+use misses::MissObservations;
 use shelf::Shelf;
 use std::alloc::Global;
-use takings::Blame;
 use trace_passes::a_trace_is_its_spelling;
 
 /// Does what is asked for.
@@ -52,7 +52,7 @@ pub fn obey<S: Shelf>(alloc: Global, demand: &Demand<'_>, shelf: &mut S) -> Stat
         Demand::Caches(options) => count::<S, Caches>(alloc, shelf, options.trace, options.shape),
         Demand::Place(options) => place(alloc, options, shelf),
         Demand::Move(options) => relocate(alloc, options, shelf),
-        Demand::Misses(options) => count::<S, MissSightings>(
+        Demand::Misses(options) => count::<S, MissObservations>(
             alloc,
             shelf,
             options.trace,
@@ -81,8 +81,8 @@ fn obey_words<S: Shelf>(alloc: Global, words: &[String], shelf: &mut S) -> Statu
 /// the settings, the saved state, the trace or the program, the schedule. The status is `Usage`
 /// exactly where the words are refused, and else the first refusal of a file, if there is one.
 /// `ReadFault` comes only where reading a named file failed in this call and no file before it is
-/// refused, `WriteFault` only where printing or writing a named file failed and none is refused that
-/// is judged before anything is written,
+/// refused, `WriteFault` only where printing or writing a named file failed and none is refused
+/// that is judged before anything is written,
 /// and `NoMemory` where memory ran out, before such a fault or as the line of one was printed.
 /// Where the work is done nothing failed. The settings are those of the file that is named, or the
 /// usual ones, with the numbers of `--set` in the place of theirs; they are judged by themselves
@@ -164,8 +164,8 @@ pub fn predator<S: Shelf>(alloc: Global, words: &[String], shelf: &mut S) -> Sta
     // trace's.
     ensures again { Told (S.outside shelf.new).held
         (λ files. WhereDone RepeatsReport (demand_of (texts words.now)) files (kind_of result)) }
-    // The run that is asked for, by `run` or by `explain`, makes at most as many steps as its budget
-    // has.
+    // The run that is asked for, by `run` or by `explain`, makes at most as many steps as its
+    // budget has.
     ensures within { (files : Files) → StaysWithinBudget (demand_of (texts words.now)) files }
     // Each count that a report of a run or of a whole trace lists is at most a plain recount of the
     // same line over the same accesses, under the line's own layout with tracking threshold 1, and

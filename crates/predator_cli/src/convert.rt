@@ -5,10 +5,10 @@ ghost use Rattle.command_line.specs.Words.{convert as asks};
 ghost use Rattle.predator_cli.specs.Convert.{version_number};
 ghost use Rattle.predator_cli.specs.Meets.{Meets};
 
-use crate::copies::tell;
+use crate::copies::print_copies;
 use crate::endings::refuse;
 use crate::trace_faults::status_of_copy;
-use command_files::Status;
+use command_io::Status;
 use command_line::ConvertOptions;
 use shelf::Shelf;
 use std::alloc::Global;
@@ -34,7 +34,7 @@ pub fn convert<S: Shelf>(alloc: Global, options: &ConvertOptions<'_>, shelf: &mu
     match convert_trace(alloc, shelf, options.trace, options.file) {
         Ok(made) => {
             let version = version_number(made.version);
-            tell(alloc, shelf, "convert", version, made.accesses)
+            print_copies(alloc, shelf, "convert", version, made.accesses)
         }
         Err(fault) => refuse(alloc, shelf, status_of_copy(fault)),
     }

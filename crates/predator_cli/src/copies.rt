@@ -6,12 +6,12 @@ ghost use Rattle.predator_cli.specs.Copies.{copy_text};
 ghost use Rattle.predator_cli.specs.Meets.{IsWorked, Meets};
 
 use crate::endings::{finish, refuse};
-use command_files::Status;
+use command_io::Status;
 use shelf::Shelf;
 use std::alloc::Global;
 
 /// Prints the line of the copies that were made, a command and two numbers, and ends.
-pub fn tell<S: Shelf>(
+pub fn print_copies<S: Shelf>(
     alloc: Global,
     shelf: &mut S,
     command: &str,

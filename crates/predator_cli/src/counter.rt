@@ -1,6 +1,6 @@
 // A command that counts a whole trace in one pass, and prints a text of what it counted.
 ghost use Rattle.std.specs.Prelude.{◌≡◌, [], IfErr, IfOk, List, Some, ℕ};
-ghost use Rattle.command_files.specs.Readings.{IsStopped};
+ghost use Rattle.command_io.specs.Readings.{IsStopped};
 ghost use Rattle.command_line.specs.Words.{Demand};
 ghost use Rattle.predator_cli.specs.Counted.{IsCounted};
 ghost use Rattle.predator_cli.specs.Counting.{IsToTell, counted_readings};
@@ -8,10 +8,10 @@ ghost use Rattle.predator_cli.specs.Meets.{Meets};
 ghost use Rattle.trace_passes.specs.Passes.{Trace, all_records};
 ghost use Rattle.trace_passes.specs.declared.wanted.Wanted.{Wanted as Wish};
 
-use crate::counting::{see_trace, tell};
+use crate::counting::{print_text, see_trace};
 use crate::endings::stop;
 use base::NoMemory;
-use command_files::Status;
+use command_io::Status;
 use shelf::Shelf;
 use std::alloc::Global;
 use trace_passes::{Observer, Wanted};
@@ -116,7 +116,7 @@ pub fn count<S: Shelf, C: Counter>(
         result }
 {
     match counted::<S, C>(alloc, shelf, name, under) {
-        Ok(text) => tell(shelf, &text),
+        Ok(text) => print_text(shelf, &text),
         Err(status) => stop(alloc, shelf, status),
     }
 }

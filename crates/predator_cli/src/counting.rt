@@ -1,7 +1,7 @@
 // How a command passes over a whole trace once, and ends with a text of it.
 ghost use Rattle.std.specs.Prelude.{◌≡◌, [], IfErr, IfOk, List, OnOk, Some, ℕ};
 ghost use Rattle.command_line.specs.Words.{Demand};
-ghost use Rattle.command_files.specs.Readings.{IsAccepted, IsStopped};
+ghost use Rattle.command_io.specs.Readings.{IsAccepted, IsStopped};
 ghost use Rattle.predator_cli.specs.Commands.{RepeatsReport, readings_of, work_of};
 ghost use Rattle.predator_cli.specs.Counting.{IsToTell, counted_readings, counted_work};
 ghost use Rattle.predator_cli.specs.Meets.{Meets};
@@ -14,7 +14,7 @@ ghost use Rattle.trace_passes.specs.declared.wanted.Wanted.{Wanted as Wish};
 
 use crate::endings::answer;
 use crate::trace_faults::status_of_pass;
-use command_files::Status;
+use command_io::Status;
 use shelf::Shelf;
 use std::alloc::Global;
 use trace_passes::{Observer, Passed, Wanted, pass};
@@ -70,7 +70,7 @@ pub fn see_whole<S: Shelf, O: Observer>(
 }
 
 /// Prints the text of a trace that was passed over, and ends.
-pub fn tell<S: Shelf>(shelf: &mut S, text: &[u8]) -> Status
+pub fn print_text<S: Shelf>(shelf: &mut S, text: &[u8]) -> Status
     ensures { (demand : Demand) (wanted : Wish) (says : Trace → List ℕ) (name : List ℕ)
         (old : Outside)
         → readings_of demand ≡ counted_readings wanted name

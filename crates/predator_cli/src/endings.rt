@@ -2,13 +2,13 @@
 ghost use Rattle.std.specs.Prelude.{◌≡◌, Option, None, Some};
 ghost use Rattle.command_line.specs.Words.{Demand};
 ghost use Rattle.shelf.specs.Shelf.{Outside};
-ghost use Rattle.command_files.specs.Faults.{fault_text};
-ghost use Rattle.command_files.specs.Statuses.{kind_of, done};
-ghost use Rattle.command_files.specs.Readings.{IsStopped};
+ghost use Rattle.command_io.specs.Faults.{fault_text};
+ghost use Rattle.command_io.specs.Statuses.{kind_of, done};
+ghost use Rattle.command_io.specs.Readings.{IsStopped};
 ghost use Rattle.predator_cli.specs.Meets.{IsAnswered, IsFaulty, IsWorked, Meets};
 ghost use Rattle.predator_cli.specs.Commands.{first_readings_of};
 
-use command_files::{NO_MEMORY_LINE, READ_FAULT_LINE, Status, WRITE_FAULT_LINE, fault_line};
+use command_io::{NO_MEMORY_LINE, READ_FAULT_LINE, Status, WRITE_FAULT_LINE, fault_line};
 use command_line::USAGE;
 use shelf::{Shelf, ShelfError};
 use std::alloc::Global;

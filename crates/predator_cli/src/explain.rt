@@ -15,13 +15,13 @@ ghost use Rattle.predator_cli.specs.Meets.{Meets};
 use crate::endings::{finish, refuse, stop};
 use crate::run::{Loaded, load_guest, status_of};
 use base::{Layout, NoMemory};
-use command_files::Status;
+use command_io::Status;
 use command_line::{ExplainOptions, RunOptions};
+use invalidations::{Explained, explain_run};
 use objects::ObjectTable;
 use sharing_rules::CacheLine;
 use shelf::Shelf;
 use std::alloc::Global;
-use takings::{Explained, explain_run};
 use trace_format::TraceRecord;
 
 // Notes a symbol of the program.

@@ -7,7 +7,7 @@ ghost use Rattle.detector.specs.Standing.{StandsFor};
 ghost use Rattle.shelf.specs.Files.{AreCut, AreWritten};
 ghost use Rattle.sharing_rules.specs.AccessLists.{AccessList};
 ghost use Rattle.sharing_rules.specs.Listed.{may_predict};
-ghost use Rattle.sightings.specs.Seen.{HasSeen, begins_at};
+ghost use Rattle.observations.specs.Seen.{HasSeen, begins_at};
 ghost use Rattle.trace_files.specs.Made.{made_file};
 ghost use Rattle.detector.specs.TotalsOf.{totals_of};
 ghost use Rattle.predator_cli.specs.Gen.{made_accesses, summary_of, summary_text};
@@ -15,12 +15,12 @@ ghost use Rattle.predator_cli.specs.Meets.{Meets};
 
 use crate::endings::{finish, refuse};
 use base::{Layout, NoMemory, Thresholds};
-use command_files::{Status, native_layout, thresholds_of};
+use command_io::{Status, native_layout, thresholds_of};
 use command_line::GenOptions;
 use detector::{Totals, count_tracks};
+use observations::Observations;
 use settings::Settings;
 use shelf::{Shelf, ShelfError};
-use sightings::Sightings;
 use std::alloc::{AllocError, Global};
 use trace_files::make_trace;
 
@@ -48,12 +48,16 @@ fn summary(alloc: Global, count: u64, totals: Totals) -> Result<String, AllocErr
 }
 
 // The summary of accesses that were seen.
-fn summary_of_seen(alloc: Global, count: u64, sightings: &Sightings) -> Result<String, NoMemory>
-    ensures { (t : AccessList) → StandsFor t sightings.now.watch
+fn summary_of_seen(
+    alloc: Global,
+    count: u64,
+    observations: &Observations,
+) -> Result<String, NoMemory>
+    ensures { (t : AccessList) → StandsFor t observations.now.watch
         → IfOk result (λ text. string_bytes text ≡ summary_text count
-        (totals_of sightings.now.watch.grid sightings.now.watch.levels t)) }
+        (totals_of observations.now.watch.grid observations.now.watch.levels t)) }
 {
-    let detector = sightings.detector();
+    let detector = observations.detector();
     let totals = count_tracks(detector.tracks(), detector.thresholds().report());
     match summary(alloc, count, totals) {
         Ok(text) => Ok(text),
@@ -67,21 +71,21 @@ fn make_seen<S: Shelf>(
     shelf: &mut S,
     name: &str,
     count: u64,
-    sightings: &mut Sightings,
+    observations: &mut Observations,
 ) -> Result<String, ShelfError>
     requires few { count ≤ 10 ^ 9 }
-    requires begins { begins_at sightings.old 0 }
-    requires fresh { HasSeen sightings.old sightings.old [] }
-    requires stands { StandsFor [] sightings.old.watch }
+    requires begins { begins_at observations.old 0 }
+    requires fresh { HasSeen observations.old observations.old [] }
+    requires stands { StandsFor [] observations.old.watch }
     ensures text { IfOk result (λ text. string_bytes text ≡ summary_text count (totals_of
-        sightings.old.watch.grid sightings.old.watch.levels (made_accesses count))) }
+        observations.old.watch.grid observations.old.watch.levels (made_accesses count))) }
     ensures written { OnOk result (AreWritten (made_file name.now count)
         (S.outside shelf.old) (S.outside shelf.new)) }
     ensures cut { IfErr result (AreCut (made_file name.now count)
         (S.outside shelf.old) (S.outside shelf.new)) }
 {
-    match make_trace(alloc, shelf, name, count, sightings) {
-        Ok(()) => match summary_of_seen(alloc, count, sightings) {
+    match make_trace(alloc, shelf, name, count, observations) {
+        Ok(()) => match summary_of_seen(alloc, count, observations) {
             Ok(text) => Ok(text),
             Err(NoMemory) => Err(ShelfError::NoMemory),
         },
@@ -107,8 +111,8 @@ fn make_under<S: Shelf>(
     ensures cut { IfErr result (AreCut (made_file name.now count)
         (S.outside shelf.old) (S.outside shelf.new)) }
 {
-    let mut sightings = Sightings::new(alloc, layout, thresholds);
-    make_seen(alloc, shelf, name, count, &mut sightings)
+    let mut observations = Observations::new(alloc, layout, thresholds);
+    make_seen(alloc, shelf, name, count, &mut observations)
 }
 
 // The same under the usual settings.

@@ -2,8 +2,8 @@
 ghost use Rattle.std.specs.Prelude.{◌≡◌, ℕ, ◌<◌, ◌^◌, List, [], ◌∷◌, length, flat_map, None, Ok};
 ghost use Rattle.std.specs.Prelude.{Option, Some};
 ghost use Rattle.std.specs.List.{All};
-ghost use Rattle.command_files.specs.Readings.{first_refusal};
-ghost use Rattle.command_files.specs.SettingsFiles.{settings_readings};
+ghost use Rattle.command_io.specs.Readings.{first_refusal};
+ghost use Rattle.command_io.specs.SettingsFiles.{settings_readings};
 ghost use Rattle.command_line.specs.Replay.{ReplayDemand};
 ghost use Rattle.command_line.specs.Split.{SplitDemand};
 ghost use Rattle.command_line.specs.Words.{replay};
@@ -29,8 +29,8 @@ ghost use Rattle.predator_cli.specs.States.{judged_state, state_of_records};
 ghost use Rattle.predator_cli.specs.declared.state_file.Begun.{Begun};
 
 use detector::an_access_changes_what_it_meets;
+use observations::{what_is_noted_is_seen, what_stands_was_noted};
 use saved_state::{the_state_of_a_list_is_taken_up, what_is_resumed_was_saved};
-use sightings::{what_is_noted_is_seen, what_stands_was_noted};
 use trace_files::the_halves_are_traces;
 use trace_passes::a_trace_is_its_spelling;
 
@@ -68,7 +68,7 @@ pub fn a_replay_goes_on_from_a_list()
     ensures no_new_track { (demand : ReplayDemand) (files : Files) (begun : Begun) (t : Trace)
         → begun_in demand files ≡ Some begun
         → trace_of (content files demand.trace) ≡ Some t
-        → AddNoTracks begun.sightings.watch (touches_in (all_records t))
+        → AddNoTracks begun.observations.watch (touches_in (all_records t))
         → NotesAlone demand files begun t }
     // Of a trace that was cut in parts, each saved and carried on, the last one gives what the
     // whole trace gives,

@@ -1,7 +1,7 @@
 // The whole program over the system's files, from the arguments of its process to its exit status.
 ghost use Rattle.std.specs.Prelude.{◌≡◌, IfOk, Option};
 ghost use Rattle.std.specs.Process.{exit_status};
-ghost use Rattle.command_files.specs.Arguments.{words_in};
+ghost use Rattle.command_io.specs.Arguments.{words_in};
 ghost use Rattle.command_line.specs.Demands.{texts};
 ghost use Rattle.command_line.specs.Words.{Demand as Wanted, IsBounded, IsReadAs, demand_of};
 ghost use Rattle.disk_shelf.specs.Disk.{disk_outside, fresh_outside};
@@ -12,7 +12,7 @@ ghost use Rattle.predator_cli.specs.OnDisk.{EndsWith};
 use crate::command::obey;
 use crate::endings::{refuse, refuse_words};
 use base::NoMemory;
-use command_files::{Status, advise, exit_code, file_to_look_at, trace_to_read, words_of};
+use command_io::{Status, advise, exit_code, file_to_look_at, trace_to_read, words_of};
 use command_line::{Demand, WordsFault, read_words};
 use disk_shelf::{Contents, DiskShelf};
 use std::alloc::Global;
@@ -22,8 +22,8 @@ use std::process::ExitCode;
 use std::rt::{Clock, Env, Files};
 
 /// The system's files and standard output, with nothing done to them yet. On standard error the
-/// shelf says why a call failed and shows what a run puts out and, where that is a terminal, how far
-/// long work is.
+/// shelf says why a call failed and shows what a run puts out and, where that is a terminal, how
+/// far long work is.
 pub fn system_shelf<R: Files + Print + Eprint + Clock + AllocGlobal, K: Contents>(
     runtime: &R,
     stderr: Stderr,
@@ -76,7 +76,7 @@ fn say_end<
         Some(name) => shelf.front_of(name),
         None => Vec::new(runtime.alloc()),
     };
-    shelf.tell_run_end();
+    shelf.report_run_end();
     advise(runtime, asked, status, &front);
 }
 
@@ -133,7 +133,8 @@ fn obey_arguments<
 ///
 /// The words are all arguments after the first, which names the program, and none where one of them
 /// is no text. They are read once. Nothing but the shelf can print here: `runtime` writes to
-/// standard error alone, where it says what is wrong at an end that isn't good, and what to do next.
+/// standard error alone, where it says what is wrong at an end that isn't good, and what to do
+/// next.
 pub fn predator_on_disk<
     E: Eprint + Env + AllocGlobal,
     R: Files + Print + Eprint + Clock + AllocGlobal,

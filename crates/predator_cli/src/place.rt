@@ -3,7 +3,7 @@ ghost use Rattle.std.specs.Prelude.{◌≡◌, ◌≤◌, ◌^◌, IfErr, IfOk, 
 ghost use Rattle.base.specs.Lines.{is_line_size};
 ghost use Rattle.command_line.specs.Place.{place_meaning};
 ghost use Rattle.command_line.specs.Words.{place as asks};
-ghost use Rattle.command_files.specs.Readings.{IsStopped};
+ghost use Rattle.command_io.specs.Readings.{IsStopped};
 ghost use Rattle.placement.specs.Passing.{RecountsFor};
 ghost use Rattle.placement.specs.Plans.{has_room, plan_of};
 ghost use Rattle.placement.specs.Sought.{is_too_large};
@@ -16,7 +16,7 @@ ghost use Rattle.trace_format.specs.Rules.{touches_in};
 use crate::counting::see_whole;
 use crate::endings::{answer, refuse};
 use base::NoMemory;
-use command_files::Status;
+use command_io::Status;
 use command_line::PlaceOptions;
 use placement::{Extent, Finder, Owners, PlaceRefusal, Plan, PlanFault, Recount, write_place};
 use shelf::Shelf;
@@ -100,7 +100,7 @@ fn count_moved<S: Shelf>(
 }
 
 // What is told of a plan for the object that is meant.
-fn tell_plan<S: Shelf>(
+fn print_plan<S: Shelf>(
     alloc: Global,
     options: &PlaceOptions<'_>,
     owners: &Owners,
@@ -129,7 +129,7 @@ fn tell_plan<S: Shelf>(
 }
 
 // What is told of the object that is meant.
-fn tell_object<S: Shelf>(
+fn print_object<S: Shelf>(
     alloc: Global,
     options: &PlaceOptions<'_>,
     extent: Extent,
@@ -151,14 +151,14 @@ fn tell_object<S: Shelf>(
         Err(status) => return Err(status),
     };
     match Plan::new(alloc, &owners, options.size) {
-        Ok(plan) => tell_plan(alloc, options, &owners, plan, shelf),
+        Ok(plan) => print_plan(alloc, options, &owners, plan, shelf),
         Err(PlanFault::NoRoom) => Err(Status::Place(PlaceRefusal::NoRoom)),
         Err(PlanFault::NoMemory) => Err(Status::NoMemory),
     }
 }
 
 // What is told, from the first reading on.
-fn tell_place<S: Shelf>(
+fn print_place<S: Shelf>(
     alloc: Global,
     options: &PlaceOptions<'_>,
     shelf: &mut S,
@@ -171,7 +171,7 @@ fn tell_place<S: Shelf>(
 {
     match seek(alloc, options, shelf) {
         Ok(Some(extent)) if extent.size <= MOST_BYTES => {
-            tell_object(alloc, options, extent, shelf)
+            print_object(alloc, options, extent, shelf)
         }
         Ok(Some(_)) => Err(Status::Place(PlaceRefusal::TooLarge)),
         Ok(None) => Err(Status::Place(PlaceRefusal::NoObject)),
@@ -186,7 +186,7 @@ pub fn place<S: Shelf>(alloc: Global, options: &PlaceOptions<'_>, shelf: &mut S)
     ensures { Meets (Some (asks (place_meaning options.now)))
         (S.outside shelf.old) (S.outside shelf.new) result }
 {
-    match tell_place(alloc, options, shelf) {
+    match print_place(alloc, options, shelf) {
         Ok(text) => answer(shelf, &text),
         Err(status) => refuse(alloc, shelf, status),
     }

@@ -2,16 +2,16 @@
 ghost use Rattle.std.specs.Prelude.{◌≡◌, ◌^◌, ◌∷◌, [], Ok, Some};
 ghost use Rattle.command_line.specs.Relocate.{move_meaning};
 ghost use Rattle.command_line.specs.Words.{relocate as asks};
-ghost use Rattle.command_files.specs.Readings.{IsAccepted};
+ghost use Rattle.command_io.specs.Readings.{IsAccepted};
 ghost use Rattle.predator_cli.specs.Meets.{Meets};
 ghost use Rattle.predator_cli.specs.Relocate.{table_reading};
 ghost use Rattle.shelf.specs.Shelf.{Outside, Told, content};
 ghost use Rattle.trace_files.specs.Tables.{IsTable, table_of};
 
-use crate::copies::tell;
+use crate::copies::print_copies;
 use crate::endings::{refuse, stop};
 use crate::trace_faults::status_of_move;
-use command_files::{Judge, Status, read_judged};
+use command_io::{Judge, Status, read_judged};
 use command_line::MoveOptions;
 use shelf::Shelf;
 use std::alloc::Global;
@@ -61,14 +61,14 @@ fn relocate_by<S: Shelf>(
 {
     a_moved_trace_is_a_trace();
     match move_trace(alloc, shelf, options.trace, table, options.file) {
-        Ok(made) => tell(alloc, shelf, "move", made.accesses, made.moved),
+        Ok(made) => print_copies(alloc, shelf, "move", made.accesses, made.moved),
         Err(fault) => refuse(alloc, shelf, status_of_move(fault)),
     }
 }
 
-/// Writes the trace of a name under another name with its accesses moved as a table says, and prints
-/// how many accesses there are and how many of them are moved. The file is written as the trace is
-/// read.
+/// Writes the trace of a name under another name with its accesses moved as a table says, and
+/// prints how many accesses there are and how many of them are moved. The file is written as the
+/// trace is read.
 pub fn relocate<S: Shelf>(alloc: Global, options: &MoveOptions<'_>, shelf: &mut S) -> Status
     ensures { Meets (Some (asks (move_meaning options.now)))
         (S.outside shelf.old) (S.outside shelf.new) result }

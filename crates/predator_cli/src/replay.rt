@@ -7,25 +7,25 @@ ghost use Rattle.base.specs.Levels.{Levels};
 ghost use Rattle.base.specs.Lines.{Grid};
 ghost use Rattle.sharing_rules.specs.Listed.{may_predict};
 ghost use Rattle.shelf.specs.Shelf.{Outside};
-ghost use Rattle.sightings.specs.Seen.{HasSeen, begins_at, report_of_records};
-ghost use Rattle.sightings.specs.Sights.{nothing_sighted, report_of_sighted};
+ghost use Rattle.observations.specs.Seen.{HasSeen, begins_at, report_of_records};
+ghost use Rattle.observations.specs.ObservedTraces.{nothing_observed, report_of_observed};
 ghost use Rattle.trace_format.specs.declared.record.TraceRecord.{TraceRecord as Record};
-ghost use Rattle.command_files.specs.Readings.{IsAccepted, IsReadFrom, IsStopped};
-ghost use Rattle.command_files.specs.Works.{output_for};
+ghost use Rattle.command_io.specs.Readings.{IsAccepted, IsReadFrom, IsStopped};
+ghost use Rattle.command_io.specs.Works.{output_for};
 ghost use Rattle.predator_cli.specs.Meets.{Meets};
 ghost use Rattle.predator_cli.specs.Replay.{IsCounted, IsToShow, replay_readings, shown};
 ghost use Rattle.predator_cli.specs.Replay.{trace_reading, wanted_after};
-ghost use Rattle.predator_cli.specs.States.{state_of_records, state_of_sighted};
+ghost use Rattle.predator_cli.specs.States.{state_of_records, state_of_observed};
 
 use crate::counting::{WHOLE, see_trace};
 use crate::endings::{finish, refuse, stop};
 use crate::state_file::{Begun, read_state};
 use base::{Ending, Layout, NoMemory, Thresholds};
-use command_files::{Status, native_layout, read_settings, save, thresholds_of};
+use command_io::{Status, native_layout, read_settings, save, thresholds_of};
 use command_line::ReplayOptions;
+use observations::Observations;
 use saved_state::{save_detector, save_objects};
 use shelf::Shelf;
-use sightings::Sightings;
 use std::alloc::Global;
 use trace_passes::Wanted;
 
@@ -37,14 +37,14 @@ struct Counted {
 }
 
 // The state of what was seen of a trace of so many harts.
-fn state_bytes(alloc: Global, sightings: &Sightings, harts: u16) -> Result<Vec<u8>, NoMemory>
-    ensures of_held { IfOk result (λ bytes. bytes.items ≡ state_of_sighted harts sightings.now) }
+fn state_bytes(alloc: Global, observations: &Observations, harts: u16) -> Result<Vec<u8>, NoMemory>
+    ensures of_held { IfOk result (λ bytes. bytes.items ≡ state_of_observed harts observations.now) }
     ensures of_records { (g : Grid) (v : Levels) (items : List Record)
-        → HasSeen (nothing_sighted g v) sightings.now items
+        → HasSeen (nothing_observed g v) observations.now items
         → IfOk result (λ bytes. bytes.items ≡ state_of_records g v harts items) }
 {
-    let mut bytes = save_detector(alloc, sightings.detector(), harts)?;
-    let objects = save_objects(sightings.objects())?;
+    let mut bytes = save_detector(alloc, observations.detector(), harts)?;
+    let objects = save_objects(observations.objects())?;
     bytes.extend_from_slice(&objects)?;
     Ok(bytes)
 }
@@ -53,18 +53,18 @@ fn state_bytes(alloc: Global, sightings: &Sightings, harts: u16) -> Result<Vec<u
 fn state_for(
     alloc: Global,
     name: Option<&str>,
-    sightings: &Sightings,
+    observations: &Observations,
     harts: u16,
 ) -> Result<Vec<u8>, NoMemory>
     ensures of_held { IfOk result (λ bytes. output_for (text_of name.entry) bytes.items
-        ≡ output_for (text_of name.entry) (state_of_sighted harts sightings.now)) }
+        ≡ output_for (text_of name.entry) (state_of_observed harts observations.now)) }
     ensures of_records { (g : Grid) (v : Levels) (items : List Record)
-        → HasSeen (nothing_sighted g v) sightings.now items
+        → HasSeen (nothing_observed g v) observations.now items
         → IfOk result (λ bytes. output_for (text_of name.entry) bytes.items
         ≡ output_for (text_of name.entry) (state_of_records g v harts items)) }
 {
     match name {
-        Some(_) => state_bytes(alloc, sightings, harts),
+        Some(_) => state_bytes(alloc, observations, harts),
         None => Ok(Vec::new(alloc)),
     }
 }
@@ -73,22 +73,22 @@ fn state_for(
 fn counted_of(
     alloc: Global,
     name: Option<&str>,
-    sightings: &Sightings,
+    observations: &Observations,
     harts: u16,
     ending: &Ending,
 ) -> Result<Counted, NoMemory>
     ensures of_held { IfOk result (λ counted.
-        shown (text_of name.entry) (report_of_sighted ending.now sightings.now)
-        (state_of_sighted harts sightings.now)
+        shown (text_of name.entry) (report_of_observed ending.now observations.now)
+        (state_of_observed harts observations.now)
         ≡ shown (text_of name.entry) counted.text.items counted.state.items) }
     ensures of_records { (g : Grid) (v : Levels) (items : List Record)
-        → HasSeen (nothing_sighted g v) sightings.now items → IfOk result (λ counted.
+        → HasSeen (nothing_observed g v) observations.now items → IfOk result (λ counted.
         shown (text_of name.entry) (report_of_records ending.now g v items)
         (state_of_records g v harts items)
         ≡ shown (text_of name.entry) counted.text.items counted.state.items) }
 {
-    let text = sightings.report(alloc, ending)?;
-    let state = state_for(alloc, name, sightings, harts)?;
+    let text = observations.report(alloc, ending)?;
+    let state = state_for(alloc, name, observations, harts)?;
     Ok(Counted { text, state })
 }
 
@@ -97,11 +97,11 @@ fn count_whole<S: Shelf>(
     alloc: Global,
     options: &ReplayOptions<'_>,
     shelf: &mut S,
-    sightings: &mut Sightings,
+    observations: &mut Observations,
 ) -> Result<Counted, Status>
-    requires begins { begins_at sightings.old 0 }
-    requires fresh { HasSeen sightings.old sightings.old [] }
-    ensures counted { (g : Grid) (v : Levels) → sightings.old ≡ nothing_sighted g v
+    requires begins { begins_at observations.old 0 }
+    requires fresh { HasSeen observations.old observations.old [] }
+    ensures counted { (g : Grid) (v : Levels) → observations.old ≡ nothing_observed g v
         → IfOk result (λ counted.
         IsReadFrom (S.outside shelf.new).held options.now.trace.now (λ bytes.
         IsCounted (text_of options.now.save) g v None bytes
@@ -113,10 +113,10 @@ fn count_whole<S: Shelf>(
         (trace_reading (λ _. wanted_after None) options.now.trace.now ∷ [])
         (S.outside shelf.old) (S.outside shelf.new)) }
 {
-    match see_trace(alloc, shelf, options.trace, &WHOLE, sightings) {
+    match see_trace(alloc, shelf, options.trace, &WHOLE, observations) {
         Ok(passed) => {
             let (harts, ending) = (passed.header.harts, passed.ending);
-            match counted_of(alloc, options.save, sightings, harts, &ending) {
+            match counted_of(alloc, options.save, observations, harts, &ending) {
                 Ok(counted) => Ok(counted),
                 Err(NoMemory) => Err(Status::NoMemory),
             }
@@ -132,33 +132,33 @@ fn count_on<S: Shelf>(
     options: &ReplayOptions<'_>,
     shelf: &mut S,
     harts: u16,
-    sightings: &mut Sightings,
+    observations: &mut Observations,
 ) -> Result<Counted, Status>
     ensures counted { IfOk result (λ counted. (g : Grid) (v : Levels)
         → IsReadFrom (S.outside shelf.new).held options.now.trace.now (λ bytes.
         IsCounted (text_of options.now.save) g v
-        (Some (record { sightings = sightings.old; harts = harts })) bytes
+        (Some (record { observations = observations.old; harts = harts })) bytes
         counted.text.items counted.state.items)) }
     ensures accepted { OnOk result (IsAccepted (trace_reading
-        (λ _. wanted_after (Some (record { sightings = sightings.old; harts = harts })))
+        (λ _. wanted_after (Some (record { observations = observations.old; harts = harts })))
         options.now.trace.now ∷ []) (S.outside shelf.old) (S.outside shelf.new)) }
     ensures stopped { IfErr result (IsStopped (trace_reading
-        (λ _. wanted_after (Some (record { sightings = sightings.old; harts = harts })))
+        (λ _. wanted_after (Some (record { observations = observations.old; harts = harts })))
         options.now.trace.now ∷ []) (S.outside shelf.old) (S.outside shelf.new)) }
 {
     let wanted = Wanted {
         harts: Some(harts),
-        first: Some(sightings.position()),
+        first: Some(observations.position()),
         pcs: false,
     };
-    match see_trace(alloc, shelf, options.trace, &wanted, sightings) {
+    match see_trace(alloc, shelf, options.trace, &wanted, observations) {
         Ok(passed) => {
             let harts = passed.header.harts;
             let ending = Ending {
-                accesses: sightings.position(),
+                accesses: observations.position(),
                 ..passed.ending
             };
-            match counted_of(alloc, options.save, sightings, harts, &ending) {
+            match counted_of(alloc, options.save, observations, harts, &ending) {
                 Ok(counted) => Ok(counted),
                 Err(NoMemory) => Err(Status::NoMemory),
             }
@@ -190,15 +190,15 @@ fn count_from<S: Shelf>(
 {
     match begun {
         None => {
-            let mut sightings = Sightings::new(alloc, layout, thresholds);
-            count_whole(alloc, options, shelf, &mut sightings)
+            let mut observations = Observations::new(alloc, layout, thresholds);
+            count_whole(alloc, options, shelf, &mut observations)
         }
         Some(
             Begun {
-                mut sightings,
+                mut observations,
                 harts,
             },
-        ) => count_on(alloc, options, shelf, harts, &mut sightings),
+        ) => count_on(alloc, options, shelf, harts, &mut observations),
     }
 }
 

@@ -11,16 +11,16 @@ ghost use Rattle.shelf.specs.OnTheirWay.{AreApart};
 ghost use Rattle.run_recorder.specs.Recorded.{IsKept, IsSymbolRecord, names_of, outputs_for};
 ghost use Rattle.run_recorder.specs.Recorded.{trace_for};
 ghost use Rattle.std.specs.List.{All};
-ghost use Rattle.command_files.specs.ProgramFiles.{IsStartable};
+ghost use Rattle.command_io.specs.ProgramFiles.{IsStartable};
 ghost use Rattle.base.specs.Levels.{Levels};
 ghost use Rattle.base.specs.Lines.{Grid};
 ghost use Rattle.settings.specs.Allowed.{IsAllowed};
-ghost use Rattle.sightings.specs.Seen.{HasSeen, begins_at};
-ghost use Rattle.sightings.specs.Sights.{nothing_sighted};
+ghost use Rattle.observations.specs.Seen.{HasSeen, begins_at};
+ghost use Rattle.observations.specs.ObservedTraces.{nothing_observed};
 ghost use Rattle.shelf.specs.Shelf.{Outside, Told, content};
-ghost use Rattle.command_files.specs.Readings.{IsAccepted, IsStopped};
-ghost use Rattle.command_files.specs.SettingsFiles.{levels_of, native_of, settings_in};
-ghost use Rattle.command_files.specs.Statuses.{kind_of, done};
+ghost use Rattle.command_io.specs.Readings.{IsAccepted, IsStopped};
+ghost use Rattle.command_io.specs.SettingsFiles.{levels_of, native_of, settings_in};
+ghost use Rattle.command_io.specs.Statuses.{kind_of, done};
 ghost use Rattle.predator_cli.specs.Meets.{Meets};
 ghost use Rattle.predator_cli.specs.Replay.{report_of};
 ghost use Rattle.predator_cli.specs.Run.{IsReady, file_for, outputs_of_run, run_for_demand};
@@ -30,18 +30,18 @@ ghost use Rattle.predator_cli.specs.Run.{symbol_records, version_with, whole_run
 use crate::endings::{finish, refuse, stop};
 use crate::symbols::records_of;
 use base::{NoMemory, Outcome};
-use command_files::{
+use command_io::{
     Judge, PROGRAM_LIMIT, Program, Status, judge_program, native_layout, read_judged,
     read_settings, thresholds_of,
 };
 use command_line::RunOptions;
 use guest::{Guest, RunSettings};
 use hart_scheduler::{Schedule, ScheduleFault};
+use observations::Observations;
 use program_files::{ElfFault, Image};
 use run_recorder::{Content, RunFile, record_run};
 use settings::Settings;
 use shelf::{Shelf, ShelfError};
-use sightings::Sightings;
 use std::alloc::Global;
 use trace_format::{TraceRecord, Version};
 
@@ -74,7 +74,7 @@ struct ProgramUnder {
 }
 
 impl Judge for ProgramUnder {
-    ghost use Rattle.command_files.specs.ProgramFiles.{program_refusal};
+    ghost use Rattle.command_io.specs.ProgramFiles.{program_refusal};
     ghost use Rattle.predator_cli.specs.Run.{IsLoading};
 
     type Given = Loading;
@@ -313,7 +313,7 @@ fn show_run<S: Shelf>(
     symbols: &[TraceRecord],
     version: Version,
     files: &[RunFile<'_>],
-    sightings: &mut Sightings,
+    observations: &mut Observations,
 ) -> Result<Shown, ShelfError>
     requires apart { AreApart (names_of files.now) }
     requires told { All IsSymbolRecord symbols.now }
@@ -322,12 +322,12 @@ fn show_run<S: Shelf>(
     requires budget { guest.setup.budget ≤ 2 ^ 36 }
     requires some { 1 ≤ guest.setup.harts }
     requires most { guest.setup.harts ≤ 256 }
-    requires begins { begins_at sightings.old 0 }
-    requires fresh { HasSeen sightings.old sightings.old [] }
+    requires begins { begins_at observations.old 0 }
+    requires fresh { HasSeen observations.old observations.old [] }
     ensures status { IfOk result (λ shown. shown.status
         ≡ status_for (rest_of guest).ending.outcome) }
     ensures done { IfOk result (λ shown. kind_of shown.status ≡ done) }
-    ensures text { (g : Grid) (v : Levels) → sightings.old ≡ nothing_sighted g v
+    ensures text { (g : Grid) (v : Levels) → observations.old ≡ nothing_observed g v
         → IfOk result (λ shown. shown.text.items
         ≡ report_of v g (trace_for version guest.setup.harts symbols.now (rest_of guest))) }
     ensures good { OnOk result (IsKept
@@ -339,8 +339,8 @@ fn show_run<S: Shelf>(
         (outputs_for version guest.setup.harts symbols.now (rest_of guest) files.now)
         (S.outside shelf.old) (S.outside shelf.new)) }
 {
-    match record_run(alloc, shelf, guest, sightings, symbols, version, files) {
-        Ok(ending) => match sightings.report(alloc, &ending) {
+    match record_run(alloc, shelf, guest, observations, symbols, version, files) {
+        Ok(ending) => match observations.report(alloc, &ending) {
             Ok(text) => Ok(Shown {
                 status: status_of(ending.outcome),
                 text,
@@ -391,7 +391,7 @@ fn run_guest<S: Shelf>(
         settings,
     } = loaded;
     let thresholds = thresholds_of(&settings, None);
-    let mut sightings = Sightings::new(alloc, native_layout(&settings), thresholds);
+    let mut observations = Observations::new(alloc, native_layout(&settings), thresholds);
     show_run(
         alloc,
         shelf,
@@ -399,7 +399,7 @@ fn run_guest<S: Shelf>(
         &symbols,
         version_with(options.pcs),
         &files[..count],
-        &mut sightings,
+        &mut observations,
     )
 }
 

@@ -5,11 +5,11 @@ ghost use Rattle.command_line.specs.Words.{split as asks};
 ghost use Rattle.shelf.specs.OnTheirWay.{AreApart};
 ghost use Rattle.predator_cli.specs.Meets.{Meets};
 
-use crate::copies::tell;
+use crate::copies::print_copies;
 use crate::endings::refuse;
 use crate::laws::a_trace_counts_in_parts;
 use crate::trace_faults::status_of_copy;
-use command_files::Status;
+use command_io::Status;
 use command_line::SplitOptions;
 use shelf::Shelf;
 use std::alloc::Global;
@@ -31,7 +31,7 @@ pub fn split<S: Shelf>(alloc: Global, options: &SplitOptions<'_>, shelf: &mut S)
         options.first,
         options.second,
     ) {
-        Ok(made) => tell(alloc, shelf, "split", made.cut, made.rest),
+        Ok(made) => print_copies(alloc, shelf, "split", made.cut, made.rest),
         Err(fault) => refuse(alloc, shelf, status_of_copy(fault)),
     }
 }

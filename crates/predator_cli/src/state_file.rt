@@ -4,21 +4,21 @@ ghost use Rattle.command_line.specs.Demands.{text_of};
 ghost use Rattle.saved_state.specs.Resuming.{resumption};
 ghost use Rattle.sharing_rules.specs.Listed.{may_predict};
 ghost use Rattle.shelf.specs.Shelf.{Told};
-ghost use Rattle.command_files.specs.Readings.{IsAccepted, IsJudged, IsStopped};
+ghost use Rattle.command_io.specs.Readings.{IsAccepted, IsJudged, IsStopped};
 ghost use Rattle.predator_cli.specs.Replay.{begun_under, state_readings};
 ghost use Rattle.predator_cli.specs.States.{begun_with, differing_field, resumed_state};
 ghost use Rattle.predator_cli.specs.States.{state_refusal};
 
 use base::{Layout, Thresholds};
-use command_files::{Judge, StateFault, Status, read_judged};
+use command_io::{Judge, StateFault, Status, read_judged};
 use detector::{Detector, PagedIndex};
 use objects::ObjectTable;
+use observations::Observations;
 use saved_state::{
     OFFSET_PLACE, PREDICTION_PLACE, Resumed, SIZE_PLACE, TRACKING_PLACE, resume_detector,
     resume_objects,
 };
 use shelf::Shelf;
-use sightings::Sightings;
 use std::alloc::Global;
 
 // The most bytes of a saved state.
@@ -28,7 +28,7 @@ const STATE_LIMIT: u64 = 1 << 40;
 #[derive(Drop)]
 pub struct Begun {
     /// What was seen.
-    pub sightings: Sightings,
+    pub observations: Observations,
     /// How many harts there are.
     pub harts: u16,
 }
@@ -72,7 +72,7 @@ fn begin_with(
     match differing_field(&detector, layout, thresholds) {
         Some(place) => Err(Status::State(StateFault::WrongSettings(place))),
         None => Ok(Begun {
-            sightings: Sightings::from_parts(detector, objects),
+            observations: Observations::from_parts(detector, objects),
             harts,
         }),
     }

@@ -7,7 +7,7 @@ ghost use Rattle.shelf.specs.NeverFails.{never_fails_outside};
 ghost use Rattle.shelf.specs.Shelf.{Told};
 
 use crate::predator;
-use command_files::Status;
+use command_io::Status;
 use shelf::NeverFails;
 use std::alloc::Global;
 

@@ -3,7 +3,7 @@ ghost use Rattle.std.specs.Prelude.{◌≡◌};
 ghost use Rattle.predator_cli.specs.TraceFaults.{status_of_copy, status_of_move, status_of_pass};
 ghost use Rattle.predator_cli.specs.TraceFaults.{status_of_refusal};
 
-use command_files::{StateFault, Status};
+use command_io::{StateFault, Status};
 use saved_state::HARTS_PLACE;
 use trace_files::{CopyFault, MoveFault};
 use trace_passes::{PassFault, Refusal};

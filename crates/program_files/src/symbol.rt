@@ -166,13 +166,13 @@ impl<'a> Symbols<'a> {
 }
 
 // The first entry that is kept, its kind, and the rows behind it.
-struct Kept<'a> {
+struct KeptSymbol<'a> {
     entry: SymbolEntry,
     kind: SymbolKind,
     rest: &'a [[u8; 16]],
 }
 
-fn next_kept<'a>(rows: &'a [[u8; 16]]) -> Option<Kept<'a>>
+fn next_kept<'a>(rows: &'a [[u8; 16]]) -> Option<KeptSymbol<'a>>
     ensures none { (names : List ℕ) → MatchOption result
         (filter_map (symbol_in names) (map symbol_entry rows.now) ≡ [])
         (λ k. filter_map (symbol_in names) (map symbol_entry rows.now)
@@ -193,7 +193,7 @@ fn next_kept<'a>(rows: &'a [[u8; 16]]) -> Option<Kept<'a>>
         rest = others;
         let entry = SymbolEntry::read(row);
         if let Some(kind) = entry.kept_kind() {
-            return Some(Kept { entry, kind, rest });
+            return Some(KeptSymbol { entry, kind, rest });
         }
     }
     None
@@ -210,7 +210,7 @@ impl<'a> Iterator for Symbols<'a> {
     ghost remaining = { item_count (λ s. s) };
 
     fn next(&mut self) -> Option<SymbolView<'a>> {
-        let Kept { entry, kind, rest } = next_kept(self.rows)?;
+        let KeptSymbol { entry, kind, rest } = next_kept(self.rows)?;
         self.rows = rest;
         Some(SymbolView {
             name: name_at(self.names, entry.name as usize),

@@ -5,7 +5,7 @@ use Rattle.base.specs.declared.layout.Range.{Range}
 use Rattle.sharing_rules.specs.Listed.{in_order, rank}
 use Rattle.sharing_rules.specs.declared.line_kind.LineKind.{LineKind}
 use Rattle.sharing_rules.specs.declared.word.Word.{Word}
-use Rattle.line_tracks.specs.Kept.{Kept}
+use Rattle.line_tracks.specs.TrackValue.{TrackValue}
 
 -- a line, with where it starts, its count and its words since
 pub record ShownLine : Type 0 where
@@ -15,7 +15,7 @@ pub record ShownLine : Type 0 where
   pub count : ℕ
   pub words : List Word
 
-abbrev pub shown_from : Kept → ℕ → ShownLine
+abbrev pub shown_from : TrackValue → ℕ → ShownLine
 shown_from x s = record {
   kind = x.kind;
   range = x.range;
@@ -25,7 +25,7 @@ shown_from x s = record {
 }
 
 -- a track, where it has a start
-abbrev pub shown_of : Kept → Option ShownLine
+abbrev pub shown_of : TrackValue → Option ShownLine
 shown_of x = option_map (shown_from x) x.start
 
 -- count falling, then kind, then base rising
@@ -45,5 +45,5 @@ abbrev pub listed_of : ℕ → List ShownLine → List ShownLine
 listed_of report lines = in_order is_shown_before (filter (reaches report) lines)
 
 -- the listed lines among tracks
-abbrev pub listed_tracks : ℕ → List Kept → List ShownLine
+abbrev pub listed_tracks : ℕ → List TrackValue → List ShownLine
 listed_tracks report tracks = listed_of report (filter_map shown_of tracks)

@@ -15,6 +15,6 @@ mod telling;
 mod touches;
 mod whole_run;
 
-pub use laws::a_trace_with_pcs_tells_the_run;
+pub use laws::a_trace_with_pcs_records_the_run;
 pub use run_file::{Content, RunFile};
 pub use whole_run::record_run;

@@ -16,8 +16,8 @@ use Rattle.rv32_hart.specs.Bytes.{IsSize, with_number}
 use Rattle.rv32_hart.specs.Space.{Space, IsSpace, byte_at, page_at, number_at}
 use Rattle.rv32_hart.specs.Faults.{fetched, store_fault, unless}
 use Rattle.rv32_hart.specs.Changes.{Maps, granted, stored, touches}
-use Rattle.rv32_hart.specs.Kept.{AreEmpty, AreKept, IsKeeping, IsKept, IsKeptOrNone}
-use Rattle.rv32_hart.specs.Kept.{no_instr, place_of, without_word}
+use Rattle.rv32_hart.specs.KeptInstructions.{AreEmpty, AreKept, IsKeeping, IsKept, IsKeptOrNone}
+use Rattle.rv32_hart.specs.KeptInstructions.{no_instr, slot_of, without_word}
 use Rattle.rv32_hart.proofs.Stores.{above_base, aligned_store, keeps_others, stored_space}
 
 -- why a word is fetched
@@ -59,7 +59,7 @@ placed P kept i k here within others j =
 
 -- an instruction that was read is kept
 pub keeps_read : (m : Space) (kept : List KeptInstr) (i pc word : ℕ) (instr : Instr)
-    → IsKeeping m kept → i ≡ place_of pc → i < 4096 → Ok word ≡ fetched m pc
+    → IsKeeping m kept → i ≡ slot_of pc → i < 4096 → Ok word ≡ fetched m pc
     → Some instr ≡ decoded word
     → IsKeeping m (set kept i (record { pc = pc; word = word; instr = instr }))
 keeps_read m kept i pc word instr keeping here below read made =
@@ -164,8 +164,8 @@ not_there m a i k space off good same =
 
 -- only the place of a word can keep its instruction
 elsewhere : (m : Space) (a j : ℕ) (k : KeptInstr) → IsKept m j k → k.pc ≡ a / 4 * 4
-    → j ≡ place_of a
-elsewhere m a j k good same = sym good.there ∙ ap place_of same ∙ omega arith
+    → j ≡ slot_of a
+elsewhere m a j k good same = sym good.there ∙ ap slot_of same ∙ omega arith
 
 unless_word : (m : Space) (a j : ℕ) (k : KeptInstr) → IsKeptOrNone m j k
     → (IsKept m j k → k.pc ≡ a / 4 * 4 → ⊥) → k.pc ≡ a / 4 * 4 → ⊥
@@ -184,7 +184,7 @@ stores_kept m kept a size value false space table s e off = record {
       (table.each j);
 }
 stores_kept m kept a size value true space table s e on =
-    let p : ℕ = place_of a in
+    let p : ℕ = slot_of a in
     let within : p < length kept = omega (arith, table.places) in
     elim (cases_Bool (nat_eq (get_or kept p no_instr).pc (a / 4 * 4))) [
       | inl found ↦ rw found (record {

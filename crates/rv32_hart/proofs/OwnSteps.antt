@@ -12,7 +12,7 @@ use Rattle.base.specs.Touch.{Touch}
 use Rattle.base.specs.declared.ending.Cause.{Cause}
 use Rattle.rv32_hart.specs.Space.{Space}
 use Rattle.rv32_hart.specs.Faults.{fetched}
-use Rattle.rv32_hart.specs.Kept.{instr_at, instr_in, instr_of}
+use Rattle.rv32_hart.specs.KeptInstructions.{instr_at, instr_in, instr_of}
 use Rattle.rv32_hart.specs.declared.page.MemFault.{MemFault}
 use Rattle.rv32_hart.specs.Registers.{reg, moved}
 use Rattle.rv32_hart.specs.declared.step_end.StepEnd.{StepEnd}

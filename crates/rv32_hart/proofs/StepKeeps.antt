@@ -24,7 +24,7 @@ use Rattle.rv32_hart.specs.Effect.{effect, after_decode, after_fetch, stepped, e
 use Rattle.rv32_hart.specs.Effect.{LeavesUnlessNext, KeepsPages}
 use Rattle.rv32_hart.proofs.Stores.{length-with_number}
 
-pub record Kept (x : Machine) (o : Outcome) : Type 0 where
+pub record StepKept (x : Machine) (o : Outcome) : Type 0 where
   pub left : LeavesUnlessNext x o.end o.machine
   pub harts : length o.machine.held ≡ length x.held
   pub pages : KeepsPages x.memory o.machine.memory
@@ -41,13 +41,13 @@ length-released : (hart word : ℕ) (held : List (Option ℕ)) → length (relea
 length-released hart word held = length-set (map (without word) held) hart (held_by held hart)
     ∙ length-map held (without word)
 
-either : (b : Bool) (x : Machine) (o p : Outcome) → Kept x o → Kept x p
-    → Kept x (if b then o else p)
+either : (b : Bool) (x : Machine) (o p : Outcome) → StepKept x o → StepKept x p
+    → StepKept x (if b then o else p)
 either true x o p h k = h
 either false x o p h k = k
 
 kept_load : (hart : ℕ) (i : Instr) (d a size : ℕ) (f : ℕ → ℕ) (x : Machine) (r : Result ℕ MemFault)
-    → Kept x (after_load hart i d a size f x r)
+    → StepKept x (after_load hart i d a size f x r)
 kept_load hart i d a size f x (Ok v) =
     record { left = tt; harts = refl; pages = same_pages x.memory }
 kept_load hart i d a size f x (Err e) =
@@ -55,7 +55,7 @@ kept_load hart i d a size f x (Err e) =
 
 kept_store : (hart : ℕ) (i : Instr) (a size value : ℕ) (s : Registers) (x : Machine)
     (r : Option MemFault)
-    → Kept x (after_store hart i a size value s x r)
+    → StepKept x (after_store hart i a size value s x r)
 kept_store hart i a size value s x None = record {
   left = tt;
   harts = length-released hart (word_at a) x.held;
@@ -65,7 +65,7 @@ kept_store hart i a size value s x (Some e) =
     record { left = refl; harts = refl; pages = same_pages x.memory }
 
 kept_lr : (hart : ℕ) (i : Instr) (d a : ℕ) (x : Machine) (r : Result ℕ MemFault)
-    → Kept x (after_lr hart i d a x r)
+    → StepKept x (after_lr hart i d a x r)
 kept_lr hart i d a x (Ok v) = record {
   left = tt;
   harts = length-set x.held hart (Some a);
@@ -75,7 +75,7 @@ kept_lr hart i d a x (Ok v) = record {
 kept_lr hart i d a x (Err e) = record { left = refl; harts = refl; pages = same_pages x.memory }
 
 kept_sc : (hart : ℕ) (i : Instr) (d a value : ℕ) (x : Machine) (r : Option MemFault)
-    → Kept x (after_sc hart i d a value x r)
+    → StepKept x (after_sc hart i d a value x r)
 kept_sc hart i d a value x None =
     either (is_of (held_by x.held hart) a) x _ _
     (record {
@@ -87,19 +87,19 @@ kept_sc hart i d a value x None =
 kept_sc hart i d a value x (Some e) =
     record { left = refl; harts = refl; pages = same_pages x.memory }
 
-kept_jump : (i : Instr) (d v target : ℕ) (x : Machine) → Kept x (jumps i d v target x)
+kept_jump : (i : Instr) (d v target : ℕ) (x : Machine) → StepKept x (jumps i d v target x)
 kept_jump i d v target x =
     either (nat_eq (target % 4) 0) x _ _
     (record { left = tt; harts = refl; pages = same_pages x.memory })
     (record { left = refl; harts = refl; pages = same_pages x.memory })
 
-kept_branch : (i : Instr) (target : ℕ) (x : Machine) → Kept x (branches i target x)
+kept_branch : (i : Instr) (target : ℕ) (x : Machine) → StepKept x (branches i target x)
 kept_branch i target x =
     either (nat_eq (target % 4) 0) x _ _
     (record { left = tt; harts = refl; pages = same_pages x.memory })
     (record { left = refl; harts = refl; pages = same_pages x.memory })
 
-kept_effect : (hart : ℕ) (i : Instr) (x : Machine) → Kept x (effect hart i x)
+kept_effect : (hart : ℕ) (i : Instr) (x : Machine) → StepKept x (effect hart i x)
 kept_effect hart (Lui d n) x = record { left = tt; harts = refl; pages = same_pages x.memory }
 kept_effect hart (Auipc d n) x = record { left = tt; harts = refl; pages = same_pages x.memory }
 kept_effect hart (Jal d z) x = kept_jump _ _ _ _ x
@@ -119,18 +119,18 @@ kept_effect hart (Lr d s o) x = kept_lr _ _ _ _ x _
 kept_effect hart (Sc d s t o) x = kept_sc _ _ _ _ _ x _
 kept_effect hart (Amo op d s t o) x = kept_store _ _ _ _ _ _ x _
 
-kept_decode : (hart : ℕ) (x : Machine) (o : Option Instr) → Kept x (after_decode hart x o)
+kept_decode : (hart : ℕ) (x : Machine) (o : Option Instr) → StepKept x (after_decode hart x o)
 kept_decode hart x None = record { left = refl; harts = refl; pages = same_pages x.memory }
 kept_decode hart x (Some i) = kept_effect hart i x
 
-kept_fetch : (hart : ℕ) (x : Machine) (r : Result ℕ MemFault) → Kept x (after_fetch hart x r)
+kept_fetch : (hart : ℕ) (x : Machine) (r : Result ℕ MemFault) → StepKept x (after_fetch hart x r)
 kept_fetch hart x (Ok w) = kept_decode hart x (decoded w)
 kept_fetch hart x (Err e) = record { left = refl; harts = refl; pages = same_pages x.memory }
 
-kept_step : (hart : ℕ) (x : Machine) → Kept x (stepped hart x)
+kept_step : (hart : ℕ) (x : Machine) → StepKept x (stepped hart x)
 unfolding stepped
 kept_step hart x = kept_fetch hart x (fetched x.memory x.state.pc)
 
 pub kept : (hart : ℕ) (x y : Machine) (e : StepEnd) → outcome e y ≡ stepped hart x
-    → Kept x (outcome e y)
-kept hart x y e h = let P : Outcome → Type 0 = λ o. Kept x o in subst P (sym h) (kept_step hart x)
+    → StepKept x (outcome e y)
+kept hart x y e h = let P : Outcome → Type 0 = λ o. StepKept x o in subst P (sym h) (kept_step hart x)

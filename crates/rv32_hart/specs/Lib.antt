@@ -3,7 +3,7 @@ pub mod Bytes
 pub mod Changes
 pub mod Effect
 pub mod Faults
-pub mod Kept
+pub mod KeptInstructions
 pub mod Registers
 pub mod Reserved
 pub mod Space

@@ -1,8 +1,9 @@
 // Instructions that were decoded, each kept at the place of its address.
 ghost use Rattle.std.specs.Prelude.{◌≡◌, ◌<◌, ◌%◌, IfOk, if◌then◌else◌, length, slice_index_or};
 ghost use Rattle.std.specs.Bool.{OnTrue, OnFalse};
-ghost use Rattle.rv32_hart.specs.Kept.{AreEmpty, HasNoInstr, IsKeeping, no_instr, place_of};
-ghost use Rattle.rv32_hart.specs.Kept.{without_word};
+ghost use Rattle.rv32_hart.specs.KeptInstructions.{AreEmpty, HasNoInstr, IsKeeping, no_instr};
+ghost use Rattle.rv32_hart.specs.KeptInstructions.{slot_of};
+ghost use Rattle.rv32_hart.specs.KeptInstructions.{without_word};
 ghost use Rattle.rv32_hart.specs.Space.{space};
 
 use crate::memory::word_in;
@@ -34,8 +35,8 @@ impl KeptInstr {
 
 /// The place for the instruction at an address.
 #[inline(always)]
-pub fn place_of(addr: u32) -> usize
-    ensures place { result ≡ place_of addr }
+pub fn slot_of(addr: u32) -> usize
+    ensures place { result ≡ slot_of addr }
     ensures below { result < 4096 }
 {
     (addr / 4 % 4096) as usize
@@ -65,7 +66,7 @@ pub fn forget_word(kept: &mut [KeptInstr], addr: u32, executable: bool)
     ensures { kept.new ≡ (if executable then without_word kept.old addr else kept.old) }
 {
     if executable {
-        let place = place_of(addr);
+        let place = slot_of(addr);
         if kept[place].pc == addr / 4 * 4 {
             kept[place] = KeptInstr::NONE;
         }
@@ -78,10 +79,10 @@ pub fn keeps(base: u32, bytes: &[u8], pages: &[Page], kept: &mut [KeptInstr], pc
     requires keeping { IsKeeping (space base bytes.now pages.now) kept.old }
     requires aligned { pc % 4 ≡ 0 }
     ensures keeping { IsKeeping (space base bytes.now pages.now) kept.new }
-    ensures kept { OnTrue result ((slice_index_or kept.new (place_of pc) no_instr).pc ≡ pc) }
+    ensures kept { OnTrue result ((slice_index_or kept.new (slot_of pc) no_instr).pc ≡ pc) }
     ensures none { OnFalse result (HasNoInstr (space base bytes.now pages.now) pc) }
 {
-    if kept[place_of(pc)].pc == pc {
+    if kept[slot_of(pc)].pc == pc {
         return true;
     }
     keep(base, bytes, pages, kept, pc)
@@ -95,7 +96,7 @@ fn keep(base: u32, bytes: &[u8], pages: &[Page], kept: &mut [KeptInstr], pc: u32
     requires keeping { IsKeeping (space base bytes.now pages.now) kept.old }
     requires aligned { pc % 4 ≡ 0 }
     ensures keeping { IsKeeping (space base bytes.now pages.now) kept.new }
-    ensures kept { OnTrue result ((slice_index_or kept.new (place_of pc) no_instr).pc ≡ pc) }
+    ensures kept { OnTrue result ((slice_index_or kept.new (slot_of pc) no_instr).pc ≡ pc) }
     ensures none { OnFalse result (HasNoInstr (space base bytes.now pages.now) pc) }
 {
     let word = match word_in(base, bytes, pages, pc) {
@@ -104,7 +105,7 @@ fn keep(base: u32, bytes: &[u8], pages: &[Page], kept: &mut [KeptInstr], pc: u32
     };
     match decode(word) {
         Some(instr) => {
-            kept[place_of(pc)] = KeptInstr { pc, word, instr };
+            kept[slot_of(pc)] = KeptInstr { pc, word, instr };
             true
         }
         None => false,

@@ -9,10 +9,10 @@ ghost use Rattle.rv32_hart.specs.Space.{IsSpace, IsRange, AllMapped, SomeUnmappe
 ghost use Rattle.rv32_hart.specs.Space.{IsFresh, size_of, page_at, byte_at, bytes_at, no_page};
 ghost use Rattle.rv32_hart.specs.Faults.{load_fault, store_fault, loaded, fetched};
 ghost use Rattle.rv32_hart.specs.Changes.{stored, granted, Maps, Fills};
-ghost use Rattle.rv32_hart.specs.Kept.{instr_at, trap_of};
+ghost use Rattle.rv32_hart.specs.KeptInstructions.{instr_at, trap_of};
 
 use crate::bytes::{number_of, put_number};
-use crate::kept::{KeptInstr, PLACES, empty_places, forget_all, forget_word, keeps, place_of};
+use crate::kept::{KeptInstr, PLACES, empty_places, forget_all, forget_word, keeps, slot_of};
 use crate::page::{MemFault, Page};
 use base::{Cause, NoMemory};
 use rv32_decode::Instr;
@@ -34,7 +34,7 @@ pub struct Memory {
 
 impl Model for Memory {
     ghost use Rattle.rv32_hart.specs.Space.{Space};
-    ghost use Rattle.rv32_hart.specs.Kept.{IsKeeping};
+    ghost use Rattle.rv32_hart.specs.KeptInstructions.{IsKeeping};
 
     ghost Value = { Space };
 
@@ -235,7 +235,7 @@ impl Memory {
 impl Memory {
     // Where an access that is not refused lies among the bytes.
     #[tactic(auto, using(crate::proofs::Within::inside))]
-    fn place_of(&self, addr: u32, size: u8) -> usize
+    fn byte_index(&self, addr: u32, size: u8) -> usize
         requires size { IsSize size }
         requires aligned { addr % size ≡ 0 }
         requires mapped { IsTrue (page_at self.now addr).mapped }
@@ -294,7 +294,7 @@ impl Memory {
         if let Some(fault) = self.load_fault(addr, size) {
             return Err(fault);
         }
-        let at = self.place_of(addr, size);
+        let at = self.byte_index(addr, size);
         Ok(number_of(&self.bytes, at, size))
     }
 
@@ -319,7 +319,7 @@ impl Memory {
         if !keeps(self.base, &self.bytes, &self.pages, &mut self.kept, pc) {
             return Err(self.trap_at(pc));
         }
-        let found = self.kept[place_of(pc)];
+        let found = self.kept[slot_of(pc)];
         Ok(found.instr)
     }
 
@@ -368,7 +368,7 @@ impl Memory {
         ensures space { IsSpace self.old }
         ensures stored { self.new ≡ stored self.old addr size value }
     {
-        let at = self.place_of(addr, size);
+        let at = self.byte_index(addr, size);
         let executable = self.page_of(addr).executable;
         forget_word(&mut self.kept, addr, executable);
         put_number(&mut self.bytes, at, size, value);

@@ -2,7 +2,7 @@
 ghost use Rattle.std.specs.Prelude.{◌≡◌, ◌<◌, IfSome, None, Ok, length};
 ghost use Rattle.rv32_hart.specs.Effect.{IsOwnStep, KeepsPages, LeavesUnlessNext, effect, is_own};
 ghost use Rattle.rv32_hart.specs.Effect.{machine, outcome, stepped};
-ghost use Rattle.rv32_hart.specs.Kept.{instr_at};
+ghost use Rattle.rv32_hart.specs.KeptInstructions.{instr_at};
 
 use crate::Memory;
 use crate::arithmetic::{alu_of, plain_op};

@@ -23,7 +23,7 @@ use Rattle.sharing_rules.specs.Laws.Lists.{Member-filter, all_at, slice_cases}
 use Rattle.sharing_rules.specs.Predicted.{is_native_size}
 use Rattle.sharing_rules.specs.declared.line_kind.LineKind.{LineKind}
 use Rattle.sharing_rules.specs.declared.line_kind.LineKind.TheVariants.{Observed, Shifted, Doubled}
-use Rattle.line_tracks.specs.Kept.{IsBlank, IsInTime, Kept}
+use Rattle.line_tracks.specs.TrackValue.{IsBlank, IsInTime, TrackValue}
 use Rattle.line_tracks.specs.Placed.{is_placed_before}
 use Rattle.line_tracks.specs.Laws.Placed.{is_placed_before-ranks}
 use Rattle.saved_state.specs.declared.state_parts.CountedLine.{CountedLine}
@@ -223,7 +223,7 @@ never_due h w k ready past = under h.tracking (count_at w.writes k) ready.some
 -- ---- tracks
 
 -- behind the last is behind all
-pub behind_last : (x : Kept) (tracks : List Kept) (y : Kept)
+pub behind_last : (x : TrackValue) (tracks : List TrackValue) (y : TrackValue)
     → IsRising is_placed_before tracks → Some y ≡ slice_get tracks (length tracks - 1)
     → is_placed_before y x ≡ list_all (λ z. is_placed_before z x) tracks
 behind_last x [] y rising is = absurd (none-some y (sym is))
@@ -291,7 +291,7 @@ due_small h w l i ready is =
     l there.0)
 
 -- the own track of the next due line
-pub own_placed : (h : Header) (w : Watch) (x : Kept) (n : ℕ)
+pub own_placed : (h : Header) (w : Watch) (x : TrackValue) (n : ℕ)
     → slice_get (due_numbers h w) (length w.tracks) ≡ Some n
     → is_kind_placed h (counted_lines w.writes) w.tracks x Observed
     ≡ (is_base h.grid n x && is_some x.start)
@@ -301,7 +301,7 @@ own_placed h w x n is =
     && is_some x.start) d.1
     ∙ ap (λ k. is_base h.grid k x && is_some x.start) d.2
 
-pub no_own : (h : Header) (w : Watch) (x : Kept)
+pub no_own : (h : Header) (w : Watch) (x : TrackValue)
     → slice_get (due_numbers h w) (length w.tracks) ≡ None
     → is_kind_placed h (counted_lines w.writes) w.tracks x Observed ≡ false
 no_own h w x is = ap (λ o. option_map_or (λ (l : CountedLine). is_base h.grid l.number x) o false
@@ -314,7 +314,7 @@ own_small h w n i ready is =
     subst (λ k. k ≤ 2 ^ 30) d.2 (due_small h w d.0 i ready d.1)
 
 -- a predicted track, but for its lines
-pub predicted_is : (h : Header) (w : Watch) (x : Kept) → IsReady h w → is_some h.prediction ≡ true
+pub predicted_is : (h : Header) (w : Watch) (x : TrackValue) → IsReady h w → is_some h.prediction ≡ true
     → length (due_numbers h w) ≤ length w.tracks → int_le (pos 0) x.range.base ≡ true
     → is_predicted h (counted_lines w.writes) w.tracks x
     ≡ (nat_le h.tracking (count_at w.writes (number_of_base h.grid x.range.base))
@@ -332,12 +332,12 @@ predicted_is h w x ready predicts few high =
     ∙ pair_due h w k ready
 
 -- the fields of a rule on predicted tracks
-record IsPredicted (h : Header) (w : Watch) (x : Kept) : Type 0 where
+record IsPredicted (h : Header) (w : Watch) (x : TrackValue) : Type 0 where
   pub predicts : is_some h.prediction ≡ true
   pub high : int_le (pos 0) x.range.base ≡ true
   pub due : both_due h (counted_lines w.writes) (number_of_base h.grid x.range.base) ≡ true
 
-predicted_by : (h : Header) (w : Watch) (x : Kept)
+predicted_by : (h : Header) (w : Watch) (x : TrackValue)
     → is_predicted h (counted_lines w.writes) w.tracks x ≡ true → IsPredicted h w x
 predicted_by h w x good =
     let lines = counted_lines w.writes in
@@ -365,7 +365,7 @@ native_offset h w ready predicts = elim (slice_cases h.prediction) [
 ]
 
 -- the lower line of a predicted track was written
-lower_written : (h : Header) (w : Watch) (x : Kept) → IsReady h w → IsPredicted h w x
+lower_written : (h : Header) (w : Watch) (x : TrackValue) → IsReady h w → IsPredicted h w x
     → 0 < count_at w.writes (number_of_base h.grid x.range.base)
 lower_written h w x ready predicted =
     let k = number_of_base h.grid x.range.base in
@@ -375,13 +375,13 @@ lower_written h w x ready predicted =
     (sym (any_due h w.writes k ready.some) ∙ lower)
 
 -- what is asked of a track under the header's own layout
-record CanStand (h : Header) (w : Watch) (x : Kept) : Type 0 where
+record CanStand (h : Header) (w : Watch) (x : TrackValue) : Type 0 where
   pub fresh : track_named h.grid x.kind (line_of_base h.grid x.range) w.tracks ≡ None
   pub shaped : IsShaped h.grid (line_of_base h.grid x.range) x.kind x.range
   pub written : 0 < count_at w.writes (line_of_base h.grid x.range)
   pub due : x.kind ≡ Observed → h.tracking ≤ count_at w.writes (line_of_base h.grid x.range)
 
-stands_own : (h : Header) (w : Watch) (x : Kept) → IsReady h w → AreShaped h.grid w.tracks
+stands_own : (h : Header) (w : Watch) (x : TrackValue) → IsReady h w → AreShaped h.grid w.tracks
     → IsSized h.grid x → x.kind ≡ Observed
     → list_all (λ y. is_placed_before y x) w.tracks ≡ true
     → is_kind_placed h (counted_lines w.writes) w.tracks x Observed ≡ true → CanStand h w x
@@ -420,7 +420,7 @@ stands_own h w x ready shaped sized of_kind behind placed =
           }
     ]
 
-stands_shifted : (h : Header) (w : Watch) (x : Kept) → IsReady h w → IsSized h.grid x
+stands_shifted : (h : Header) (w : Watch) (x : TrackValue) → IsReady h w → IsSized h.grid x
     → x.kind ≡ Shifted → is_kind_placed h (counted_lines w.writes) w.tracks x Shifted ≡ true
     → CanStand h w x
 stands_shifted h w x ready sized of_kind placed =
@@ -451,7 +451,7 @@ stands_shifted h w x ready sized of_kind placed =
     not_both : Observed ≡ Shifted → ⊥
     not_both e = absurd (let same : 0 ≡ 1 = ap rank e in omega (arith, same))
 
-stands_doubled : (h : Header) (w : Watch) (x : Kept) → IsReady h w → AreShaped h.grid w.tracks
+stands_doubled : (h : Header) (w : Watch) (x : TrackValue) → IsReady h w → AreShaped h.grid w.tracks
     → IsSized h.grid x → x.kind ≡ Doubled
     → list_all (λ y. is_placed_before y x) w.tracks ≡ true
     → is_kind_placed h (counted_lines w.writes) w.tracks x Doubled ≡ true → CanStand h w x
@@ -476,7 +476,7 @@ stands_doubled h w x ready shaped sized of_kind behind placed =
     not_both : Observed ≡ Doubled → ⊥
     not_both e = absurd (let same : 0 ≡ 2 = ap rank e in omega (arith, same))
 
-can_stand : (h : Header) (w : Watch) (x : Kept) (kind : LineKind) → IsReady h w
+can_stand : (h : Header) (w : Watch) (x : TrackValue) (kind : LineKind) → IsReady h w
     → AreShaped h.grid w.tracks → IsSized h.grid x → x.kind ≡ kind
     → list_all (λ y. is_placed_before y x) w.tracks ≡ true
     → is_kind_placed h (counted_lines w.writes) w.tracks x kind ≡ true → CanStand h w x
@@ -488,7 +488,7 @@ can_stand h w x Doubled ready shaped sized of_kind behind placed =
     stands_doubled h w x ready shaped sized of_kind behind placed
 
 -- a track that may stand here may be added
-pub can_add_track : (h : Header) (w : Watch) (x : Kept) → IsReady h w → AreShaped w.grid w.tracks
+pub can_add_track : (h : Header) (w : Watch) (x : TrackValue) → IsReady h w → AreShaped w.grid w.tracks
     → IsSized h.grid x → IsInTime x h.position → (x.start ≡ None → IsBlank x)
     → is_placed h (counted_lines w.writes) w.tracks x ≡ true → CanAddTrack w x
 can_add_track h w x ready shaped sized in_time blank placed =
@@ -510,7 +510,7 @@ can_add_track h w x ready shaped sized in_time blank placed =
       blank = blank;
     }
 
-pub ready_track : (h : Header) (w : Watch) (x : Kept) → IsReady h w
+pub ready_track : (h : Header) (w : Watch) (x : TrackValue) → IsReady h w
     → is_placed h (counted_lines w.writes) w.tracks x ≡ true → IsReady h (with_track w x)
 ready_track h w x ready placed =
     let behind = (and_parts (list_all (λ y. is_placed_before y x) w.tracks)
@@ -530,7 +530,7 @@ ready_track h w x ready placed =
     }
 
 -- a track more was read
-pub next_track : (h : Header) (w : Watch) (x : Kept) (place : ℕ) (bytes : List ℕ) (more : ℕ)
+pub next_track : (h : Header) (w : Watch) (x : TrackValue) (place : ℕ) (bytes : List ℕ) (more : ℕ)
     → track_in h (counted_lines w.writes) w.tracks bytes ≡ Some x
     → read_units (track_in h (counted_lines w.writes)) spell_track (suc more)
     (tracks_at w place bytes)
@@ -542,7 +542,7 @@ next_track h w x place bytes more is =
     (32 + 20 * length x.words) more is (length-track x)
 
 -- a track that is good by itself is read where it may stand
-pub placed_track : (h : Header) (w : Watch) (x : Kept) (bytes : List ℕ)
+pub placed_track : (h : Header) (w : Watch) (x : TrackValue) (bytes : List ℕ)
     → track_alone h bytes ≡ Some x → is_placed h (counted_lines w.writes) w.tracks x ≡ true
     → track_in h (counted_lines w.writes) w.tracks bytes ≡ Some x
 placed_track h w x bytes alone placed =
@@ -551,7 +551,7 @@ placed_track h w x bytes alone placed =
     else None)) alone
     ∙ ap (λ b. if b then Some x else None) placed
 
-pub unplaced_track : (h : Header) (w : Watch) (x : Kept) (bytes : List ℕ)
+pub unplaced_track : (h : Header) (w : Watch) (x : TrackValue) (bytes : List ℕ)
     → track_alone h bytes ≡ Some x → is_placed h (counted_lines w.writes) w.tracks x ≡ false
     → track_in h (counted_lines w.writes) w.tracks bytes ≡ None
 unplaced_track h w x bytes alone misplaced =

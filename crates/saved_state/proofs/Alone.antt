@@ -17,7 +17,7 @@ use Rattle.sharing_rules.specs.declared.word.Owner.TheVariants as owner
 use Rattle.sharing_rules.specs.declared.word.Word.{Word}
 use Rattle.line_tracks.specs.RangeWords.{can_own, is_possible}
 use Rattle.line_tracks.specs.Laws.Words.{map_below_same}
-use Rattle.line_tracks.specs.Kept.{IsBlank, IsSince, Kept}
+use Rattle.line_tracks.specs.TrackValue.{IsBlank, IsSince, TrackValue}
 use Rattle.saved_state.specs.Laws.Lengths.{length-head, length-track}
 use Rattle.saved_state.proofs.Spelled.{if_spelled-short}
 use Rattle.saved_state.specs.Parts.{are_words, head_at, head_in, most_of}
@@ -28,7 +28,7 @@ use Rattle.saved_state.specs.Units.{words_at}
 use Rattle.saved_state.proofs.Words.{length-words_at, starts_append}
 
 -- a head with its words
-abbrev pub with_words : Header → List ℕ → Kept → Option Kept
+abbrev pub with_words : Header → List ℕ → TrackValue → Option TrackValue
 with_words h bytes x =
     if are_words h.harts (most_of h.position x.start) (size_of h.grid x.kind / 4) bytes
     then Some (record x { words = words_at (size_of h.grid x.kind / 4) bytes }) else None
@@ -57,14 +57,14 @@ some_few : (e : Bool) (c s n p : ℕ) → (e && ltb (c + s) p && leb (n + s) p)
 some_few e c s n p = grind (arith, nat_tests)
 
 -- the rule of a track's head, and of how many accesses its words have
-since-parts : (h : Header) (x : Kept) (start : Option ℕ) → is_since h x start
+since-parts : (h : Header) (x : TrackValue) (start : Option ℕ) → is_since h x start
     ≡ (is_since h (record x { words = [] }) start && nat_le (sum_by accesses x.words)
     (most_of h.position start))
 since-parts h x None = none_few (eqb (length x.entries) 0) (eqb x.count 0) (sum_by accesses x.words)
 since-parts h x (Some s) = some_few (are_entries h.harts x.entries) x.count s
     (sum_by accesses x.words) h.position
 
-head-same : (x : Kept) → spell_head x ≡ spell_head (record x { words = [] })
+head-same : (x : TrackValue) → spell_head x ≡ spell_head (record x { words = [] })
 unfolding spell_head
 head-same x = refl
 
@@ -77,7 +77,7 @@ by_parts false true l true c = refl
 by_parts false true l false c = refl
 by_parts false false l b c = refl
 
-then_words : (b w : Bool) (x y : Kept) (f : Kept → Option Kept) → f y ≡ (if w then Some x else None)
+then_words : (b w : Bool) (x y : TrackValue) (f : TrackValue → Option TrackValue) → f y ≡ (if w then Some x else None)
     → (if b && w then Some x else None) ≡ option_and_then f (if b then Some y else None)
 then_words true w x y f is = sym is
 then_words false w x y f is = refl
@@ -140,14 +140,14 @@ some_by true true x y is = (refl, same_Some x y is)
 some_by true false x y is = absurd (none-some y is)
 some_by false b x y is = absurd (none-some y is)
 
-pub head-is : (h : Header) (bytes : List ℕ) (x : Kept) → head_in h bytes ≡ Some x
+pub head-is : (h : Header) (bytes : List ℕ) (x : TrackValue) → head_in h bytes ≡ Some x
     → (is_since h x x.start ≡ true) × (x.kind ≡ kind_of (slice_index bytes 0))
 unfolding head_in
 head-is h bytes x is =
     let y = head_at h.grid bytes in
     let found = some_by (is_since h y y.start) (starts_with nat_eq bytes (spell_head y)) y x is in (
-      subst (λ (z : Kept). is_since h z z.start ≡ true) found.1 found.0,
-      ap (λ (z : Kept). z.kind) (sym found.1),
+      subst (λ (z : TrackValue). is_since h z z.start ≡ true) found.1 found.0,
+      ap (λ (z : TrackValue). z.kind) (sym found.1),
     )
 
 -- what is true of words that are at no fault
@@ -162,7 +162,7 @@ words-are harts most n bytes passes =
     (nat_le (sum_by accesses (words_at n bytes)) most) parts.0 in
     (inner.0, leb-true (sum_by accesses (words_at n bytes)) most inner.1)
 
-pub in_time-from : (h : Header) (x : Kept) (ws : List Word) (o : Option ℕ) → is_since h x o ≡ true
+pub in_time-from : (h : Header) (x : TrackValue) (ws : List Word) (o : Option ℕ) → is_since h x o ≡ true
     → sum_by accesses ws ≤ most_of h.position o → IfSome o
     (IsSince (record x { words = ws }) h.position)
 in_time-from h x ws None since few = tt
@@ -177,7 +177,7 @@ in_time-from h x ws (Some s) since few =
       counted = counted;
     }
 
-pub blank-from : (h : Header) (x : Kept) (ws : List Word) (o : Option ℕ) → is_since h x o ≡ true → o
+pub blank-from : (h : Header) (x : TrackValue) (ws : List Word) (o : Option ℕ) → is_since h x o ≡ true → o
     ≡ None
     → list_all (is_good_word h.harts) ws ≡ true → sum_by accesses ws ≤ most_of h.position o
     → length ws ≡ x.range.size / 4

@@ -26,7 +26,7 @@ use Rattle.saved_state.specs.OfLists.{MayKeep, counted_in, sorted_state_in, stat
 use Rattle.saved_state.specs.OfLists.{writes_of}
 use Rattle.saved_state.specs.Reading.{Found, read_state}
 use Rattle.saved_state.specs.Spelling.{State}
-use Rattle.line_tracks.specs.Kept.{Kept}
+use Rattle.line_tracks.specs.TrackValue.{TrackValue}
 use Rattle.line_tracks.specs.KeptIn.{kept_in}
 use Rattle.line_tracks.specs.Placed.{is_placed_before}
 use Rattle.detector.specs.Counts.{count_at}
@@ -77,7 +77,7 @@ stands_in g v harts t w n is =
           (subst (AreCounted (writes_of g t)) (sym lines) (counted_in-counted g t)) k
           ∙ ap (λ (z : Grid). write_count (is_inside (grid_line z k)) t) (sym grid);
       tracks = subst (λ (os : List Opened). IsPermutation w.tracks (map (kept_in t) os)) (sym all)
-          (subst (λ (xs : List Kept). IsPermutation xs kept) (sym tracks)
+          (subst (λ (xs : List TrackValue). IsPermutation xs kept) (sym tracks)
           (IsPermutation-sym kept (in_order is_placed_before kept)
           (in_order-permutes is_placed_before kept)));
     }

@@ -18,7 +18,7 @@ use Rattle.sharing_rules.specs.Lines.{grid_line, range_of, number_of_base}
 use Rattle.sharing_rules.specs.Listed.{rank}
 use Rattle.sharing_rules.specs.declared.line_kind.LineKind.{LineKind}
 use Rattle.sharing_rules.specs.declared.line_kind.LineKind.TheVariants.{Observed, Shifted, Doubled}
-use Rattle.line_tracks.specs.Kept.{Kept}
+use Rattle.line_tracks.specs.TrackValue.{TrackValue}
 use Rattle.line_tracks.specs.Placed.{is_placed_before}
 use Rattle.saved_state.specs.Units.{is_base, is_line, is_multiple}
 use Rattle.detector.specs.Index.{IsReached, IsShaped}
@@ -84,13 +84,13 @@ same_base : (a b : ℤ) → int_eq a b ≡ true → a ≡ b
 same_base a b h = grind (arith, ints)
 
 -- a line's own track
-pub own_line : (g : Grid) (k : ℕ) (x : Kept) → 0 < g.size → is_base g k x ≡ true
+pub own_line : (g : Grid) (k : ℕ) (x : TrackValue) → 0 < g.size → is_base g k x ≡ true
     → line_of_base g x.range ≡ k
 own_line g k x some h =
     line_from_base g k 0 x.range.base some (sym (same_base (range_of (grid_line g k)).base
     x.range.base h) ∙ ap (λ z. pos z -ℤ pos g.size) (plus_zero (k * g.size + g.offset)))
 
-pub shaped_own : (g : Grid) (k : ℕ) (x : Kept) → g.offset < g.size → is_line g k ≡ true
+pub shaped_own : (g : Grid) (k : ℕ) (x : TrackValue) → g.offset < g.size → is_line g k ≡ true
     → is_base g k x ≡ true → x.range.size ≡ g.size → IsShaped g k Observed x.range
 shaped_own g k x small line base size = (
   (let b = same_base (range_of (grid_line g k)).base x.range.base base in
@@ -111,7 +111,7 @@ in_native g n some none =
     let next = next_times (n / g.size) g.size in
     omega (arith, ints)
 
-pub shaped_shifted : (g : Grid) (x : Kept) → 0 < g.size → g.offset ≡ 0
+pub shaped_shifted : (g : Grid) (x : TrackValue) → 0 < g.size → g.offset ≡ 0
     → int_le (pos 0) x.range.base ≡ true → x.range.size ≡ g.size
     → IsShaped g (line_of_base g x.range) Shifted x.range
 shaped_shifted g x some none low size =
@@ -138,7 +138,7 @@ even_base g n some none multiple =
 odd_line : (q : ℕ) → (2 * q + 1) % 2 ≡ 1
 odd_line q = omega arith
 
-pub shaped_doubled : (g : Grid) (x : Kept) → 0 < g.size → g.offset ≡ 0
+pub shaped_doubled : (g : Grid) (x : TrackValue) → 0 < g.size → g.offset ≡ 0
     → int_le (pos 0) x.range.base ≡ true → x.range.size ≡ 2 * g.size
     → is_multiple (2 * g.size) x ≡ true → IsShaped g (line_of_base g x.range) Doubled x.range
 shaped_doubled g x some none low size multiple =
@@ -174,10 +174,10 @@ not_before : (a b : ℕ) (p q : ℤ) → a ≡ b → p ≡ q
 not_before a b p q e f h = grind (arith, ints, nat_tests)
 
 -- where each track of a kind and a line has one base, none comes before another
-no_other : (g : Grid) (kind : LineKind) (k : ℕ) (x : Kept) (before : List Kept)
+no_other : (g : Grid) (kind : LineKind) (k : ℕ) (x : TrackValue) (before : List TrackValue)
     → x.kind ≡ kind
     → ((r : Range) → IsShaped g k kind r → r.base ≡ x.range.base)
-    → ((i : ℕ) (y : Kept) → slice_get before i ≡ Some y
+    → ((i : ℕ) (y : TrackValue) → slice_get before i ≡ Some y
     → IsShaped g (line_of_base g y.range) y.kind y.range)
     → list_all (λ y. is_placed_before y x) before ≡ true → track_named g kind k before ≡ None
 no_other g kind k x [] of_kind one shaped placed = refl
@@ -199,19 +199,19 @@ no_other g kind k x (y ∷ ys) of_kind one shaped placed =
       | inr other ↦ rw other later
     ]
 
-pub fresh_own : (g : Grid) (k : ℕ) (x : Kept) (before : List Kept) → x.kind ≡ Observed
+pub fresh_own : (g : Grid) (k : ℕ) (x : TrackValue) (before : List TrackValue) → x.kind ≡ Observed
     → IsShaped g k Observed x.range → AreShaped g before
     → list_all (λ y. is_placed_before y x) before ≡ true → track_named g Observed k before ≡ None
 fresh_own g k x before of_kind shape shaped placed =
     no_other g Observed k x before of_kind
     (λ r is. ap (λ (q : Range). q.base) (is.0 ∙ sym shape.0)) shaped placed
 
-pub fresh_doubled : (g : Grid) (k : ℕ) (x : Kept) (before : List Kept) → x.kind ≡ Doubled
+pub fresh_doubled : (g : Grid) (k : ℕ) (x : TrackValue) (before : List TrackValue) → x.kind ≡ Doubled
     → IsShaped g k Doubled x.range → AreShaped g before
     → list_all (λ y. is_placed_before y x) before ≡ true → track_named g Doubled k before ≡ None
 fresh_doubled g k x before of_kind shape shaped placed =
     no_other g Doubled k x before of_kind (λ r is. is.2 ∙ sym shape.2) shaped placed
 
-pub fresh_shifted : (g : Grid) (k : ℕ) (before : List Kept)
+pub fresh_shifted : (g : Grid) (k : ℕ) (before : List TrackValue)
     → list_any (is_named g Shifted k) before ≡ false → track_named g Shifted k before ≡ None
 fresh_shifted g k before none = find_none (is_named g Shifted k) before none

@@ -1,5 +1,6 @@
 -- What is read of a state, part by part.
-use Rattle.std.proofs.Common.{◌≡◌, ℕ, ◌<◌, ◌≤◌, Bool, true, false, List, [], ◌∷◌, length, drop, map, refl}
+use Rattle.std.proofs.Common.{◌≡◌, ℕ, ◌<◌, ◌≤◌, Bool, true, false, List, [], ◌∷◌, length, drop, map}
+use Rattle.std.proofs.Common.{refl}
 use Rattle.std.proofs.Common.{sym, ap, ◌∙◌, arith, inl}
 use Rattle.std.proofs.lemmas.Bool.{le-leb, lt-leb}
 use Rattle.std.proofs.lemmas.List.{length-map}
@@ -20,7 +21,7 @@ use Rattle.saved_state.specs.Parts.{header_meant}
 use Rattle.saved_state.specs.Reading.{lines_then, read_state, read_units, state_with, tracks_then}
 use Rattle.saved_state.specs.Spelling.{Header, State, spell_line, spell_track}
 use Rattle.saved_state.specs.Units.{due, header_in, is_line, line_in, track_in}
-use Rattle.line_tracks.specs.Kept.{Kept}
+use Rattle.line_tracks.specs.TrackValue.{TrackValue}
 use Rattle.detector.specs.Adding.{nothing_kept}
 use Rattle.detector.specs.Counts.{count_at, no_writes}
 use Rattle.detector.specs.Watch.{Watch}
@@ -91,7 +92,7 @@ module _ (report : ℕ) (h : Header) (g : Grid) (v : Levels) (position : ℕ) (p
         ≡ tracks_then h (counted_lines w.writes) (tracks_read h h.tracks w place left)
     behind_lines =
         begun ∙ ap (lines_then h) lines
-        ∙ ap (λ (xs : List Kept). tracks_then h (counted_lines w.writes)
+        ∙ ap (λ (xs : List TrackValue). tracks_then h (counted_lines w.writes)
         (read_units (track_in h (counted_lines w.writes)) spell_track h.tracks
         (record { read = xs; place = place; left = left }))) (sym trackless)
 

@@ -12,7 +12,7 @@ use Rattle.std.specs.List.{list_all, starts_with}
 use Rattle.std.specs.Option.{option_map_or}
 use Rattle.base.specs.Levels.{is_from_to}
 use Rattle.sharing_rules.specs.Members.{IsRising}
-use Rattle.line_tracks.specs.Kept.{Kept}
+use Rattle.line_tracks.specs.TrackValue.{TrackValue}
 use Rattle.saved_state.specs.declared.state_parts.CountedLine.{CountedLine}
 use Rattle.saved_state.specs.Counted.{has_lower_number}
 use Rattle.saved_state.specs.Laws.Lengths.{length-header, length-line}
@@ -67,7 +67,7 @@ header_in-then bytes o is =
     ∙ ap (option_and_then (λ h. if starts_with nat_eq bytes (spell_header h) then Some h else None))
     (sym is)
 
-pub head_in-then : (h : Header) (bytes : List ℕ) (o : Option Kept)
+pub head_in-then : (h : Header) (bytes : List ℕ) (o : Option TrackValue)
     → o ≡ good_head h (head_at h.grid bytes).start bytes
     → head_in h bytes
     ≡ option_and_then (λ x. if starts_with nat_eq bytes (spell_head x) then Some x else None) o

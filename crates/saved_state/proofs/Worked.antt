@@ -10,7 +10,7 @@ use Rattle.sharing_rules.specs.Words.{words_since}
 use Rattle.sharing_rules.specs.Arrivals.{arrivals}
 use Rattle.sharing_rules.specs.declared.line_kind.LineKind.TheVariants.{Observed, Shifted, Doubled}
 use Rattle.sharing_rules.specs.declared.word.Owner.TheVariants as owner
-use Rattle.line_tracks.specs.Kept.{Kept, waiting}
+use Rattle.line_tracks.specs.TrackValue.{TrackValue, waiting}
 use Rattle.saved_state.specs.Spelling.{State, spell_head, spell_header, spell_line, spell_state}
 use Rattle.saved_state.specs.Spelling.{spell_track, spell_word}
 use Rattle.saved_state.specs.OfLists.{state_of_list}
@@ -44,7 +44,7 @@ empty_state = refl
 abbrev pub grid : Grid
 grid = record { size = 64; offset = 0 }
 
-abbrev pub shared : Kept
+abbrev pub shared : TrackValue
 shared = record {
   kind = Observed;
   range = record { base = pos 0x1000; size = 64 };

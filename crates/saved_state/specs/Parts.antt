@@ -10,7 +10,7 @@ use Rattle.base.specs.Lines.{Grid}
 use Rattle.sharing_rules.specs.Predicted.{is_native_size}
 use Rattle.sharing_rules.specs.Words.{accesses}
 use Rattle.sharing_rules.specs.declared.word.Word.{Word}
-use Rattle.line_tracks.specs.Kept.{Kept, saved}
+use Rattle.line_tracks.specs.TrackValue.{TrackValue, saved}
 use Rattle.saved_state.specs.declared.state_parts.CountedLine.{CountedLine}
 use Rattle.saved_state.specs.declared.state_parts.SavedTrack.{SavedTrack}
 use Rattle.saved_state.specs.declared.state_parts.StateHeader.{StateHeader}
@@ -32,7 +32,7 @@ header_meant h = record {
   tracks = h.tracks;
 }
 
-abbrev pub kept_of : SavedTrack → Kept
+abbrev pub kept_of : SavedTrack → TrackValue
 kept_of x = saved x.kind x.shadow x.start x.count
 
 -- the number of the last of some lines, None where there is none
@@ -61,7 +61,7 @@ line_behind h last bytes =
 -- ---- a track: its head, and its words
 
 -- all of a track but its words
-abbrev pub head_meant : TrackHead → Kept
+abbrev pub head_meant : TrackHead → TrackValue
 head_meant h = saved h.kind (record { range = h.range; words = [] }) h.start h.count
 
 -- its range has the size of its kind, which is a number of words
@@ -70,19 +70,19 @@ pub record IsHeadSized (g : Grid) (h : TrackHead) : Type 0 where
   pub words : h.range.size % 4 ≡ 0
 
 -- what bytes say of a track before its words, with a start
-abbrev pub head_from : Grid → Option ℕ → List ℕ → Kept
+abbrev pub head_from : Grid → Option ℕ → List ℕ → TrackValue
 head_from g start bytes = record (track_at g bytes) { start = start; words = [] }
 
-abbrev pub head_at : Grid → List ℕ → Kept
+abbrev pub head_at : Grid → List ℕ → TrackValue
 head_at g bytes = head_from g (some_unless no_start (number_at w64 16 bytes)) bytes
 
 -- a head that keeps the rule, with a start
-abbrev pub good_head : Header → Option ℕ → List ℕ → Option Kept
+abbrev pub good_head : Header → Option ℕ → List ℕ → Option TrackValue
 good_head h start bytes =
     if is_since h (head_from h.grid start bytes) start then Some (head_from h.grid start bytes)
     else None
 
-unfoldable pub head_in : Header → List ℕ → Option Kept
+unfoldable pub head_in : Header → List ℕ → Option TrackValue
 head_in h bytes =
     if_spelled spell_head (is_since h (head_at h.grid bytes) (head_at h.grid bytes).start)
     (head_at h.grid bytes) bytes

@@ -4,7 +4,7 @@ use Rattle.std.specs.Prelude.{length, drop, Option, if◌then◌else◌, Result,
 use Rattle.std.specs.Option.{option_map_or}
 use Rattle.base.specs.declared.faults.ResumeFault.{ResumeFault}
 use Rattle.base.specs.declared.faults.ResumeFault.TheVariants.{BadState}
-use Rattle.line_tracks.specs.Kept.{Kept}
+use Rattle.line_tracks.specs.TrackValue.{TrackValue}
 use Rattle.saved_state.specs.declared.state_parts.CountedLine.{CountedLine}
 use Rattle.saved_state.specs.Spelling.{Header, State, header_of, spell_line, spell_state}
 use Rattle.saved_state.specs.Spelling.{spell_track}
@@ -32,7 +32,7 @@ read_units unit spell (suc n) u =
 abbrev pub Found : Type 0
 Found = State × ℕ
 
-abbrev pub state_with : Header → List CountedLine → List Kept → State
+abbrev pub state_with : Header → List CountedLine → List TrackValue → State
 state_with h lines tracks = record {
   grid = h.grid;
   tracking = h.tracking;
@@ -44,7 +44,7 @@ state_with h lines tracks = record {
 }
 
 -- Where a due line has no track, the unit that stands in its place is at fault.
-abbrev pub tracks_then : Header → List CountedLine → Result (Units Kept) ResumeFault
+abbrev pub tracks_then : Header → List CountedLine → Result (Units TrackValue) ResumeFault
     → Result Found ResumeFault
 tracks_then h lines (Err fault) = Err fault
 tracks_then h lines (Ok u) =
@@ -81,7 +81,7 @@ AllInTurn P before [] = Unit {0}
 AllInTurn P before (x ∷ xs) = P before x × AllInTurn P (before ++ x ∷ []) xs
 
 -- a track that may stand behind these lines and tracks
-pub record IsGoodTrack (h : Header) (lines : List CountedLine) (before : List Kept) (x : Kept) :
+pub record IsGoodTrack (h : Header) (lines : List CountedLine) (before : List TrackValue) (x : TrackValue) :
     Type 0 where
   pub good : is_good_track h x ≡ true
   pub placed : is_placed h lines before x ≡ true

@@ -10,7 +10,7 @@ use Rattle.saved_state.specs.Reading.{Units, read_units}
 use Rattle.saved_state.specs.Spelling.{Header, spell_line, spell_track}
 use Rattle.saved_state.specs.Units.{due, is_line, line_in, track_in}
 use Rattle.saved_state.specs.declared.state_parts.CountedLine.{CountedLine}
-use Rattle.line_tracks.specs.Kept.{Kept}
+use Rattle.line_tracks.specs.TrackValue.{TrackValue}
 use Rattle.detector.specs.Index.{IsShaped}
 use Rattle.detector.specs.Named.{line_of_base}
 use Rattle.detector.specs.Watch.{Watch}
@@ -39,7 +39,7 @@ due_numbers h w = map (λ l. l.number) (due h (counted_lines w.writes))
 abbrev pub lines_at : Watch → ℕ → List ℕ → Units CountedLine
 lines_at w place left = record { read = counted_lines w.writes; place = place; left = left }
 
-abbrev pub tracks_at : Watch → ℕ → List ℕ → Units Kept
+abbrev pub tracks_at : Watch → ℕ → List ℕ → Units TrackValue
 tracks_at w place left = record { read = w.tracks; place = place; left = left }
 
 -- so many lines more, behind its own
@@ -47,11 +47,11 @@ abbrev pub lines_read : Header → ℕ → Watch → ℕ → List ℕ → Result
 lines_read h n w place left =
     read_units (line_in h) (spell_line h.grid) n (lines_at w place left)
 
-abbrev pub tracks_read : Header → ℕ → Watch → ℕ → List ℕ → Result (Units Kept) ResumeFault
+abbrev pub tracks_read : Header → ℕ → Watch → ℕ → List ℕ → Result (Units TrackValue) ResumeFault
 tracks_read h n w place left =
     read_units (track_in h (counted_lines w.writes)) spell_track n (tracks_at w place left)
 
 -- each track lies where one of its kind may
-abbrev pub AreShaped : Grid → List Kept → Type 0
-AreShaped g tracks = (i : ℕ) (y : Kept) → slice_get tracks i ≡ Some y
+abbrev pub AreShaped : Grid → List TrackValue → Type 0
+AreShaped g tracks = (i : ℕ) (y : TrackValue) → slice_get tracks i ≡ Some y
     → IsShaped g (line_of_base g y.range) y.kind y.range

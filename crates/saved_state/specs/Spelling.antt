@@ -9,7 +9,7 @@ use Rattle.sharing_rules.specs.Listed.{in_order, rank}
 use Rattle.sharing_rules.specs.declared.word.Owner.{Owner}
 use Rattle.sharing_rules.specs.declared.word.Owner.TheVariants as owner
 use Rattle.sharing_rules.specs.declared.word.Word.{Word}
-use Rattle.line_tracks.specs.Kept.{Kept}
+use Rattle.line_tracks.specs.TrackValue.{TrackValue}
 use Rattle.saved_state.specs.declared.state_parts.CountedLine.{CountedLine}
 use Rattle.line_tracks.specs.Placed.{is_placed_before}
 
@@ -22,7 +22,7 @@ pub record State : Type 0 where
   pub harts : ℕ
   pub position : ℕ
   pub lines : List CountedLine
-  pub tracks : List Kept
+  pub tracks : List TrackValue
 
 -- what is told before the lines and the tracks, of which only the numbers are told
 pub record Header : Type 0 where
@@ -83,7 +83,7 @@ abbrev pub no_start : ℕ
 no_start = 2 ^ 64 - 1
 
 -- 32 bytes: kind, number of entries, both entries, zeros, base, start and count
-unfoldable pub spell_head : Kept → List ℕ
+unfoldable pub spell_head : TrackValue → List ℕ
 spell_head x =
     rank x.kind ∷ length x.entries ∷ (to_le_bytes w16
     (get_or x.entries 0 no_hart) ++ (to_le_bytes w16 (get_or x.entries 1 no_hart)
@@ -91,7 +91,7 @@ spell_head x =
     ++ (to_le_bytes w64 (unwrap_or x.start no_start) ++ to_le_bytes w64 x.count)))))
 
 -- a track: its head, and 20 bytes for each word of its range
-abbrev pub spell_track : Kept → List ℕ
+abbrev pub spell_track : TrackValue → List ℕ
 spell_track x = spell_head x ++ flat_map spell_word x.words
 
 -- The whole. The tracks stand in the order of their kinds and bases.

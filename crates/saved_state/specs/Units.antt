@@ -1,7 +1,8 @@
 -- What any bytes say: of each unit of a state its fields, its rule, and how it stands beside the
 -- units before it. A unit is good where what its fields say keeps the rule and is spelled so, byte
 -- by byte.
-use Rattle.std.specs.Prelude.{◌≡◌, ℕ, zero, suc, ◌+◌, ◌-◌, ◌*◌, ◌/◌, ◌%◌, ◌^◌, ◌==◌, ◌&&◌, not, Bool, false}
+use Rattle.std.specs.Prelude.{◌≡◌, ℕ, zero, suc, ◌+◌, ◌-◌, ◌*◌, ◌/◌, ◌%◌, ◌^◌, ◌==◌, ◌&&◌, not}
+use Rattle.std.specs.Prelude.{Bool, false}
 use Rattle.std.specs.Prelude.{true, FitsSigned, ℤ, pos, nat_abs, int_le, nat_eq, nat_lt, nat_le}
 use Rattle.std.specs.Prelude.{List, [], ◌∷◌, length, filter, take, drop, slice_get}
 use Rattle.std.specs.Prelude.{slice_index, sum_by, if◌then◌else◌, Option, None, Some, is_some}
@@ -22,7 +23,7 @@ use Rattle.sharing_rules.specs.declared.word.Owner.{Owner}
 use Rattle.sharing_rules.specs.declared.word.Owner.TheVariants as owner
 use Rattle.sharing_rules.specs.declared.word.Word.{Word}
 use Rattle.line_tracks.specs.RangeWords.{is_possible}
-use Rattle.line_tracks.specs.Kept.{Kept}
+use Rattle.line_tracks.specs.TrackValue.{TrackValue}
 use Rattle.line_tracks.specs.Placed.{is_placed_before}
 use Rattle.base.specs.Fields.{number_at}
 use Rattle.saved_state.specs.declared.state_parts.CountedLine.{CountedLine}
@@ -131,7 +132,7 @@ words_from (suc n) bytes = word_at bytes ∷ words_from n (drop 20 bytes)
 abbrev pub words_at : ℕ → List ℕ → List Word
 words_at count bytes = words_from count (drop 32 bytes)
 
-abbrev pub track_as : Grid → LineKind → List ℕ → Kept
+abbrev pub track_as : Grid → LineKind → List ℕ → TrackValue
 track_as g kind bytes = record {
   kind = kind;
   range = record { base = integer_at 8 bytes; size = size_of g kind };
@@ -141,7 +142,7 @@ track_as g kind bytes = record {
   words = words_at (size_of g kind / 4) bytes;
 }
 
-abbrev pub track_at : Grid → List ℕ → Kept
+abbrev pub track_at : Grid → List ℕ → TrackValue
 track_at g bytes = track_as g (kind_of (slice_index bytes 0)) bytes
 
 abbrev pub is_owner : ℕ → Owner → Bool
@@ -161,7 +162,7 @@ are_entries harts hs =
 
 -- Before its start it has counted nothing. Since then there was at most one access of it a
 -- position, and the starting one doesn't count.
-abbrev pub is_since : Header → Kept → Option ℕ → Bool
+abbrev pub is_since : Header → TrackValue → Option ℕ → Bool
 is_since h x None =
     (length x.entries == 0) && (x.count == 0) && (sum_by accesses x.words == 0)
 is_since h x (Some s) =
@@ -169,11 +170,11 @@ is_since h x (Some s) =
     && nat_lt (x.count + s) h.position
     && nat_le (sum_by accesses x.words + s) h.position
 
-abbrev pub is_good_track : Header → Kept → Bool
+abbrev pub is_good_track : Header → TrackValue → Bool
 is_good_track h x = list_all (is_good_word h.harts) x.words && is_since h x x.start
 
 -- the size of its range and the number of its words are those of its kind, and its base fits
-pub record IsSized (g : Grid) (x : Kept) : Type 0 where
+pub record IsSized (g : Grid) (x : TrackValue) : Type 0 where
   pub size : x.range.size ≡ size_of g x.kind
   pub words : length x.words ≡ size_of g x.kind / 4
   pub base : FitsSigned w64 x.range.base
@@ -190,7 +191,7 @@ both_due h lines k =
     list_any (λ l. l.number == k) (due h lines) && list_any (λ l. l.number == k + 1) (due h lines)
 
 -- what a predicted track needs: prediction, and each due line's own track before it
-abbrev pub is_predicted : Header → List CountedLine → List Kept → Kept → Bool
+abbrev pub is_predicted : Header → List CountedLine → List TrackValue → TrackValue → Bool
 is_predicted h lines before x =
     is_some h.prediction
     && nat_le (length (due h lines)) (length before)
@@ -198,19 +199,19 @@ is_predicted h lines before x =
     && both_due h lines (number_of_base h.grid x.range.base)
 
 -- whether a base is a multiple of n
-abbrev pub is_multiple : ℕ → Kept → Bool
+abbrev pub is_multiple : ℕ → TrackValue → Bool
 is_multiple n x = nat_abs x.range.base % n == 0
 
 -- a shifted track that begins in line k
-abbrev pub is_shifted_at : Grid → ℕ → Kept → Bool
+abbrev pub is_shifted_at : Grid → ℕ → TrackValue → Bool
 is_shifted_at g k x = (rank x.kind == 1) && (number_of_base g x.range.base == k)
 
 -- whether a track begins where line k does
-abbrev pub is_base : Grid → ℕ → Kept → Bool
+abbrev pub is_base : Grid → ℕ → TrackValue → Bool
 is_base g k x = int_eq (line_range g.size g.offset k).base x.range.base
 
 -- An observed track is that of the next due line. At most one shifted track begins in a line.
-abbrev pub is_kind_placed : Header → List CountedLine → List Kept → Kept → LineKind → Bool
+abbrev pub is_kind_placed : Header → List CountedLine → List TrackValue → TrackValue → LineKind → Bool
 is_kind_placed h lines before x Observed =
     option_map_or (λ l. is_base h.grid l.number x) (slice_get (due h lines) (length before)) false
     && is_some x.start
@@ -223,16 +224,16 @@ is_kind_placed h lines before x Doubled =
     is_predicted h lines before x && is_multiple (2 * h.grid.size) x
 
 -- and it comes behind each before it in the order of tracks
-abbrev pub is_placed : Header → List CountedLine → List Kept → Kept → Bool
+abbrev pub is_placed : Header → List CountedLine → List TrackValue → TrackValue → Bool
 is_placed h lines before x = list_all (λ y. is_placed_before y x) before
     && is_kind_placed h lines before x x.kind
 
 -- a track by what it has by itself, wherever it stands
-unfoldable pub track_alone : Header → List ℕ → Option Kept
+unfoldable pub track_alone : Header → List ℕ → Option TrackValue
 track_alone h bytes =
     if_spelled spell_track (is_good_track h (track_at h.grid bytes)) (track_at h.grid bytes) bytes
 
-unfoldable pub track_in : Header → List CountedLine → List Kept → List ℕ → Option Kept
+unfoldable pub track_in : Header → List CountedLine → List TrackValue → List ℕ → Option TrackValue
 track_in h lines before bytes =
     if_spelled spell_track (is_good_track h (track_at h.grid bytes) && is_placed h lines before
     (track_at h.grid bytes)) (track_at h.grid bytes) bytes

@@ -1,5 +1,5 @@
 -- What the parts that a state is written of mean.
-use Rattle.line_tracks.specs.Kept.{Kept}
+use Rattle.line_tracks.specs.TrackValue.{TrackValue}
 use Rattle.saved_state.specs.declared.track_order.TrackRef.{TrackRef}
 use Rattle.saved_state.specs.declared.state_parts.StateParts.{StateParts}
 use Rattle.saved_state.specs.Spelling.{State}
@@ -16,5 +16,5 @@ state_of s = record {
 }
 
 -- the track that is meant
-abbrev pub track_of : TrackRef → Kept
+abbrev pub track_of : TrackRef → TrackValue
 track_of one = one.track.now

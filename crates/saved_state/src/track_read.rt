@@ -4,7 +4,7 @@ ghost use Rattle.std.specs.Prelude.{IfOk, IfSome, IsTrue, length, nat_lt};
 ghost use Rattle.std.specs.Prelude.{option_map, take, slice_index, nat_le, ◌&&◌};
 ghost use Rattle.std.specs.Option.{SomeIff};
 ghost use Rattle.std.specs.Int.{w16, w64};
-ghost use Rattle.line_tracks.specs.Kept.{IsBlank, IsInTime};
+ghost use Rattle.line_tracks.specs.TrackValue.{IsBlank, IsInTime};
 ghost use Rattle.line_tracks.specs.RangeWords.{blank, can_own, is_possible};
 ghost use Rattle.sharing_rules.specs.Words.{accesses};
 ghost use Rattle.saved_state.specs.Parts.{IsHeadSized, are_words, good_head, head_in, head_meant};

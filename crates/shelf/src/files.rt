@@ -17,7 +17,7 @@ pub struct HeldFile {
 }
 
 // Where the file of a name stands.
-fn place_of(files: &[HeldFile], name: &str) -> Option<usize>
+fn index_of_file(files: &[HeldFile], name: &str) -> Option<usize>
     ensures { result ≡ position (is_named name.now) files.now }
 {
     files.iter().position(|file| file.name.as_str() == name)
@@ -46,7 +46,7 @@ pub(crate) fn read_file(files: &[HeldFile], name: &str, at: u64, into: &mut [u8]
         (λ count. Reads (content (file_of files.now) name.now) at count into.new) }
     ensures found { IsSome result ↔ IsSome (file_of files.now name.now) }
 {
-    match place_of(files, name) {
+    match index_of_file(files, name) {
         Some(place) => Some(copy_from(&files[place].content, at, into)),
         None => None,
     }
@@ -56,7 +56,7 @@ pub(crate) fn read_file(files: &[HeldFile], name: &str, at: u64, into: &mut [u8]
 pub(crate) fn bytes_of<'a>(files: &'a [HeldFile], name: &str) -> Option<&'a [u8]>
     ensures { option_copied result ≡ file_of files.now name.now }
 {
-    match place_of(files, name) {
+    match index_of_file(files, name) {
         Some(place) => Some(&files[place].content),
         None => None,
     }
@@ -73,7 +73,7 @@ pub(crate) fn begin_file(
     ensures err { OnErr result (files.new.items ≡ files.old.items) }
     ensures memory { IsOkUnless result ShelfError.NoMemory }
 {
-    if let Some(place) = place_of(files, name) {
+    if let Some(place) = index_of_file(files, name) {
         files[place].content.clear();
         return Ok(());
     }
@@ -98,7 +98,7 @@ pub(crate) fn append_to(
         ((n : List ℕ) → file_of files.new.items n ≡ file_of files.old.items n) }
     ensures memory { IsOkUnless result ShelfError.NoMemory }
 {
-    if let Some(place) = place_of(files, name) {
+    if let Some(place) = index_of_file(files, name) {
         files[place].content.extend_from_slice(piece)?;
     }
     Ok(())

@@ -33,7 +33,7 @@ impl Move {
 }
 
 // The place of the first byte of a code in a text, or the text's length.
-fn place_of(text: &[u8], code: u8) -> usize
+fn index_of_byte(text: &[u8], code: u8) -> usize
     ensures { result ≡ position_or_len (is_byte code) text.now }
 {
     for (place, byte) in text.iter().enumerate() {
@@ -50,7 +50,7 @@ pub(crate) fn cut_at(text: &[u8], code: u8) -> (&[u8], &[u8])
     ensures front { result.0.now ≡ before_first (is_byte code) text.now }
     ensures back { result.1.now ≡ after_first (is_byte code) text.now }
 {
-    let place = place_of(text, code);
+    let place = index_of_byte(text, code);
     if place < text.len() {
         (&text[..place], &text[place + 1..])
     } else {

@@ -1,5 +1,6 @@
 // The table of moves.
-ghost use Rattle.std.specs.Prelude.{◌≡◌, ◌≢◌, ◌≤◌, ◌<◌, ◌↔◌, ◌++◌, ◌-◌, ◌%◌, ◌||◌, ◌∷◌, length, Bool, [], None};
+ghost use Rattle.std.specs.Prelude.{◌≡◌, ◌≢◌, ◌≤◌, ◌<◌, ◌↔◌, ◌++◌, ◌-◌, ◌%◌, ◌||◌, ◌∷◌, length};
+ghost use Rattle.std.specs.Prelude.{Bool, [], None};
 ghost use Rattle.std.specs.Prelude.{Some, nat_eq, nat_le, slice_index_or};
 ghost use Rattle.std.specs.Prelude.{Err, Ok, IfErr, IfOk, OnOk, IfSome, false, true, slice_get};
 ghost use Rattle.std.specs.Prelude.{find, option_map};
@@ -216,7 +217,8 @@ impl MoveTable {
     ///
     /// Lines end at a line feed, which the last may lack, and empty lines are skipped. Each other
     /// line is `FROM SIZE TO`, with one space between each two: the range of SIZE bytes that begins
-    /// at FROM goes to the place that begins at TO. A number is in decimal without leading zeros, or
+    /// at FROM goes to the place that begins at TO. A number is in decimal without leading zeros,
+    /// or
     /// `0x` and one to eight hexadecimal digits of either case. All three are multiples of 4, SIZE
     /// is at least 4, and range and place end at or below 2^32. A range begins at or above the end
     /// of each one before it, and no two places have a byte in common.
@@ -249,7 +251,7 @@ impl MoveTable {
     }
 
     /// Where the byte of an address is once the ranges are moved.
-    pub fn place_of(&self, addr: u32) -> u32
+    pub fn moved_address(&self, addr: u32) -> u32
         ensures { result ≡ moved_addr self.now addr }
     {
         match self.destination(addr) {

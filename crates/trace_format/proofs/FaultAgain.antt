@@ -10,7 +10,7 @@ use Rattle.trace_format.specs.declared.read_so_far.ReadSoFar.{ReadSoFar}
 use Rattle.trace_format.specs.Spelling.{spell, spell_ending}
 use Rattle.trace_format.specs.Rules.{longest_trace}
 use Rattle.trace_format.specs.Reading.{Reading, begin, ending_of, extent_at, header_read, part_at}
-use Rattle.trace_format.specs.Reading.{place_of, read_on, reading_of, record_read}
+use Rattle.trace_format.specs.Reading.{place_reached, read_on, reading_of, record_read}
 use Rattle.trace_format.specs.Laws.Reading.{all_wait, at_fault, read_on-append, read_on-fault}
 use Rattle.trace_format.specs.Laws.Reading.{read_on-too_long, then_read, waiting}
 use Rattle.trace_format.specs.Laws.Extents.{fronts_wait_at}
@@ -44,7 +44,7 @@ beginning_again (ended v h items e) good short =
     read_again (spell v h items e) v h items e (record { good = good; spelled = refl })
 
 place_behind : (before : Beginning)
-    → place_of (progress_of before) ≡ length (spell_beginning before)
+    → place_reached (progress_of before) ≡ length (spell_beginning before)
 unfolding progress_of after_one
 place_behind nothing = refl
 place_behind (unended v h items) = refl
@@ -77,7 +77,7 @@ said (ended v h items e) unit f says =
 
 truncated : (before : Beginning) (unit : List ℕ) → WantsMore before
     → ending_of (waiting (progress_of before) (end_of before) unit)
-    ≡ Err (faults.Truncated (place_of (progress_of before) + length unit))
+    ≡ Err (faults.Truncated (place_reached (progress_of before) + length unit))
 unfolding progress_of end_of
 truncated nothing unit wanted = refl
 truncated (unended v h items) unit wanted = refl
@@ -96,7 +96,7 @@ module _ (before : Beginning) (unit rest : List ℕ) (f : TraceFault) where
   E : Option Ending
   E = end_of before
 
-  size : place_of P + length unit ≡ length (spell_beginning before ++ unit)
+  size : place_reached P + length unit ≡ length (spell_beginning before ++ unit)
   unfolding P
   size = ap (λ (n : ℕ). n + length unit) (place_behind before)
       ∙ sym (length-append (spell_beginning before) unit)

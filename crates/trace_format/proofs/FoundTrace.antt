@@ -21,7 +21,8 @@ use Rattle.trace_format.specs.Rules.{longest_trace, touches_in}
 use Rattle.trace_format.specs.Judging.{header_judged, record_extent, record_judged}
 use Rattle.trace_format.specs.Reading.{Reading, begin, byte_read, counted_after, ending_in}
 use Rattle.trace_format.specs.Reading.{ending_of, extent_at, header_read, part_at}
-use Rattle.trace_format.specs.Reading.{place_of, progress_after, read_on, reading_of, record_read}
+use Rattle.trace_format.specs.Reading.{place_reached, progress_after, read_on, reading_of}
+use Rattle.trace_format.specs.Reading.{record_read}
 use Rattle.trace_format.specs.Reading.{with_fault}
 use Rattle.trace_format.specs.Laws.Reading.{waiting}
 use Rattle.trace_format.specs.Laws.Extents.{extent_is_some, fronts_wait_at}
@@ -155,7 +156,7 @@ module _ (before : List ℕ) (items : List TraceRecord) (pending : List ℕ) (b 
   longer = length-append pending (b ∷ [])
 
   waits_still : (p : Option ReadSoFar) (e : Option Ending) → Keeps p e before items pending
-      → eqb (place_of p + length pending) longest_trace ≡ false
+      → eqb (place_reached p + length pending) longest_trace ≡ false
       → ltb (length more) (extent_at p e more) ≡ true → Keeps p e bytes (items ++ []) more
   unfolding bytes more
   waits_still None e k room short =
@@ -390,7 +391,7 @@ module _ (before : List ℕ) (items : List TraceRecord) (pending : List ℕ) (b 
 
   -- a byte that no trace has a place for
   last_place : (p : Option ReadSoFar) (e : Option Ending) → Keeps p e before items pending
-      → place_of p + length pending ≡ longest_trace
+      → place_reached p + length pending ≡ longest_trace
       → Stops bytes (items ++ []) faults.TooLong
   unfolding bytes
   last_place None e k last =
@@ -436,7 +437,7 @@ module _ (before : List ℕ) (items : List TraceRecord) (pending : List ℕ) (b 
       }
 
   part_stands : (p : Option ReadSoFar) (e : Option Ending) → Keeps p e before items pending
-      → eqb (place_of p + length pending) longest_trace ≡ false
+      → eqb (place_reached p + length pending) longest_trace ≡ false
       → ltb (length more) (extent_at p e more) ≡ false
       → (let now = part_at (waiting p e pending) p e more in StandsAt bytes (items ++ now.0) now.1)
   unfolding more
@@ -461,7 +462,7 @@ module _ (before : List ℕ) (items : List TraceRecord) (pending : List ℕ) (b 
   byte_stands None p e stands =
       let r = waiting p e pending in
       let P : List TraceRecord × Reading → Type 0 = λ now. StandsAt bytes (items ++ now.0) now.1 in
-      by_test P (eqb (place_of p + length pending) longest_trace) ([], with_fault r faults.TooLong)
+      by_test P (eqb (place_reached p + length pending) longest_trace) ([], with_fault r faults.TooLong)
       _ (λ last. last_place p e stands (grind (arith, nat_tests)))
       (λ room. by_test P (ltb (length more) (extent_at p e more)) ([], record r { pending = more })
       (part_at r p e more)

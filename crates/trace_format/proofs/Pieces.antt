@@ -8,7 +8,7 @@ use Rattle.trace_format.specs.declared.fault.TraceFault.TheVariants as faults
 use Rattle.trace_format.specs.declared.read_so_far.ReadSoFar.{ReadSoFar}
 use Rattle.trace_format.specs.declared.record.TraceRecord.{TraceRecord}
 use Rattle.trace_format.specs.Rules.{longest_trace}
-use Rattle.trace_format.specs.Reading.{Reading, extent_at, place_of}
+use Rattle.trace_format.specs.Reading.{Reading, extent_at, place_reached}
 use Rattle.trace_format.specs.Laws.Extents.{extent_is_some}
 use Rattle.trace_format.specs.declared.reader_state.State.{State}
 use Rattle.trace_format.specs.Sound.{IsSound}
@@ -58,12 +58,12 @@ module _ (mid new : State) (rest kept : List ℕ) (keeps : Keeps mid new rest ke
             (omega (arith, extent_is_some new.progress new.ending []))
       ]
 
-  pub kept_low : place_of mid.progress + length rest ≤ longest_trace
-      → place_of new.progress + length kept ≤ longest_trace
+  pub kept_low : place_reached mid.progress + length rest ≤ longest_trace
+      → place_reached new.progress + length kept ≤ longest_trace
   kept_low fits =
       elim (none_or_some new.fault) [
-        | inl none ↦ omega (arith, ap place_of keeps.progress, ap length (keeps.rest_kept none))
-        | inr some ↦ omega (arith, ap place_of keeps.progress, ap length (keeps.fault some))
+        | inl none ↦ omega (arith, ap place_reached keeps.progress, ap length (keeps.rest_kept none))
+        | inr some ↦ omega (arith, ap place_reached keeps.progress, ap length (keeps.fault some))
       ]
 
   pub kept_sound : ForSome mid.progress IsSound → ForSome new.progress IsSound
@@ -83,7 +83,7 @@ module _ (s : State) (pending piece : List ℕ) (mid new : State) (rest kept : L
   }
 
   module _ (clean : s.fault ≡ None) (short : length pending < extent_in s pending)
-      (low : place_of s.progress + length pending ≤ longest_trace)
+      (low : place_reached s.progress + length pending ≤ longest_trace)
       (gave : GaveOf s (pending ++ piece) mid rest before after) where
     piece_read : new.fault ≢ Some faults.NoMemory → ReadsOn (reading_with s pending) piece
         (reading_with new kept) before after

@@ -11,7 +11,7 @@ use Rattle.trace_format.specs.declared.fault.TraceFault.TheVariants as faults
 use Rattle.trace_format.specs.declared.record.TraceRecord.{TraceRecord}
 use Rattle.trace_format.specs.declared.read_so_far.ReadSoFar.{ReadSoFar}
 use Rattle.trace_format.specs.Rules.{longest_trace}
-use Rattle.trace_format.specs.Reading.{Reading, extent_at, part_at, place_of, read_on}
+use Rattle.trace_format.specs.Reading.{Reading, extent_at, part_at, place_reached, read_on}
 use Rattle.trace_format.specs.Laws.Reading.{all_wait, part_then, read_on-append, read_on-fault}
 use Rattle.trace_format.specs.Laws.Reading.{then_read}
 use Rattle.trace_format.specs.Laws.Extents.{extent_is_some, fronts_wait_at}
@@ -80,7 +80,7 @@ nothing_read s bytes before clean = record {
 
 pub one_part : (p : Option ReadSoFar) (e : Option Ending) (f : Option TraceFault) (rest : List ℕ)
     (n : ℕ) → f ≡ None → n ≡ extent_at p e rest
-    → n ≤ length rest → place_of p + n ≤ longest_trace
+    → n ≤ length rest → place_reached p + n ≤ longest_trace
     → read_on (record { progress = p; pending = []; ending = e; fault = f }) rest ≡ then_read
     (part_at (record { progress = p; pending = []; ending = e; fault = f }) p e (take n rest))
     (drop n rest)
@@ -100,7 +100,7 @@ module _ (start : Reading) (bytes : List ℕ) (before : List TraceRecord) (s : S
 
   goes_on : (n : ℕ) (now : State) (after : List TraceRecord) → n ≡ extent_in s rest
       → n ≤ length rest
-      → place_of s.progress + n ≤ longest_trace → (WantsMemory now → ⊥)
+      → place_reached s.progress + n ≤ longest_trace → (WantsMemory now → ⊥)
       → ReadsPart s (take n rest) now items after
       → IsReadTo start bytes before now (drop n rest) after
   goes_on n now after is le low enough part =
@@ -158,7 +158,7 @@ module _ (start : Reading) (bytes : List ℕ) (before : List TraceRecord) (s : S
       }
 
   parted : (n : ℕ) (now : State) (after : List TraceRecord) → n ≡ extent_in s rest → n ≤ length rest
-      → place_of s.progress + n ≤ longest_trace
+      → place_reached s.progress + n ≤ longest_trace
       → (now.fault ≢ Some faults.NoMemory → ReadsPart s (take n rest) now items after)
       → (now.fault ≡ Some faults.NoMemory → after ≡ items)
       → (now.fault ≡ Some faults.NoMemory → now.progress ≡ s.progress)
@@ -171,7 +171,7 @@ module _ (start : Reading) (bytes : List ℕ) (before : List TraceRecord) (s : S
 
   pub part_is_read : (n : ℕ) (front back : List ℕ) (now : State) (after : List TraceRecord) → front
       ≡ take n rest → back ≡ drop n rest
-      → n ≡ extent_in s rest → n ≤ length rest → place_of s.progress + n ≤ longest_trace
+      → n ≡ extent_in s rest → n ≤ length rest → place_reached s.progress + n ≤ longest_trace
       → (now.fault ≢ Some faults.NoMemory → ReadsPart s front now items after)
       → (now.fault ≡ Some faults.NoMemory → after ≡ items)
       → (now.fault ≡ Some faults.NoMemory → now.progress ≡ s.progress)
@@ -211,7 +211,7 @@ module _ (start : Reading) (bytes : List ℕ) (before : List TraceRecord) (s : S
 
   -- what is left waits
   pub rest_waits : length rest < extent_in s rest
-      → place_of s.progress + length rest ≤ longest_trace
+      → place_reached s.progress + length rest ≤ longest_trace
       → ReadsOn start bytes (reading_with s rest) before items
   rest_waits short low =
       let family : Option TraceFault → Type 0 = λ f. read_on
@@ -255,7 +255,7 @@ fault_ends start bytes before s rest items to there enough =
 
 pending_read : (s : State) (pending piece : List ℕ) → s.fault ≡ None
     → length pending < extent_in s pending
-    → place_of s.progress + length pending ≤ longest_trace
+    → place_reached s.progress + length pending ≤ longest_trace
     → read_on (reading_with s []) (pending ++ piece) ≡ read_on (reading_with s pending) piece
 pending_read s pending piece clean short low =
     let family : Option TraceFault → Type 0 = λ f. read_on
@@ -279,7 +279,7 @@ pending_read s pending piece clean short low =
 -- what was left over stands before the next piece
 pub pending_first : (s : State) (pending piece : List ℕ) (new : Reading)
     (before after : List TraceRecord) → s.fault ≡ None
-    → length pending < extent_in s pending → place_of s.progress + length pending ≤ longest_trace
+    → length pending < extent_in s pending → place_reached s.progress + length pending ≤ longest_trace
     → ReadsOn (reading_with s []) (pending ++ piece) new before after
     → ReadsOn (reading_with s pending) piece new before after
 pending_first s pending piece new before after clean short low on =
@@ -290,7 +290,7 @@ pending_first s pending piece new before after clean short low on =
     }
 
 pub head_first : (s : State) (pending piece : List ℕ) (new : Reading) → s.fault ≡ None
-    → length pending < extent_in s pending → place_of s.progress + length pending ≤ longest_trace
+    → length pending < extent_in s pending → place_reached s.progress + length pending ≤ longest_trace
     → KeepsHead (reading_with s []) (pending ++ piece) new
     → KeepsHead (reading_with s pending) piece new
 head_first s pending piece new clean short low keeps =
@@ -306,7 +306,7 @@ head_first s pending piece new clean short low keeps =
 
 pub some_first : (s : State) (pending piece : List ℕ) (before after : List TraceRecord) → s.fault
     ≡ None
-    → length pending < extent_in s pending → place_of s.progress + length pending ≤ longest_trace
+    → length pending < extent_in s pending → place_reached s.progress + length pending ≤ longest_trace
     → AddsSome (reading_with s []) (pending ++ piece) before after
     → AddsSome (reading_with s pending) piece before after
 some_first s pending piece before after clean short low some =

@@ -35,12 +35,12 @@ abbrev pub with_fault : Reading → TraceFault → Reading
 with_fault r fault = record r { pending = []; fault = Some fault }
 
 -- how many bytes were taken
-abbrev pub place_of : Option ReadSoFar → ℕ
-place_of None = 0
-place_of (Some p) = p.place
+abbrev pub place_reached : Option ReadSoFar → ℕ
+place_reached None = 0
+place_reached (Some p) = p.place
 
 abbrev pub taken : Reading → ℕ
-taken r = place_of r.progress + length r.pending
+taken r = place_reached r.progress + length r.pending
 
 -- The version whose magic the bytes begin with: until the header is accepted they wait.
 abbrev pub magic_at : Option ReadSoFar → List ℕ → Option Version

@@ -28,7 +28,7 @@ pub struct TraceReader {
 impl Model for TraceReader {
     ghost use Rattle.std.specs.Prelude.{◌+◌, ◌<◌, ◌≤◌, length};
     ghost use Rattle.std.specs.Option.{ForSome};
-    ghost use Rattle.trace_format.specs.Reading.{Reading, extent_at, place_of};
+    ghost use Rattle.trace_format.specs.Reading.{Reading, extent_at, place_reached};
     ghost use Rattle.trace_format.specs.Rules.{longest_trace};
     ghost use Rattle.trace_format.specs.Sound.{IsSound};
 
@@ -42,7 +42,7 @@ impl Model for TraceReader {
     } };
 
     ghost invariant = { λ r. ForSome r.state.progress IsSound
-        × (place_of r.state.progress + length r.pending.items ≤ longest_trace)
+        × (place_reached r.state.progress + length r.pending.items ≤ longest_trace)
         × (length r.pending.items < extent_at r.state.progress r.state.ending r.pending.items) };
 }
 
@@ -117,9 +117,9 @@ impl TraceReader {
         }
     }
 
-    /// The version that the first 8 bytes name, which are its magic: known once they are read, before
-    /// the header is. None before, where they are no magic, and at a fault before the header was
-    /// accepted.
+    /// The version that the first 8 bytes name, which are its magic: known once they are read,
+    /// before the header is. None before, where they are no magic, and at a fault before the header
+    /// was accepted.
     pub fn magic(&self) -> Option<Version>
         ensures { result ≡ magic_in self.now }
     {

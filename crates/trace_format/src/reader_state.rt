@@ -3,11 +3,12 @@ ghost use Rattle.std.specs.Prelude.{◌≡◌, ◌≤◌, ◌+◌, ◌≢◌, So
 ghost use Rattle.std.specs.Prelude.{◌<◌, IsSome};
 ghost use Rattle.std.specs.Option.{ForSome};
 ghost use Rattle.trace_format.specs.Judging.{header_judged};
-ghost use Rattle.trace_format.specs.Reading.{ending_in, header_read, place_of};
+ghost use Rattle.trace_format.specs.Reading.{ending_in, header_read, place_reached};
 ghost use Rattle.trace_format.specs.Reading.{progress_after};
 ghost use Rattle.trace_format.specs.Rules.{longest_trace};
 ghost use Rattle.trace_format.specs.Sound.{IsSound};
-ghost use Rattle.trace_format.specs.ReaderStates.{AddsSome, KeepsHead, ReadsBut, ReadsOn, ReadsPart};
+ghost use Rattle.trace_format.specs.ReaderStates.{AddsSome, KeepsHead, ReadsBut, ReadsOn};
+ghost use Rattle.trace_format.specs.ReaderStates.{ReadsPart};
 ghost use Rattle.trace_format.specs.ReaderStates.{SameHead, extent_in, reading_with, shown_in};
 
 use crate::header_read::{HEADER_LENGTH, header_of};
@@ -98,8 +99,8 @@ fn read_header(state: &mut State, bytes: &[u8])
     requires first { state.old.progress ≡ None }
     requires clean { state.old.fault ≡ None }
     ensures sound { ForSome state.new.progress IsSound }
-    ensures place { place_of state.new.progress ≤ 20 }
-    ensures exact { state.new.fault ≡ None → place_of state.new.progress ≡ 20 }
+    ensures place { place_reached state.new.progress ≤ 20 }
+    ensures exact { state.new.fault ≡ None → place_reached state.new.progress ≡ 20 }
     ensures read { reading_with state.new [] ≡
         (header_read (reading_with state.old []) (header_judged bytes.now)).1 }
     ensures never { state.new.fault ≢ Some TraceFault.NoMemory }
@@ -120,11 +121,11 @@ fn read_record(alloc: Global, state: &mut State, bytes: &[u8], into: &mut Vec<Tr
     requires long { length bytes.now ≡ extent_in state.old bytes.now }
     requires some { 1 ≤ length bytes.now }
     requires sound { ForSome state.old.progress IsSound }
-    requires low { place_of state.old.progress + length bytes.now ≤ longest_trace }
+    requires low { place_reached state.old.progress + length bytes.now ≤ longest_trace }
     ensures sound { ForSome state.new.progress IsSound }
-    ensures place { place_of state.new.progress ≤ place_of state.old.progress + length bytes.now }
+    ensures place { place_reached state.new.progress ≤ place_reached state.old.progress + length bytes.now }
     ensures exact { state.new.fault ≡ None →
-        place_of state.new.progress ≡ place_of state.old.progress + length bytes.now }
+        place_reached state.new.progress ≡ place_reached state.old.progress + length bytes.now }
     ensures same { state.new.fault ≡ Some TraceFault.NoMemory →
         state.new.progress ≡ state.old.progress }
     ensures read { state.new.fault ≢ Some TraceFault.NoMemory →
@@ -157,11 +158,11 @@ fn read_part(alloc: Global, state: &mut State, bytes: &[u8], into: &mut Vec<Trac
     requires long { length bytes.now ≡ extent_in state.old bytes.now }
     requires some { 1 ≤ length bytes.now }
     requires sound { ForSome state.old.progress IsSound }
-    requires low { place_of state.old.progress + length bytes.now ≤ longest_trace }
+    requires low { place_reached state.old.progress + length bytes.now ≤ longest_trace }
     ensures sound { ForSome state.new.progress IsSound }
-    ensures place { place_of state.new.progress ≤ place_of state.old.progress + length bytes.now }
+    ensures place { place_reached state.new.progress ≤ place_reached state.old.progress + length bytes.now }
     ensures exact { state.new.fault ≡ None →
-        place_of state.new.progress ≡ place_of state.old.progress + length bytes.now }
+        place_reached state.new.progress ≡ place_reached state.old.progress + length bytes.now }
     ensures same { state.new.fault ≡ Some TraceFault.NoMemory →
         state.new.progress ≡ state.old.progress }
     ensures read { state.new.fault ≢ Some TraceFault.NoMemory →
@@ -184,13 +185,13 @@ fn read_part(alloc: Global, state: &mut State, bytes: &[u8], into: &mut Vec<Trac
 fn read_accesses<'a>(state: &mut State, bytes: &'a [u8], into: &mut Vec<TraceRecord>) -> &'a [u8]
     requires clean { state.old.fault ≡ None }
     requires sound { ForSome state.old.progress IsSound }
-    requires low { place_of state.old.progress + length bytes.now ≤ longest_trace }
+    requires low { place_reached state.old.progress + length bytes.now ≤ longest_trace }
     ensures clean { state.new.fault ≡ None }
     ensures sound { ForSome state.new.progress IsSound }
     ensures head { SameHead state.new.progress state.old.progress }
     ensures fewer { length result.now ≤ length bytes.now }
-    ensures exact { place_of state.new.progress + length result.now
-        ≡ place_of state.old.progress + length bytes.now }
+    ensures exact { place_reached state.new.progress + length result.now
+        ≡ place_reached state.old.progress + length bytes.now }
     ensures read { ReadsBut (reading_with state.old []) bytes.now (reading_with state.new [])
         result.now into.old.items into.new.items }
 {
@@ -209,12 +210,12 @@ pub(crate) fn read_parts<'a>(
 ) -> &'a [u8]
     requires clean { state.old.fault ≡ None }
     requires sound { ForSome state.old.progress IsSound }
-    requires low { place_of state.old.progress + length bytes.now ≤ longest_trace }
+    requires low { place_reached state.old.progress + length bytes.now ≤ longest_trace }
     ensures sound { ForSome state.new.progress IsSound }
-    ensures place { place_of state.new.progress + length result.now ≤
-        place_of state.old.progress + length bytes.now }
-    ensures exact { state.new.fault ≡ None → place_of state.new.progress + length result.now ≡
-        place_of state.old.progress + length bytes.now }
+    ensures place { place_reached state.new.progress + length result.now ≤
+        place_reached state.old.progress + length bytes.now }
+    ensures exact { state.new.fault ≡ None → place_reached state.new.progress + length result.now ≡
+        place_reached state.old.progress + length bytes.now }
     ensures head { KeepsHead (reading_with state.old []) bytes.now (reading_with state.new []) }
     ensures waits { state.new.fault ≡ None → length result.now < extent_in state.new result.now }
     ensures read { state.new.fault ≡ None →

@@ -24,7 +24,7 @@ fn puts(
 }
 
 // Two pieces that are written, a text that is printed, and the errors and the file that this gives.
-struct Kept {
+struct KeptPieces {
     pieces: [&'static [u8]; 2],
     text: &'static [u8],
     errors: [Option<ShelfError>; 3],
@@ -32,7 +32,7 @@ struct Kept {
 }
 
 // Whether a shelf of whose calls these fail keeps so much.
-fn is_kept(alloc: Global, failing: &[Failing], kept: &Kept) -> Result<bool, NoMemory> {
+fn is_kept(alloc: Global, failing: &[Failing], kept: &KeptPieces) -> Result<bool, NoMemory> {
     let mut shelf = shelf_with(alloc, b"hello", failing)?;
     let [first, second] = kept.pieces;
     let is = puts(&mut shelf, first, second, kept.text) == Ok(kept.errors);
@@ -40,7 +40,7 @@ fn is_kept(alloc: Global, failing: &[Failing], kept: &Kept) -> Result<bool, NoMe
     Ok(is && is_read && holds(&shelf, "a", kept.file) && shelf.printed() == kept.text)
 }
 
-const ALL: Kept = Kept {
+const ALL: KeptPieces = KeptPieces {
     pieces: [b"one", b" two"],
     text: b"done",
     errors: [None, None, None],
@@ -70,7 +70,7 @@ const FAILING: [Failing; 3] = [
     Failing { call: 4, keep: 9 },
 ];
 
-const SOME: Kept = Kept {
+const SOME: KeptPieces = KeptPieces {
     pieces: [b"hello", b"p"],
     text: b"text",
     errors: [Some(ShelfError::Failed), None, Some(ShelfError::Failed)],

@@ -1,6 +1,7 @@
 -- Each hart and set has a cell of its own, and what is swept out of the cells.
 use Rattle.std.proofs.Common.{◌≡◌, ℕ, ◌+◌, ◌*◌, ◌/◌, ◌<◌, Bool, true, false, eqb, not}
-use Rattle.std.proofs.Common.{◌&&◌, ◌||◌, List, [], ◌∷◌, ◌++◌, refl, sym, ap, ◌∙◌, subst, arith, inl, inr}
+use Rattle.std.proofs.Common.{◌&&◌, ◌||◌, List, [], ◌∷◌, ◌++◌, refl, sym, ap, ◌∙◌, subst, arith}
+use Rattle.std.proofs.Common.{inl, inr}
 use Rattle.std.proofs.lemmas.Bool.{and_from, and_parts, cases_Bool, eq-eqb, eqb-true, false≢true}
 use Rattle.std.proofs.lemmas.Bool.{or_cases, or_left, or_right}
 use Rattle.std.proofs.lemmas.Bool.Decides.{nat_tests}
@@ -11,7 +12,7 @@ use Rattle.std.specs.List.{list_any}
 use Rattle.std.specs.Prelude.{if◌then◌else◌}
 use Rattle.sharing_rules.specs.Laws.Held.{any_at, any_of, same_bool}
 use Rattle.finite_cache.specs.Bounded.{has, set_of, without}
-use Rattle.finite_cache.specs.Kept.{cell_of}
+use Rattle.finite_cache.specs.CacheState.{cell_of}
 use Rattle.base.specs.Shapes.{CacheShape}
 use Rattle.finite_cache.specs.Sweeps.{is_cell_of_another}
 

@@ -1,7 +1,8 @@
 -- An access leaves what is kept fit: lists in their sets, harts noted, and counts within the
 -- position.
 use Rattle.std.proofs.Common.{◌≡◌, ℕ, zero, suc, ◌+◌, ◌<◌, ◌≤◌, ◌^◌, Bool, true, false, eqb}
-use Rattle.std.proofs.Common.{◌||◌, List, [], ◌∷◌, length, take, refl, sym, ap, ◌∙◌, subst, arith, inl}
+use Rattle.std.proofs.Common.{◌||◌, List, [], ◌∷◌, length, take, refl, sym, ap, ◌∙◌, subst, arith}
+use Rattle.std.proofs.Common.{inl}
 use Rattle.std.proofs.Common.{inr, Option, Some, None}
 use Rattle.std.proofs.lemmas.Bool.{cases_Bool, eq-eqb, eqb-true, false≢true, or_cases, or_left}
 use Rattle.std.proofs.lemmas.Bool.{or_right}
@@ -19,10 +20,10 @@ use Rattle.finite_cache.specs.Bounded.{bounded_step, has, in_front, left, line_i
 use Rattle.finite_cache.specs.Bounded.{without}
 use Rattle.finite_cache.specs.Fits.{AreFit, AreNoted, HaveWays, bounded_sum, unbounded_sum}
 use Rattle.finite_cache.specs.Counts.{one_if}
-use Rattle.finite_cache.specs.Kept.{IsStep, LineUse, MeanTheSame, Parts, WaySet, evicted_now}
-use Rattle.finite_cache.specs.Kept.{harts_after, harts_of}
-use Rattle.finite_cache.specs.Kept.{is_cached_now, is_held_now, lists_of}
-use Rattle.finite_cache.specs.Kept.{tally_after, use_of}
+use Rattle.finite_cache.specs.CacheState.{IsStep, LineUse, MeanTheSame, Parts, WaySet, evicted_now}
+use Rattle.finite_cache.specs.CacheState.{harts_after, harts_of}
+use Rattle.finite_cache.specs.CacheState.{is_cached_now, is_held_now, lists_of}
+use Rattle.finite_cache.specs.CacheState.{tally_after, use_of}
 use Rattle.finite_cache.specs.Laws.Cells.{has-kept}
 use Rattle.finite_cache.specs.Laws.Standing.{arrival-any}
 use Rattle.finite_cache.specs.Laws.Steps.{flip}

@@ -5,7 +5,8 @@ use Rattle.trace_format.specs.Rules.{touches_in}
 use Rattle.trace_format.specs.declared.record.TraceRecord.{TraceRecord}
 use Rattle.base.specs.TextLines.{text_of}
 use Rattle.base.specs.Shapes.{CacheShape}
-use Rattle.finite_cache.specs.Kept.{Kept, StandsFor, nothing_kept, row_kept, totals_kept}
+use Rattle.finite_cache.specs.CacheState.{CacheState, StandsFor, nothing_kept, row_kept}
+use Rattle.finite_cache.specs.CacheState.{totals_kept}
 use Rattle.finite_cache.specs.Laws.Stands.{rows-stand, stands-none, totals-stand}
 use Rattle.finite_cache.specs.Rows.{rows_of}
 use Rattle.finite_cache.specs.Seen.{HasSeen, caches_of_records}
@@ -13,7 +14,7 @@ use Rattle.finite_cache.specs.Texts.{caches_text, lines_of_caches, told_rows}
 use Rattle.finite_cache.specs.declared.rows.Totals.{Totals}
 
 -- the text of what is kept is that of a list for which it stands
-pub text-stands : (v : Kept) (t : AccessList) (total : Totals) → StandsFor t v
+pub text-stands : (v : CacheState) (t : AccessList) (total : Totals) → StandsFor t v
     → total ≡ totals_kept v
     → text_of (lines_of_caches v.shape v.position
     (told_rows (map (row_kept v.shape v.parts.lines) v.parts.rows)) total)
@@ -28,7 +29,7 @@ text-stands v t total stands sums =
     (sums ∙ totals-stand v t stands)
 
 -- and that of records that were seen from the beginning
-pub text-seen : (k : CacheShape) (v : Kept) (items : List TraceRecord) (text : List ℕ)
+pub text-seen : (k : CacheShape) (v : CacheState) (items : List TraceRecord) (text : List ℕ)
     → HasSeen (nothing_kept k) v items
     → ((t : AccessList) → StandsFor t v → text ≡ caches_text v.shape t)
     → text ≡ caches_of_records k items

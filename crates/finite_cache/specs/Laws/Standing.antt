@@ -1,6 +1,7 @@
 -- One access more: what stood for a list stands for the list with the access.
 use Rattle.std.proofs.Common.{◌≡◌, ℕ, ◌+◌, ◌<◌, ◌≤◌, Bool, true, false, eqb, ltb, not, ◌&&◌, ◌||◌}
-use Rattle.std.proofs.Common.{List, [], ◌∷◌, ◌++◌, length, map, refl, sym, ap, ◌∙◌, subst, arith, inl, inr}
+use Rattle.std.proofs.Common.{List, [], ◌∷◌, ◌++◌, length, map, refl, sym, ap, ◌∙◌, subst, arith}
+use Rattle.std.proofs.Common.{inl, inr}
 use Rattle.std.proofs.Common.{Option, Some, None, length-append}
 use Rattle.std.proofs.lemmas.Bool.{and_parts, cases_Bool, eq-eqb, eqb-true, false≢true}
 use Rattle.std.proofs.lemmas.Bool.{le-leb, lt-ltb}
@@ -38,10 +39,10 @@ use Rattle.finite_cache.specs.Bounded.{is_bounded_invalidation, is_cached_by_ano
 use Rattle.finite_cache.specs.Bounded.{left, line_in, set_of, used, without}
 use Rattle.finite_cache.specs.Fits.{AreNoted}
 use Rattle.finite_cache.specs.Counts.{one_if}
-use Rattle.finite_cache.specs.Kept.{ArePartsOf, IsStep}
-use Rattle.finite_cache.specs.Kept.{Parts, evicted_now, harts_of}
-use Rattle.finite_cache.specs.Kept.{is_cached_now, is_held_now, lists_of}
-use Rattle.finite_cache.specs.Kept.{tally_after, tally_in, use_of}
+use Rattle.finite_cache.specs.CacheState.{ArePartsOf, IsStep}
+use Rattle.finite_cache.specs.CacheState.{Parts, evicted_now, harts_of}
+use Rattle.finite_cache.specs.CacheState.{is_cached_now, is_held_now, lists_of}
+use Rattle.finite_cache.specs.CacheState.{tally_after, tally_in, use_of}
 use Rattle.finite_cache.specs.Rows.{all_evicted, bounded_count, bounded_since, evicted_count}
 use Rattle.finite_cache.specs.Rows.{first_write, start_of, unbounded_count}
 use Rattle.base.specs.Shapes.{CacheShape, grid_of}

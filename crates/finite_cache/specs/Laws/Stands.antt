@@ -10,10 +10,10 @@ use Rattle.sharing_rules.specs.Laws.Places.{count_places-empty}
 use Rattle.std.specs.List.{list_any}
 use Rattle.finite_cache.specs.Bounded.{is_any_eviction, is_eviction}
 use Rattle.finite_cache.specs.Fits.{AreNoted}
-use Rattle.finite_cache.specs.Kept.{ArePartsOf, HasNoted, IsStep, Kept, MeansTheSame}
-use Rattle.finite_cache.specs.Kept.{StandsFor, harts_of, lists_of, no_parts}
-use Rattle.finite_cache.specs.Kept.{LineUse, WaySet, row_kept, tally_in, totals_kept}
-use Rattle.finite_cache.specs.Kept.{use_of}
+use Rattle.finite_cache.specs.CacheState.{ArePartsOf, HasNoted, IsStep, CacheState, MeansTheSame}
+use Rattle.finite_cache.specs.CacheState.{StandsFor, harts_of, lists_of, no_parts}
+use Rattle.finite_cache.specs.CacheState.{LineUse, WaySet, row_kept, tally_in, totals_kept}
+use Rattle.finite_cache.specs.CacheState.{use_of}
 use Rattle.finite_cache.specs.Laws.Standing.{any-evicted, next-parts}
 use Rattle.finite_cache.specs.Rows.{all_evicted, bounded_count, evicted_count, row_in, rows_of}
 use Rattle.finite_cache.specs.Rows.{totals_of, unbounded_count}
@@ -22,7 +22,7 @@ use Rattle.finite_cache.specs.declared.rows.Tally.{Tally}
 use Rattle.finite_cache.specs.declared.rows.Totals.{Totals}
 
 -- an access was noted
-pub stands-noted : (t : List Touch) (a : Touch) (old new : Kept) → 0 < old.shape.sets
+pub stands-noted : (t : List Touch) (a : Touch) (old new : CacheState) → 0 < old.shape.sets
     → AreNoted old.shape (lists_of old.shape old.parts.sets) (harts_of old.parts.lines)
     → HasNoted a old new → StandsFor t old → StandsFor (t ++ a ∷ []) new
 stands-noted t a old new some noted step stands =
@@ -42,7 +42,7 @@ stands-noted t a old new some noted step stands =
     }
 
 -- what means the same stands for the same lists
-pub stands-same : (t : List Touch) (old new : Kept) → MeansTheSame old new → StandsFor t old
+pub stands-same : (t : List Touch) (old new : CacheState) → MeansTheSame old new → StandsFor t old
     → StandsFor t new
 stands-same t old new same stands =
     let k = old.shape in
@@ -82,7 +82,7 @@ pub stands-empty : (k : CacheShape) (sets : List (ℕ × WaySet)) (lines : List 
       parts = record { sets = sets; lines = lines; rows = rows };
     })
 stands-empty k sets lines rows e f g =
-    let kept : List (ℕ × WaySet) → List (ℕ × LineUse) → List (ℕ × Tally) → Kept =
+    let kept : List (ℕ × WaySet) → List (ℕ × LineUse) → List (ℕ × Tally) → CacheState =
     λ x y z. record {
       shape = k;
       position = 0;
@@ -111,14 +111,14 @@ rows-mapped k t lines same (r ∷ rs) =
     ∙ ap (λ xs. row_in k t r ∷ xs) (rows-mapped k t lines same rs)
 
 -- the rows that are kept are those of the list
-pub rows-stand : (v : Kept) (t : List Touch) → StandsFor t v
+pub rows-stand : (v : CacheState) (t : List Touch) → StandsFor t v
     → map (row_kept v.shape v.parts.lines) v.parts.rows ≡ rows_of v.shape t
 rows-stand v t stands =
     ap (map (row_kept v.shape v.parts.lines)) stands.parts.rows
     ∙ rows-mapped v.shape t v.parts.lines stands.parts.evicted
     (written_lines (grid_of v.shape) t)
 
-pub row-stands : (v : Kept) (t : List Touch) (i : ℕ) → StandsFor t v
+pub row-stands : (v : CacheState) (t : List Touch) (i : ℕ) → StandsFor t v
     → option_map (row_kept v.shape v.parts.lines) (slice_get v.parts.rows i)
     ≡ slice_get (rows_of v.shape t) i
 row-stands v t i stands =
@@ -133,7 +133,7 @@ sum-mapped f g (r ∷ rs) =
     ∙ ap (λ n. f (g r) + n) (sum-mapped f g rs)
     ∙ sym (sum_by-cons (λ q. f (g q)) r rs)
 
-pub totals-stand : (v : Kept) (t : List Touch) → StandsFor t v
+pub totals-stand : (v : CacheState) (t : List Touch) → StandsFor t v
     → totals_kept v ≡ totals_of v.shape t
 totals-stand v t stands =
     let rs = written_lines (grid_of v.shape) t in

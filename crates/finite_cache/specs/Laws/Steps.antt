@@ -18,9 +18,10 @@ use Rattle.misses.specs.Laws.KeptLines.{note_arrival-any}
 use Rattle.finite_cache.specs.Bounded.{bounded_step, has, left, line_in, set_of, used, without}
 use Rattle.finite_cache.specs.Fits.{AreNoted}
 use Rattle.finite_cache.specs.Counts.{one_if}
-use Rattle.finite_cache.specs.Kept.{IsStep, LineUse, Parts, WaySet, cell_of}
-use Rattle.finite_cache.specs.Kept.{evicted_now, harts_after, harts_of, is_cached_now, is_held_now}
-use Rattle.finite_cache.specs.Kept.{lines_at, lists_of, tally_after, use_of, wants_memory}
+use Rattle.finite_cache.specs.CacheState.{IsStep, LineUse, Parts, WaySet, cell_of}
+use Rattle.finite_cache.specs.CacheState.{evicted_now, harts_after, harts_of, is_cached_now}
+use Rattle.finite_cache.specs.CacheState.{is_held_now}
+use Rattle.finite_cache.specs.CacheState.{lines_at, lists_of, tally_after, use_of, wants_memory}
 use Rattle.finite_cache.specs.Laws.Cells.{cell-same}
 use Rattle.finite_cache.specs.Laws.Ways.{without-none}
 use Rattle.base.specs.Shapes.{CacheShape}

@@ -1,6 +1,7 @@
 -- What the answers of the tables' entries say of the tables.
 use Rattle.std.proofs.Common.{◌≡◌, ℕ, ◌-◌, ◌<◌, Bool, true, false, eqb, not, List, [], ◌∷◌}
-use Rattle.std.proofs.Common.{length, take, refl, sym, ap, ◌∙◌, subst, arith, inl, inr, Option, Some}
+use Rattle.std.proofs.Common.{length, take, refl, sym, ap, ◌∙◌, subst, arith, inl, inr, Option}
+use Rattle.std.proofs.Common.{Some}
 use Rattle.std.proofs.Common.{None}
 use Rattle.std.proofs.lemmas.Bool.{cases_Bool, eqb-true, false≢true}
 use Rattle.std.proofs.lemmas.Option.{same_Some}
@@ -13,7 +14,7 @@ use Rattle.sharing_rules.specs.Arrivals.{note_arrival}
 use Rattle.sharing_rules.specs.Laws.Lists.{slice_cases}
 use Rattle.finite_cache.specs.Bounded.{has, in_front, without}
 use Rattle.finite_cache.specs.Fits.{HaveWays}
-use Rattle.finite_cache.specs.Kept.{LineUse, WaySet, harts_of, lines_at, unused, use_of}
+use Rattle.finite_cache.specs.CacheState.{LineUse, WaySet, harts_of, lines_at, unused, use_of}
 use Rattle.finite_cache.specs.Laws.Tables.{all-insert, at-lookup, found-changed, found-insert}
 use Rattle.finite_cache.specs.Laws.Ways.{ways_of}
 

@@ -11,7 +11,7 @@ use Rattle.std.proofs.lemmas.List.{length-map}
 use Rattle.std.specs.Prelude.{Result, Ok, Err, OnOk, OnErr}
 use Rattle.lru.specs.LruCache.{IsValid, LruCache, displaced, lru_cache, promoted, put_entries}
 use Rattle.finite_cache.specs.Bounded.{has, in_front, without}
-use Rattle.finite_cache.specs.Kept.{WaySet}
+use Rattle.finite_cache.specs.CacheState.{WaySet}
 
 abbrev pub ways_of : List ℕ → ℕ → WaySet
 ways_of lines n = record { lines = lines; ways = n }

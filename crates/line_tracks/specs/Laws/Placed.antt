@@ -15,7 +15,7 @@ use Rattle.sharing_rules.specs.Listed.{may_predict, rank}
 use Rattle.sharing_rules.specs.Members.{ties}
 use Rattle.sharing_rules.specs.Opened.{is_placed_before as is_opened_before, opened}
 use Rattle.sharing_rules.specs.Laws.Kept.{opened-apart}
-use Rattle.line_tracks.specs.Kept.{Kept}
+use Rattle.line_tracks.specs.TrackValue.{TrackValue}
 use Rattle.line_tracks.specs.KeptIn.{kept_in}
 use Rattle.line_tracks.specs.Placed.{AreApart, is_placed_before}
 
@@ -42,7 +42,7 @@ placed-ties : (k : ℕ) (b : ℤ) (l : ℕ) (e : ℤ) → not (placed k b l e ||
 placed-ties k b l e h = (grind (arith, ints, nat_tests), grind (arith, ints, nat_tests))
 
 -- tracks that tie have one kind and one base
-pub is_placed_before-ties : (x y : Kept) → ties is_placed_before x y ≡ true
+pub is_placed_before-ties : (x y : TrackValue) → ties is_placed_before x y ≡ true
     → (rank x.kind ≡ rank y.kind) × (x.range.base ≡ y.range.base)
 is_placed_before-ties x y h = placed-ties (rank x.kind) x.range.base (rank y.kind) y.range.base h
 

@@ -19,7 +19,7 @@ use Rattle.sharing_rules.specs.declared.word.Word.{Word}
 use Rattle.sharing_rules.specs.Laws.Tracks.{word_place-within}
 use Rattle.sharing_rules.specs.Laws.Words.{words_since-at, words_since-push}
 use Rattle.sharing_rules.specs.Lines.{Line, is_inside, range_of, word_place}
-use Rattle.line_tracks.specs.RangeWords.{RangeWords, note_words, place_of}
+use Rattle.line_tracks.specs.RangeWords.{RangeWords, note_words, word_index}
 
 -- from the base of line m / n of (n, o) to its end
 in_range : (m n o a : ℕ) → o < n → holds_address (record { base = pos (m + o) -ℤ pos n; size = n })
@@ -72,7 +72,7 @@ outside-held l a small h =
 
 -- a word of the range has the place of the line's
 pub place-held : (l : Line) (a : ℕ) → l.offset < l.size → holds_address (range_of l) a ≡ true
-    → place_of (range_of l) a ≡ word_place l a
+    → word_index (range_of l) a ≡ word_place l a
 place-held l a small h =
     let p = in_range (l.number * l.size) l.size l.offset a small h in
     let low = p.0 in
@@ -117,14 +117,14 @@ note-since v l s t a allowed due holds range words =
     (sym range) ∙ holds in
     let inside = held-inside l a.addr sized.0 here in
     let within = word_place-within l a.addr some sized.1 in
-    let place : place_of v.range a.addr ≡ word_place l a.addr =
-    ap (λ (r : Range). place_of r a.addr) range ∙ place-held l a.addr sized.0 here in
-    let get : slice_get v.words (place_of v.range a.addr) ≡ Some
+    let place : word_index v.range a.addr ≡ word_place l a.addr =
+    ap (λ (r : Range). word_index r a.addr) range ∙ place-held l a.addr sized.0 here in
+    let get : slice_get v.words (word_index v.range a.addr) ≡ Some
     (word_since l s t (word_place l a.addr)) =
     ap (slice_get v.words) place ∙ ap (λ ws. slice_get ws (word_place l a.addr)) words
     ∙ words_since-at l s t (word_place l a.addr) within in
     rw get
-    (ap (λ ws. slice_set ws (place_of v.range a.addr)
+    (ap (λ ws. slice_set ws (word_index v.range a.addr)
     (note_word (word_since l s t (word_place l a.addr)) a)) words
     ∙ ap (λ i. slice_set (words_since l s t) i
     (note_word (word_since l s t (word_place l a.addr)) a)) place
@@ -132,6 +132,6 @@ note-since v l s t a allowed due holds range words =
 
 -- a note of a word, by its place
 pub noted_words : (r : Range) (words : List Word) (a : Touch) (p : ℕ) (w : Word)
-    → p ≡ place_of r a.addr → slice_get words p ≡ Some w
+    → p ≡ word_index r a.addr → slice_get words p ≡ Some w
     → (note_words (record { range = r; words = words }) a).words ≡ slice_set words p (note_word w a)
 noted_words r words a p w e get = rw (← e, get)

@@ -16,9 +16,9 @@ use Rattle.base.specs.Touch.{Touch, is_write}
 use Rattle.sharing_rules.specs.Laws.Lists.{slice_cases}
 use Rattle.sharing_rules.specs.Lines.{Line, word_place}
 use Rattle.misses.specs.Fits.{AreFit, IsFit, IsWithin}
-use Rattle.misses.specs.Kept.{LineEntry, cost_of, counts_after, entry_of, note_in}
-use Rattle.misses.specs.Kept.{note_line}
-use Rattle.misses.specs.Laws.Kept.{length-blank_words}
+use Rattle.misses.specs.MissCounts.{LineEntry, cost_of, counts_after, entry_of, note_in}
+use Rattle.misses.specs.MissCounts.{note_line}
+use Rattle.misses.specs.Laws.MissCounts.{length-blank_words}
 use Rattle.misses.specs.declared.line_misses.Cost.{Cost}
 use Rattle.misses.specs.declared.line_misses.Counts.{Counts}
 use Rattle.misses.specs.declared.line_misses.LastWrite.{LastWrite}

@@ -23,10 +23,11 @@ use Rattle.sharing_rules.specs.Laws.Places.{count_places-push}
 use Rattle.sharing_rules.specs.Lines.{grid_line, word_place}
 use Rattle.sharing_rules.specs.Places.{below}
 use Rattle.misses.specs.Entries.{behind, right_after, writes_in, writes_word}
-use Rattle.misses.specs.Kept.{LineEntry, all_counted, cost_of}
-use Rattle.misses.specs.Kept.{counted, counts_after, kept_line, last_write_of}
-use Rattle.misses.specs.Kept.{lines_of, misses_now, needs_now, no_visits, note_line, unwritten}
-use Rattle.misses.specs.Kept.{visits_after, visits_in, visits_of, writes_place}
+use Rattle.misses.specs.MissCounts.{LineEntry, all_counted, cost_of}
+use Rattle.misses.specs.MissCounts.{counted, counts_after, kept_line, last_write_of}
+use Rattle.misses.specs.MissCounts.{lines_of, misses_now, needs_now, no_visits, note_line}
+use Rattle.misses.specs.MissCounts.{unwritten}
+use Rattle.misses.specs.MissCounts.{visits_after, visits_in, visits_of, writes_place}
 use Rattle.misses.specs.Laws.Copies.{copies-empty, copies-push}
 use Rattle.misses.specs.Laws.Entered.{entries, insert-entries, lookup-entries, map-set}
 use Rattle.sharing_rules.specs.Laws.Sums.{AgreeBut}
@@ -179,11 +180,11 @@ word-in g r t i lt =
     (last_write_of g r t i) unwritten (slice_get-map-below (last_write_of g r t) (g.size / 4) i lt)
 
 -- the place of an address in its line
-abbrev pub place_of : Grid → ℕ → ℕ
-place_of g x = word_place (grid_line g (lines_of g x)) x
+abbrev pub word_index_of : Grid → ℕ → ℕ
+word_index_of g x = word_place (grid_line g (lines_of g x)) x
 
 place-word : (g : Grid) (x : ℕ) → is_layout g.size g.offset ≡ true → (b : Touch)
-    → writes_place g (lines_of g x) (place_of g x) b ≡ writes_word x b
+    → writes_place g (lines_of g x) (word_index_of g x) b ≡ writes_word x b
 place-word g x good b =
     elim (cases_Bool (is_write b.kind)) [
       | inl w ↦ rw w (same_word g (lines_of g x) x b.addr good refl)
@@ -191,13 +192,13 @@ place-word g x good b =
     ]
 
 needs-wants : (g : Grid) (t : List Touch) (h x : ℕ) → is_layout g.size g.offset ≡ true
-    → needs_now (visits_in g (lines_of g x) t h) h (last_write_of g (lines_of g x) t (place_of g x))
+    → needs_now (visits_in g (lines_of g x) t h) h (last_write_of g (lines_of g x) t (word_index_of g x))
     ≡ wants (lines_of g) t h x
 needs-wants g t h x good =
     rw (
-      behind-same (writes_place g (lines_of g x) (place_of g x)) (writes_word x)
+      behind-same (writes_place g (lines_of g x) (word_index_of g x)) (writes_word x)
           (place-word g x good) t,
-      last_hart-same (writes_place g (lines_of g x) (place_of g x)) (writes_word x)
+      last_hart-same (writes_place g (lines_of g x) (word_index_of g x)) (writes_word x)
           (place-word g x good) t,
     )
     (sym (wants-old (lines_of g) h x t (layout-keeps g.size g.offset good)))
@@ -241,11 +242,11 @@ harts-own g t a =
     ∙ ap (insert_entry nat_eq (entries (visits_in g r t) (harts_in g r t)) a.hart)
     (visits-own g t a)
 
-words-own : (g : Grid) (t : List Touch) (a : Touch) → place_of g a.addr < g.size / 4
+words-own : (g : Grid) (t : List Touch) (a : Touch) → word_index_of g a.addr < g.size / 4
     → map (last_write_of g (lines_of g a.addr) (t ++ a ∷ [])) (below (g.size / 4))
     ≡ if is_write a.kind
     then slice_set (map (last_write_of g (lines_of g a.addr) t) (below (g.size / 4)))
-    (place_of g a.addr) (record { behind = length t + 1; hart = a.hart })
+    (word_index_of g a.addr) (record { behind = length t + 1; hart = a.hart })
     else map (last_write_of g (lines_of g a.addr) t) (below (g.size / 4))
 words-own g t a within =
     let r = lines_of g a.addr in
@@ -254,18 +255,18 @@ words-own g t a within =
       | inr w ↦ rw w (map_same _ _ (λ i. last_write-elsewhere g r i t a (rw w refl))
           (below (g.size / 4)))
       | inl w ↦
-          let agree : AgreeBut (place_of g a.addr) (last_write_of g r t)
+          let agree : AgreeBut (word_index_of g a.addr) (last_write_of g r t)
           (last_write_of g r (t ++ a ∷ [])) =
           λ j other. last_write-elsewhere g r j t a (rw (w, own, other) refl) in
-          let here : writes_place g r (place_of g a.addr) a ≡ true =
-          rw (w, own, eq-eqb (place_of g a.addr) (place_of g a.addr) refl) refl in
+          let here : writes_place g r (word_index_of g a.addr) a ≡ true =
+          rw (w, own, eq-eqb (word_index_of g a.addr) (word_index_of g a.addr) refl) refl in
           rw w
           (map-set (last_write_of g r t) (last_write_of g r (t ++ a ∷ [])) (g.size / 4)
-          (place_of g a.addr) within agree
-          ∙ ap (slice_set (map (last_write_of g r t) (below (g.size / 4))) (place_of g a.addr))
+          (word_index_of g a.addr) within agree
+          ∙ ap (slice_set (map (last_write_of g r t) (below (g.size / 4))) (word_index_of g a.addr))
           (same_write _ _
-          (rw (behind-push (writes_place g r (place_of g a.addr)) t a, here) refl)
-          (rw (last_hart-push (writes_place g r (place_of g a.addr)) t a, here) refl)))
+          (rw (behind-push (writes_place g r (word_index_of g a.addr)) t a, here) refl)
+          (rw (last_hart-push (writes_place g r (word_index_of g a.addr)) t a, here) refl)))
     ]
 
 add-if : (n : ℕ) (b : Bool) → n + (if b then 1 else 0) ≡ if b then n + 1 else n
@@ -328,13 +329,13 @@ cost-told g t a =
     same_cost _ _ (sym (cold-own g t a)) (sym (miss-own g t a)) (sym (needed-here g t a))
 
 pub cost-own : (g : Grid) (t : List Touch) (a : Touch) → is_layout g.size g.offset ≡ true
-    → place_of g a.addr < g.size / 4
-    → cost_of (kept_line g t (lines_of g a.addr)) (place_of g a.addr) a.hart ≡ cost_by g t a
+    → word_index_of g a.addr < g.size / 4
+    → cost_of (kept_line g t (lines_of g a.addr)) (word_index_of g a.addr) a.hart ≡ cost_by g t a
 cost-own g t a good within =
     let r = lines_of g a.addr in
     rw (
       visits_of-in g r t a.hart,
-      word-in g r t (place_of g a.addr) within,
+      word-in g r t (word_index_of g a.addr) within,
       needs-wants g t a.hart a.addr good,
     )
     (cost-told g t a)
@@ -361,15 +362,15 @@ all_counted-push g t a =
     (add-if _ _))
 
 pub kept_line-own : (g : Grid) (t : List Touch) (a : Touch) → is_layout g.size g.offset ≡ true
-    → place_of g a.addr < g.size / 4
+    → word_index_of g a.addr < g.size / 4
     → kept_line g (t ++ a ∷ []) (lines_of g a.addr)
-    ≡ note_line (kept_line g t (lines_of g a.addr)) (length t) (place_of g a.addr) a
+    ≡ note_line (kept_line g t (lines_of g a.addr)) (length t) (word_index_of g a.addr) a
 kept_line-own g t a good within =
     let r = lines_of g a.addr in
     let own = eq-eqb (lines_of g a.addr) (lines_of g a.addr) refl in
     rw (
       visits_of-in g r t a.hart,
-      word-in g r t (place_of g a.addr) within,
+      word-in g r t (word_index_of g a.addr) within,
       needs-wants g t a.hart a.addr good,
     )
     (same_entry _ _

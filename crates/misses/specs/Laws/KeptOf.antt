@@ -16,15 +16,16 @@ use Rattle.sharing_rules.specs.Laws.Lists.{by_push}
 use Rattle.sharing_rules.specs.Laws.Tracks.{word_place-within}
 use Rattle.sharing_rules.specs.Lines.{Line, grid_line, line_at}
 use Rattle.sharing_rules.specs.Places.{count_places}
-use Rattle.misses.specs.Kept.{Kept, LineEntry, StandsFor, accessed_lines, all_counted, blank_line}
-use Rattle.misses.specs.Kept.{cost_in, cost_of, counts_after, entry_of, kept_line, kept_of}
-use Rattle.misses.specs.Kept.{lines_of, none_counted, note_access, note_in, note_line}
+use Rattle.misses.specs.MissCounts.{MissCounts, LineEntry, StandsFor, accessed_lines, all_counted}
+use Rattle.misses.specs.MissCounts.{blank_line}
+use Rattle.misses.specs.MissCounts.{cost_in, cost_of, counts_after, entry_of, kept_line, kept_of}
+use Rattle.misses.specs.MissCounts.{lines_of, none_counted, note_access, note_in, note_line}
 use Rattle.misses.specs.declared.line_misses.Cost.{Cost}
 use Rattle.misses.specs.declared.line_misses.Counts.{Counts}
 use Rattle.misses.specs.Laws.Entered.{entries, insert-entries, lookup-entries}
 use Rattle.sharing_rules.specs.Laws.Sums.{AgreeBut}
 use Rattle.misses.specs.Laws.KeptLines.{all_counted-push, cost-own, kept_line-elsewhere}
-use Rattle.misses.specs.Laws.KeptLines.{kept_line-own, note_arrival-any, place_of}
+use Rattle.misses.specs.Laws.KeptLines.{kept_line-own, note_arrival-any, word_index_of}
 use Rattle.misses.specs.Laws.WordLines.{layout-sized}
 use Rattle.misses.specs.Misses.{is_in}
 
@@ -72,7 +73,7 @@ lines-noted : (g : Grid) (t : List Touch) (a : Touch) → is_layout g.size g.off
 lines-noted g t a good =
     let r = lines_of g a.addr in
     let sized = layout-sized g.size g.offset good in
-    let within : place_of g a.addr < g.size / 4 =
+    let within : word_index_of g a.addr < g.size / 4 =
     word_place-within (grid_line g (lines_of g a.addr)) a.addr sized.0 sized.1 in
     let agree : AgreeBut r (kept_line g t) (kept_line g (t ++ a ∷ [])) =
     λ j other. kept_line-elsewhere g j t a (let e : eqb j r ≡ false = grind (arith, nat_tests)
@@ -82,10 +83,10 @@ lines-noted g t a good =
     (each_once-distinct _) agree)
     ∙ ap (insert_entry nat_eq (entries (kept_line g t) (accessed_lines g t)) r)
     (kept_line-own g t a good within
-    ∙ ap (λ (l : LineEntry). note_line l (length t) (place_of g a.addr) a)
+    ∙ ap (λ (l : LineEntry). note_line l (length t) (word_index_of g a.addr) a)
     (sym (entry_of-kept g t r)))
 
-abbrev pub same_at : Grid → ℕ → Counts → List (ℕ × LineEntry) → Kept
+abbrev pub same_at : Grid → ℕ → Counts → List (ℕ × LineEntry) → MissCounts
 same_at g p c es = record { grid = g; position = p; totals = c; lines = es }
 
 totals-noted : (g : Grid) (t : List Touch) (a : Touch) → is_layout g.size g.offset ≡ true
@@ -93,12 +94,12 @@ totals-noted : (g : Grid) (t : List Touch) (a : Touch) → is_layout g.size g.of
     ≡ counts_after (all_counted g t) (cost_in (kept_of g t).lines (line_at g a.addr) a)
 totals-noted g t a good =
     let sized = layout-sized g.size g.offset good in
-    let within : place_of g a.addr < g.size / 4 =
+    let within : word_index_of g a.addr < g.size / 4 =
     word_place-within (grid_line g (lines_of g a.addr)) a.addr sized.0 sized.1 in
     all_counted-push g t a
     ∙ ap (counts_after (all_counted g t))
     (sym (cost-own g t a good within)
-    ∙ ap (λ (l : LineEntry). cost_of l (place_of g a.addr) a.hart)
+    ∙ ap (λ (l : LineEntry). cost_of l (word_index_of g a.addr) a.hart)
     (sym (entry_of-kept g t (lines_of g a.addr))))
 
 same_kept : (g : Grid) (p q : ℕ) (c d : Counts) (es fs : List (ℕ × LineEntry)) → p ≡ q → c ≡ d
@@ -113,11 +114,11 @@ kept_of-push g t a good =
     (lines-noted g t a good)
 
 -- so where what is kept stands for a list, it stands for the longer one after the access
-pub stands-push : (t : List Touch) (k : Kept) (a : Touch)
+pub stands-push : (t : List Touch) (k : MissCounts) (a : Touch)
     → is_layout k.grid.size k.grid.offset ≡ true
     → StandsFor t k → StandsFor (t ++ a ∷ []) (note_access k a)
 stands-push t k a good stands =
-    ap (λ (x : Kept). note_access x a) stands ∙ sym (kept_of-push k.grid t a good)
+    ap (λ (x : MissCounts). note_access x a) stands ∙ sym (kept_of-push k.grid t a good)
 
 -- the empty list
 pub kept_of-empty : (g : Grid) (es : List (ℕ × LineEntry)) → es ≡ []

@@ -12,8 +12,8 @@ use Rattle.sharing_rules.specs.Laws.Arrivals.{each_once-distinct}
 use Rattle.sharing_rules.specs.Laws.Lists.{by_push}
 use Rattle.sharing_rules.specs.Laws.Places.{count_places-empty, count_places-push}
 use Rattle.sharing_rules.specs.Places.{Question, count_places}
-use Rattle.misses.specs.Kept.{Kept, LineEntry, StandsFor, accessed_lines, all_counted}
-use Rattle.misses.specs.Kept.{kept_line, lines_of}
+use Rattle.misses.specs.MissCounts.{MissCounts, LineEntry, StandsFor, accessed_lines, all_counted}
+use Rattle.misses.specs.MissCounts.{kept_line, lines_of}
 use Rattle.misses.specs.Laws.Costs.{costs-ordered}
 use Rattle.sharing_rules.specs.Laws.Sums.{AgreeBut, sum-noted}
 use Rattle.misses.specs.Laws.KeptOf.{lines-push, never-accessed}
@@ -35,13 +35,13 @@ rows-mapped g t [] = refl
 rows-mapped g t (k ∷ ks) = ap (λ rs. row_of g (k, kept_line g t k) ∷ rs) (rows-mapped g t ks)
 
 -- what is told of all lines, and of one
-pub rows-stand : (k : Kept) (t : List Touch) → StandsFor t k
+pub rows-stand : (k : MissCounts) (t : List Touch) → StandsFor t k
     → map (row_of k.grid) k.lines ≡ rows_of k.grid t
 rows-stand k t stands =
-    ap (map (row_of k.grid)) (ap (λ (x : Kept). x.lines) stands)
+    ap (map (row_of k.grid)) (ap (λ (x : MissCounts). x.lines) stands)
     ∙ rows-mapped k.grid t (accessed_lines k.grid t)
 
-pub row-stands : (k : Kept) (t : List Touch) (i : ℕ) → StandsFor t k
+pub row-stands : (k : MissCounts) (t : List Touch) (i : ℕ) → StandsFor t k
     → option_map (row_of k.grid) (slice_get k.lines i) ≡ slice_get (rows_of k.grid t) i
 row-stands k t i stands =
     mapped-at (row_of k.grid) k.lines i ∙ ap (λ rs. slice_get rs i) (rows-stand k t stands)
@@ -135,7 +135,7 @@ all_costs-sum g t good =
     let m = all-missed g t in
     same_costs _ _ c (rw (c, n) (sym brought.1)) (rw (n, m) (sym wasted.1))
 
-pub totals-stand : (k : Kept) (t : List Touch) → is_layout k.grid.size k.grid.offset ≡ true
+pub totals-stand : (k : MissCounts) (t : List Touch) → is_layout k.grid.size k.grid.offset ≡ true
     → StandsFor t k → costs_of k.totals ≡ all_costs k.grid t
 totals-stand k t good stands =
-    ap costs_of (ap (λ (x : Kept). x.totals) stands) ∙ all_costs-sum k.grid t good
+    ap costs_of (ap (λ (x : MissCounts). x.totals) stands) ∙ all_costs-sum k.grid t good

@@ -11,7 +11,7 @@ use Rattle.base.specs.Touch.{Touch, word_of}
 use Rattle.sharing_rules.specs.Laws.Lists.{by_push}
 use Rattle.sharing_rules.specs.Laws.Places.{count_places-empty, count_places-push}
 use Rattle.sharing_rules.specs.Places.{Question, count_places}
-use Rattle.misses.specs.Kept.{LineEntry, accessed_lines}
+use Rattle.misses.specs.MissCounts.{LineEntry, accessed_lines}
 use Rattle.misses.specs.Laws.Costs.{costs-ordered, needed-own_line, word_line-useless}
 use Rattle.misses.specs.Laws.KeptOf.{never-accessed}
 use Rattle.misses.specs.Laws.Sums.{count_places-le, count_places-same, one}

@@ -25,7 +25,7 @@ use Rattle.sharing_rules.specs.Laws.Lists.{Member-permutation, all_at, all_from_
 use Rattle.sharing_rules.specs.Laws.Lists.{filter-Member, filter-distinct, filter_map-Member}
 use Rattle.sharing_rules.specs.Laws.Orders.{in_order-from_members, in_order-permutes}
 use Rattle.sharing_rules.specs.Laws.Orders.{in_order-rises, ties_flip}
-use Rattle.line_tracks.specs.Kept.{Kept}
+use Rattle.line_tracks.specs.TrackValue.{TrackValue}
 use Rattle.line_tracks.specs.KeptIn.{kept_in}
 use Rattle.line_tracks.specs.Placed.{is_placed_before}
 use Rattle.line_tracks.specs.Laws.Placed.{kept-apart, placed}
@@ -59,7 +59,7 @@ keyed-ties : (c k : ℕ) (b : ℤ) (d l : ℕ) (e : ℤ)
 keyed-ties c k b d l e h = grind (arith, ints, nat_tests)
 
 -- what is shown of a track has its kind and its range
-shown_place : (x : Kept) (l : ShownLine) → shown_of x ≡ Some l
+shown_place : (x : TrackValue) (l : ShownLine) → shown_of x ≡ Some l
     → (l.kind ≡ x.kind) × (l.range ≡ x.range)
 shown_place x l e =
     elim (slice_cases x.start) [
@@ -73,7 +73,7 @@ shown_place x l e =
           )
     ]
 
-apart_shown : (x y : Kept) (l m : ShownLine) → shown_of x ≡ Some l → shown_of y ≡ Some m
+apart_shown : (x y : TrackValue) (l m : ShownLine) → shown_of x ≡ Some l → shown_of y ≡ Some m
     → ties is_placed_before x y ≡ false → ties is_shown_before l m ≡ false
 apart_shown x y l m e f apart =
     elim (cases_Bool (ties is_shown_before l m)) [
@@ -87,7 +87,7 @@ apart_shown x y l m e f apart =
     ]
 
 -- tracks of which no two have one kind and one base show lines that don't tie
-shown-distinct : (xs : List Kept) → IsDistinct (ties is_placed_before) xs
+shown-distinct : (xs : List TrackValue) → IsDistinct (ties is_placed_before) xs
     → IsDistinct (ties is_shown_before) (filter_map shown_of xs)
 unfolding IsDistinct
 shown-distinct [] d = tt
@@ -102,13 +102,13 @@ shown-distinct (x ∷ xs) d =
       )
     ]
 
-shown-members : (xs ys : List Kept) → IsPermutation xs ys → (l : ShownLine)
+shown-members : (xs ys : List TrackValue) → IsPermutation xs ys → (l : ShownLine)
     → Member l (filter_map shown_of ys) → Member l (filter_map shown_of xs)
 shown-members xs ys perm l m = let w = Member-filter_map shown_of ys l m
     in filter_map-Member shown_of xs w.0 l (Member-permutation xs ys w.0 perm w.1) w.2
 
 -- tracks in any order show one list
-listed-permutation : (r : ℕ) (xs ys : List Kept) → IsPermutation xs ys
+listed-permutation : (r : ℕ) (xs ys : List TrackValue) → IsPermutation xs ys
     → IsDistinct (ties is_placed_before) ys → listed_tracks r xs ≡ listed_tracks r ys
 listed-permutation r xs ys perm apart =
     let back_perm = IsPermutation-sym xs ys perm in
@@ -144,7 +144,7 @@ filter-map h p (x ∷ xs) =
     ]
 
 -- the listed lines of the tracks that a list keeps, in any order
-pub listed_tracks-kept : (g : Grid) (v : Levels) (t : AccessList) (xs : List Kept)
+pub listed_tracks-kept : (g : Grid) (v : Levels) (t : AccessList) (xs : List TrackValue)
     → is_layout g.size g.offset ≡ true → IsTrue (may_predict g v)
     → IsPermutation xs (map (kept_in t) (opened g v t))
     → listed_tracks v.report xs ≡ map (shown_in t) (listed g v t)

@@ -33,7 +33,7 @@ use Rattle.sharing_rules.specs.declared.word.Owner.{Owner}
 use Rattle.sharing_rules.specs.declared.word.Owner.TheVariants as owner
 use Rattle.sharing_rules.specs.declared.word.Word.{Word}
 use Rattle.line_tracks.specs.RangeWords.{is_possible}
-use Rattle.line_tracks.specs.Kept.{Kept}
+use Rattle.line_tracks.specs.TrackValue.{TrackValue}
 use Rattle.line_tracks.specs.Placed.{is_placed_before}
 use Rattle.line_tracks.specs.Laws.Placed.{is_placed_before-ranks}
 use Rattle.saved_state.specs.Laws.Counted.{rising-push}
@@ -48,7 +48,8 @@ use Rattle.saved_state.specs.Spelling.{header_of, spell_state, spell_word}
 use Rattle.saved_state.specs.Units.{IsSized, are_entries, is_good_track, is_good_word}
 use Rattle.saved_state.specs.Units.{is_kind_placed, is_owner, is_placed, is_since, kind_of}
 use Rattle.saved_state.specs.Units.{owner_of, size_of, track_as, track_at, track_in, word_at}
-use Rattle.saved_state.specs.Units.{words_at, words_from, header_at, header_in, if_spelled, is_good_header}
+use Rattle.saved_state.specs.Units.{words_at, words_from, header_at, header_in, if_spelled}
+use Rattle.saved_state.specs.Units.{is_good_header}
 use Rattle.saved_state.specs.Units.{is_good_line, is_line, is_prediction, line_at, line_in}
 use Rattle.saved_state.specs.Units.{some_unless}
 use Rattle.sharing_rules.specs.Lines.{number_of_base}
@@ -296,7 +297,7 @@ words_again harts (w ∷ ws) more few all small =
     λ i. first i ∷ others i
 
 -- what fits the fields of a track, with a start
-record FitTrack (x : Kept) (start : Option ℕ) : Type 0 where
+record FitTrack (x : TrackValue) (start : Option ℕ) : Type 0 where
   pub entries : (harts : ℕ) × (harts ≤ 256) × (list_all (λ h. nat_lt h harts) x.entries ≡ true)
   pub few : length x.entries ≤ 2
   pub start_fits : unwrap_or start no_start < 2 ^ 64
@@ -331,7 +332,7 @@ no_entries_at (h ∷ hs) none = absurd (above_none (length hs) none)
     above_none : (n : ℕ) → eqb (suc n) 0 ≡ true → ⊥
     above_none n e = grind (arith, nat_tests)
 
-fit_track : (h : Header) (x : Kept) (start : Option ℕ) → is_good_header h ≡ true
+fit_track : (h : Header) (x : TrackValue) (start : Option ℕ) → is_good_header h ≡ true
     → is_since h x start ≡ true → FitTrack x start
 fit_track h x None header since =
     let parts = and_parts _ (eqb (sum_by accesses x.words) 0) since in
@@ -365,7 +366,7 @@ fit_track h x (Some s) header since =
       accessed = omega (arith, accessed, bounds.1);
     }
 
-track_fields : (h : Header) (x : Kept) (more : List ℕ) → is_good_header h ≡ true
+track_fields : (h : Header) (x : TrackValue) (more : List ℕ) → is_good_header h ≡ true
     → is_good_track h x ≡ true → IsSized h.grid x → track_at h.grid (spell_track x ++ more) ≡ x
 unfolding spell_head
 track_fields h x more header good sized =
@@ -395,7 +396,7 @@ track_fields h x more header good sized =
     })
 
 -- a good track among the lines and the tracks before it
-pub track_again : (h : Header) (lines : List CountedLine) (before : List Kept) (x : Kept)
+pub track_again : (h : Header) (lines : List CountedLine) (before : List TrackValue) (x : TrackValue)
     (more : List ℕ) → is_good_header h ≡ true → is_good_track h x ≡ true
     → is_placed h lines before x ≡ true → IsSized h.grid x
     → track_in h lines before (spell_track x ++ more) ≡ Some x
@@ -455,7 +456,7 @@ units_again {X = X} unit spell P law (x ∷ xs) before place more all =
       left = more;
     }))
 
-tracks_rise : (h : Header) (lines : List CountedLine) (xs before : List Kept)
+tracks_rise : (h : Header) (lines : List CountedLine) (xs before : List TrackValue)
     → IsRising is_placed_before before → AllInTurn (IsGoodTrack h lines) before xs
     → IsRising is_placed_before (before ++ xs)
 tracks_rise h lines [] before rising all =
@@ -480,7 +481,7 @@ read_again s more good =
     in_order-same is_placed_before is_placed_before-ranks s.tracks
     (tracks_rise h s.lines s.tracks [] tt good.tracks) in
     let joined : spell_state s ++ more ≡ spell_header h ++ rest =
-    ap (λ (ys : List Kept). (spell_header h ++ (ls ++ flat_map spell_track ys)) ++ more) ordered
+    ap (λ (ys : List TrackValue). (spell_header h ++ (ls ++ flat_map spell_track ys)) ++ more) ordered
     ∙ append_assoc (spell_header h) (ls ++ ts) more
     ∙ ap (λ (t : List ℕ). spell_header h ++ t) (append_assoc ls ts more) in
     let dropped : drop 64 (spell_header h ++ rest) ≡ rest =
@@ -496,7 +497,7 @@ read_again s more good =
     s.tracks [] (64 + length ls) more good.tracks in
     let place : 64 + length ls + length ts ≡ length (spell_state s) = omega (
       arith,
-      ap (λ (ys : List Kept). length (spell_header h ++ (ls ++ flat_map spell_track ys))) ordered,
+      ap (λ (ys : List TrackValue). length (spell_header h ++ (ls ++ flat_map spell_track ys))) ordered,
       length-append (spell_header h) (ls ++ ts),
       length-append ls ts,
       length-header h,

@@ -29,7 +29,7 @@ use Rattle.sharing_rules.specs.Laws.Opened.{observed-some, some_is}
 use Rattle.sharing_rules.specs.Laws.Orders.{in_order-from_members, in_order-permutes}
 use Rattle.sharing_rules.specs.Laws.Orders.{in_order-rises}
 use Rattle.sharing_rules.specs.Laws.Starts.{observed_start-is_some}
-use Rattle.line_tracks.specs.Kept.{Kept}
+use Rattle.line_tracks.specs.TrackValue.{TrackValue}
 use Rattle.line_tracks.specs.KeptIn.{kept_in}
 use Rattle.line_tracks.specs.Placed.{is_placed_before}
 use Rattle.line_tracks.specs.Laws.Placed.{is_placed_before-ranks, kept-apart}
@@ -50,7 +50,7 @@ abbrev pub observed_at : Grid → ℕ → AccessList → ℕ → Opened
 observed_at g T t k =
     observed_from (grid_line g k) (unwrap_or (observed_start T (is_inside (grid_line g k)) t) 0)
 
-abbrev pub due_track : Grid → Levels → AccessList → CountedLine → Kept
+abbrev pub due_track : Grid → Levels → AccessList → CountedLine → TrackValue
 due_track g v t l = kept_in t (observed_at g v.tracking t l.number)
 
 -- the predicted lines of a list, and their tracks in order
@@ -58,7 +58,7 @@ abbrev pub predicted_in : Grid → Levels → AccessList → List Opened
 predicted_in g v t =
     option_map_or (λ P. predicted_ones g.size v.tracking P t) v.prediction []
 
-abbrev pub predicted_tracks : Grid → Levels → AccessList → List Kept
+abbrev pub predicted_tracks : Grid → Levels → AccessList → List TrackValue
 predicted_tracks g v t = in_order is_placed_before (map (kept_in t) (predicted_in g v t))
 
 -- ---- due lines are observed, and the other way round
@@ -137,12 +137,12 @@ predicted-rises g v t allowed native =
     in_order-rises is_placed_before is_placed_before-ranks (map (kept_in t) (predicted_in g v t))
     (distinct-right (ties is_placed_before) (map (kept_in t) (observed_ones g v.tracking t))
     (map (kept_in t) (predicted_in g v t))
-    (subst (λ (xs : List Kept). IsDistinct (ties is_placed_before) xs)
+    (subst (λ (xs : List TrackValue). IsDistinct (ties is_placed_before) xs)
     (map-append (kept_in t) (observed_ones g v.tracking t) (predicted_in g v t))
     (kept-apart g v t allowed native)))
 
 -- a predicted track is what is kept of a predicted line
-pub predicted-is : (g : Grid) (v : Levels) (t : AccessList) (x : Kept)
+pub predicted-is : (g : Grid) (v : Levels) (t : AccessList) (x : TrackValue)
     → Member x (predicted_tracks g v t)
     → (o : Opened) × Member o (predicted_in g v t) × (x ≡ kept_in t o)
 predicted-is g v t x m =
@@ -201,42 +201,42 @@ predicted-rank g v t o is =
     ]
 
 -- a due track comes before each predicted one
-pub due-before : (g : Grid) (v : Levels) (t : AccessList) → IsTrue (may_predict g v) → (x y : Kept)
+pub due-before : (g : Grid) (v : Levels) (t : AccessList) → IsTrue (may_predict g v) → (x y : TrackValue)
     → Member x (map (due_track g v t) (due_in g v t)) → Member y (predicted_tracks g v t)
     → is_placed_before x y ≡ true
 due-before g v t native x y m n =
     let a = Member-map (due_track g v t) (due_in g v t) x m in
     let b = predicted-is g v t y n in
     let higher = predicted-rank g v t b.0 (predicted-pair g v t b.0 native b.1) in
-    subst (λ (z : Kept). is_placed_before z y ≡ true) (sym a.2)
-    (subst (λ (z : Kept). is_placed_before (due_track g v t a.0) z ≡ true) (sym b.2)
+    subst (λ (z : TrackValue). is_placed_before z y ≡ true) (sym a.2)
+    (subst (λ (z : TrackValue). is_placed_before (due_track g v t a.0) z ≡ true) (sym b.2)
     (or_left (ltb 0 (rank b.0.kind)) _ higher))
 
-tracks-into : (g : Grid) (v : Levels) (t : AccessList) → 0 < v.tracking → (x : Kept)
+tracks-into : (g : Grid) (v : Levels) (t : AccessList) → 0 < v.tracking → (x : TrackValue)
     → Member x (map (due_track g v t) (due_in g v t) ++ predicted_tracks g v t)
     → Member x (map (kept_in t) (opened g v t))
 tracks-into g v t some x m =
     elim (Member-append (map (due_track g v t) (due_in g v t)) (predicted_tracks g v t) x m) [
       | inl due ↦
           let w = Member-map (due_track g v t) (due_in g v t) x due in
-          subst (λ (z : Kept). Member z (map (kept_in t) (opened g v t))) (sym w.2)
+          subst (λ (z : TrackValue). Member z (map (kept_in t) (opened g v t))) (sym w.2)
           (map-Member (kept_in t) (opened g v t) (observed_at g v.tracking t w.0.number)
           (member-opened_observed g v t w.0.number (observed_at g v.tracking t w.0.number)
           (due-opened g v t w.0 some w.1)))
       | inr predicted ↦
           let w = predicted-is g v t x predicted in
-          subst (λ (z : Kept). Member z (map (kept_in t) (opened g v t))) (sym w.2)
+          subst (λ (z : TrackValue). Member z (map (kept_in t) (opened g v t))) (sym w.2)
           (map-Member (kept_in t) (opened g v t) w.0
           (append-Member_right (observed_ones g v.tracking t) (predicted_in g v t) w.0 w.1))
     ]
 
-tracks-back : (g : Grid) (v : Levels) (t : AccessList) → 0 < v.tracking → (x : Kept)
+tracks-back : (g : Grid) (v : Levels) (t : AccessList) → 0 < v.tracking → (x : TrackValue)
     → Member x (map (kept_in t) (opened g v t))
     → Member x (map (due_track g v t) (due_in g v t) ++ predicted_tracks g v t)
 tracks-back g v t some x m =
     let due = map (due_track g v t) (due_in g v t) in
     let w = Member-map (kept_in t) (opened g v t) x m in
-    subst (λ (z : Kept). Member z (due ++ predicted_tracks g v t)) (sym w.2)
+    subst (λ (z : TrackValue). Member z (due ++ predicted_tracks g v t)) (sym w.2)
     (elim (Member-append (observed_ones g v.tracking t) (predicted_in g v t) w.0 w.1) [
       | inl observed ↦
           let k = observed_ones-member g v.tracking t w.0 observed in

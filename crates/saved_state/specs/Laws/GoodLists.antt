@@ -38,7 +38,7 @@ use Rattle.sharing_rules.specs.Laws.Opened.{some_is}
 use Rattle.sharing_rules.specs.Laws.Orders.{in_order-permutes}
 use Rattle.sharing_rules.specs.Laws.Starts.{observed_start-first_write}
 use Rattle.sharing_rules.specs.Tracks.{track_since}
-use Rattle.line_tracks.specs.Kept.{Kept}
+use Rattle.line_tracks.specs.TrackValue.{TrackValue}
 use Rattle.line_tracks.specs.KeptIn.{kept_in}
 use Rattle.line_tracks.specs.Placed.{is_placed_before}
 use Rattle.saved_state.specs.Counted.{counted_line}
@@ -273,38 +273,38 @@ due-started g v t l some m =
     ap (λ (o : Option ℕ). is_some (track_since line t o).start) first
 
 -- the due line at the place of its track
-due-base : (g : Grid) (v : Levels) (t : AccessList) (front back : List Kept) (x : Kept)
+due-base : (g : Grid) (v : Levels) (t : AccessList) (front back : List TrackValue) (x : TrackValue)
     → map (due_track g v t) (due_in g v t) ≡ front ++ x ∷ back
     → option_map_or (λ l. is_base g l.number x) (slice_get (due_in g v t) (length front)) false
     ≡ true
 due-base g v t front back x cut =
     let there : option_map (due_track g v t) (slice_get (due_in g v t) (length front)) ≡ Some x =
     sym (slice_get-map (due_track g v t) (due_in g v t) (length front))
-    ∙ ap (λ (xs : List Kept). slice_get xs (length front)) cut ∙ cut-get front back x in
+    ∙ ap (λ (xs : List TrackValue). slice_get xs (length front)) cut ∙ cut-get front back x in
     elim (slice_cases (slice_get (due_in g v t) (length front))) [
       | inl none ↦ absurd (none-some x (sym (ap (option_map (due_track g v t)) none) ∙ there))
       | inr line ↦
           let same : due_track g v t line.0 ≡ x = same_Some (due_track g v t line.0) x
           (sym (ap (option_map (due_track g v t)) line.1) ∙ there) in
           ap (λ (o : Option CountedLine). option_map_or (λ l. is_base g l.number x) o false) line.1
-          ∙ ap (λ (y : Kept). is_base g line.0.number y) (sym same)
+          ∙ ap (λ (y : TrackValue). is_base g line.0.number y) (sym same)
           ∙ int_eq_equiv.refl (line_range g.size g.offset line.0.number).base
     ]
 
-due-stands : (g : Grid) (v : Levels) (harts : ℕ) (t : AccessList) (front back : List Kept)
-    (x : Kept) → MayKeep g v harts t → map (due_track g v t) (due_in g v t) ≡ front ++ x ∷ back
+due-stands : (g : Grid) (v : Levels) (harts : ℕ) (t : AccessList) (front back : List TrackValue)
+    (x : TrackValue) → MayKeep g v harts t → map (due_track g v t) (due_in g v t) ≡ front ++ x ∷ back
     → IsGoodTrack (header_in_list g v harts t) (counted_in g t) front x
 due-stands g v harts t front back x are cut =
     let h = header_in_list g v harts t in
     let due = map (due_track g v t) (due_in g v t) in
     let some = tracking-some v are.levels in
     let w = Member-map (due_track g v t) (due_in g v t) x (cut-Member due front back x cut) in
-    let kind : x.kind ≡ Observed = ap (λ (y : Kept). y.kind) w.2 in
+    let kind : x.kind ≡ Observed = ap (λ (y : TrackValue). y.kind) w.2 in
     let base = due-base g v t front back x cut in
     let started : is_some x.start ≡ true =
-    subst (λ (y : Kept). is_some y.start ≡ true) (sym w.2) (due-started g v t w.0 some w.1) in
+    subst (λ (y : TrackValue). is_some y.start ≡ true) (sym w.2) (due-started g v t w.0 some w.1) in
     record {
-      good = subst (λ (y : Kept). is_good_track h y ≡ true) (sym w.2)
+      good = subst (λ (y : TrackValue). is_good_track h y ≡ true) (sym w.2)
           (kept-good g v harts t (observed_at g v.tracking t w.0.number) are);
       placed = and_from (list_all (λ y. is_placed_before y x) front)
           (is_kind_placed h (counted_in g t) front x x.kind)
@@ -317,8 +317,8 @@ due-stands g v harts t front back x are cut =
       sized = subst (IsSized g) (sym w.2) (due-sized g v harts t w.0 are w.1);
     }
 
-predicted-stands : (g : Grid) (v : Levels) (harts : ℕ) (t : AccessList) (front back : List Kept)
-    (x : Kept) → MayKeep g v harts t → predicted_tracks g v t ≡ front ++ x ∷ back
+predicted-stands : (g : Grid) (v : Levels) (harts : ℕ) (t : AccessList) (front back : List TrackValue)
+    (x : TrackValue) → MayKeep g v harts t → predicted_tracks g v t ≡ front ++ x ∷ back
     → IsGoodTrack (header_in_list g v harts t) (counted_in g t)
     (map (due_track g v t) (due_in g v t) ++ front) x
 predicted-stands g v harts t front back x are cut =
@@ -330,9 +330,9 @@ predicted-stands g v harts t front back x are cut =
     let o = w.0 in
     let is = predicted-pair g v t o are.predictable w.1 in
     let here : predicted_tracks g v t ≡ front ++ kept_in t o ∷ back =
-    cut ∙ ap (λ (y : Kept). front ++ y ∷ back) w.2 in
+    cut ∙ ap (λ (y : TrackValue). front ++ y ∷ back) w.2 in
     record {
-      good = subst (λ (y : Kept). is_good_track h y ≡ true) (sym w.2) (kept-good g v harts t o are);
+      good = subst (λ (y : TrackValue). is_good_track h y ≡ true) (sym w.2) (kept-good g v harts t o are);
       placed = and_from (list_all (λ y. is_placed_before y x) before)
           (is_kind_placed h (counted_in g t) before x x.kind)
           (all_pass (λ y. is_placed_before y x) before (λ y n.
@@ -341,7 +341,7 @@ predicted-stands g v harts t front back x are cut =
             | inr later ↦ cut-rises is_placed_before (predicted_tracks g v t) front back x y cut
                 (predicted-rises g v t are.layout are.predictable) later
           ]))
-          (subst (λ (y : Kept). is_kind_placed h (counted_in g t) before y y.kind ≡ true) (sym w.2)
+          (subst (λ (y : TrackValue). is_kind_placed h (counted_in g t) before y y.kind ≡ true) (sym w.2)
           (predicted-placed g v harts t front back o are.layout are.predictable
           (tracking-some v are.levels) is here));
       sized = subst (IsSized g) (sym w.2) (predicted-sized g v harts t o are is);
@@ -374,7 +374,7 @@ good-kept g v harts t are =
       few_lines = omega (arith, few_lines g t, are.short);
       few_tracks = omega (arith, few_tracks g v harts t, are.short);
       lines = lines-good h t are.layout refl are.all;
-      tracks = subst (λ (xs : List Kept). AllInTurn (IsGoodTrack h (counted_in g t)) [] xs) order
+      tracks = subst (λ (xs : List TrackValue). AllInTurn (IsGoodTrack h (counted_in g t)) [] xs) order
           (tracks-stand g v harts t are);
       whole = le-leb (length (due_in g v t)) (length s.tracks)
           (let all : length (due ++ predicted_tracks g v t) ≡ length s.tracks = ap length order in

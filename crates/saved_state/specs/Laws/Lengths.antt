@@ -8,7 +8,7 @@ use Rattle.base.specs.Lines.{Grid}
 use Rattle.sharing_rules.specs.Listed.{in_order}
 use Rattle.sharing_rules.specs.Laws.Orders.{in_order-permutes}
 use Rattle.sharing_rules.specs.declared.word.Word.{Word}
-use Rattle.line_tracks.specs.Kept.{Kept}
+use Rattle.line_tracks.specs.TrackValue.{TrackValue}
 use Rattle.line_tracks.specs.Placed.{is_placed_before}
 use Rattle.saved_state.specs.declared.state_parts.CountedLine.{CountedLine}
 use Rattle.saved_state.specs.Spelling.{Header, State, header_of, spell_head, spell_header}
@@ -26,7 +26,7 @@ pub length-word : (w : Word) → length (spell_word w) ≡ 20
 unfolding spell_word
 length-word w = refl
 
-pub length-head : (x : Kept) → length (spell_head x) ≡ 32
+pub length-head : (x : TrackValue) → length (spell_head x) ≡ 32
 unfolding spell_head
 length-head x = refl
 
@@ -50,10 +50,10 @@ length-lines g (l ∷ ls) = omega (
 )
 
 -- how many words the tracks have together
-abbrev pub all_words : List Kept → ℕ
+abbrev pub all_words : List TrackValue → ℕ
 all_words xs = sum_by (λ x. length x.words) xs
 
-pub length-track : (x : Kept) → length (spell_track x) ≡ 32 + 20 * length x.words
+pub length-track : (x : TrackValue) → length (spell_track x) ≡ 32 + 20 * length x.words
 length-track x = omega (
   arith,
   length-append (spell_head x) (flat_map spell_word x.words),
@@ -61,12 +61,12 @@ length-track x = omega (
   length-words x.words,
 )
 
-length-tracks : (xs : List Kept) → length (flat_map spell_track xs) ≡ 32 * length xs
+length-tracks : (xs : List TrackValue) → length (flat_map spell_track xs) ≡ 32 * length xs
     + 20 * all_words xs
 length-tracks [] = refl
 length-tracks (x ∷ xs) = omega (
   arith,
-  sum_by-cons (λ (y : Kept). length y.words) x xs,
+  sum_by-cons (λ (y : TrackValue). length y.words) x xs,
   length-append (spell_track x) (flat_map spell_track xs),
   length-track x,
   length-tracks xs,

@@ -21,7 +21,7 @@ use Rattle.sharing_rules.specs.Laws.Arrivals.{each_once-distinct}
 use Rattle.sharing_rules.specs.Laws.Lists.{Member-from_any, Member-permutation}
 use Rattle.sharing_rules.specs.Laws.Observed.{written_lines-any}
 use Rattle.sharing_rules.specs.Laws.Orders.{in_order-permutation, in_order-permutes, in_order-rises}
-use Rattle.line_tracks.specs.Kept.{Kept}
+use Rattle.line_tracks.specs.TrackValue.{TrackValue}
 use Rattle.line_tracks.specs.KeptIn.{kept_in}
 use Rattle.line_tracks.specs.Placed.{AreApart, is_placed_before}
 use Rattle.line_tracks.specs.Laws.Placed.{is_placed_before-ranks, kept-apart}
@@ -96,7 +96,7 @@ counted_in-counted g t =
     (Member-from_any k ks
     (written_lines-any g t k ∙ any_from_some (writes_to (is_inside (grid_line g k))) t some)))
 
-abbrev with_tracks : State → List Kept → State
+abbrev with_tracks : State → List TrackValue → State
 with_tracks s xs = record {
   grid = s.grid;
   tracking = s.tracking;
@@ -107,7 +107,7 @@ with_tracks s xs = record {
   tracks = xs;
 }
 
-header-alike : (s : State) (xs : List Kept) → length xs ≡ length s.tracks
+header-alike : (s : State) (xs : List TrackValue) → length xs ≡ length s.tracks
     → header_of (with_tracks s xs) ≡ header_of s
 header-alike s xs same = λ i. record {
   grid = s.grid;
@@ -120,19 +120,19 @@ header-alike s xs same = λ i. record {
 }
 
 -- tracks in any order have one state
-spell_state-permuted : (s : State) (xs : List Kept) → AreApart s.tracks → IsPermutation xs s.tracks
+spell_state-permuted : (s : State) (xs : List TrackValue) → AreApart s.tracks → IsPermutation xs s.tracks
     → spell_state (with_tracks s xs) ≡ spell_state s
 spell_state-permuted s xs apart perm =
     let lines = flat_map (spell_line s.grid) s.lines in
     let back = IsPermutation-sym xs s.tracks perm in
     ap (λ (h : Header). spell_header h ++ (lines ++ flat_map spell_track
     (in_order is_placed_before xs))) (header-alike s xs (sym (length_permutation xs s.tracks perm)))
-    ∙ ap (λ (ys : List Kept). spell_header (header_of s) ++ (lines ++ flat_map spell_track ys))
+    ∙ ap (λ (ys : List TrackValue). spell_header (header_of s) ++ (lines ++ flat_map spell_track ys))
     (sym (in_order-permutation is_placed_before is_placed_before-ranks s.tracks xs apart back))
 
 -- The state of lines and tracks that are those of a list, the tracks in any order.
 pub spell_state-of_list : (g : Grid) (v : Levels) (harts : ℕ) (t : AccessList)
-    (lines : List CountedLine) (xs : List Kept) → is_layout g.size g.offset ≡ true
+    (lines : List CountedLine) (xs : List TrackValue) → is_layout g.size g.offset ≡ true
     → IsTrue (may_predict g v) → AreCounted (writes_of g t) lines
     → IsPermutation xs (map (kept_in t) (opened g v t))
     → spell_state (record {

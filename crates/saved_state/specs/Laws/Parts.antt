@@ -6,7 +6,7 @@ use Rattle.std.specs.Prelude.{nat_eq, Option, None, Some, if◌then◌else◌, o
 use Rattle.std.specs.Prelude.{option_and_then}
 use Rattle.std.specs.List.{starts_with}
 use Rattle.sharing_rules.specs.Laws.Lists.{slice_get-push}
-use Rattle.line_tracks.specs.Kept.{Kept}
+use Rattle.line_tracks.specs.TrackValue.{TrackValue}
 use Rattle.saved_state.specs.declared.state_parts.CountedLine.{CountedLine}
 use Rattle.saved_state.specs.Parts.{IsLast}
 use Rattle.saved_state.specs.Spelling.{Header, spell_track}
@@ -23,7 +23,7 @@ IsLast-push before l =
 
 -- ---- a track by itself, and where it stands
 
-placed_then : (good placed begins : Bool) (x : Kept)
+placed_then : (good placed begins : Bool) (x : TrackValue)
     → (if good && placed && begins then Some x else None)
     ≡ (if good && begins then (if placed then Some x else None) else None)
 placed_then true true begins x = refl
@@ -31,7 +31,7 @@ placed_then true false true x = refl
 placed_then true false false x = refl
 placed_then false placed begins x = refl
 
-pub track_in-alone : (h : Header) (lines : List CountedLine) (before : List Kept) (bytes : List ℕ)
+pub track_in-alone : (h : Header) (lines : List CountedLine) (before : List TrackValue) (bytes : List ℕ)
     → track_in h lines before bytes
     ≡ option_and_then (λ x. if is_placed h lines before x then Some x else None)
     (track_alone h bytes)
@@ -43,7 +43,7 @@ track_in-alone h lines before bytes =
     placed_then good (is_placed h lines before x) begins x
     ∙ through (good && begins) x (λ y. if is_placed h lines before y then Some y else None)
   where
-    through : (b : Bool) (x : Kept) (f : Kept → Option Kept)
+    through : (b : Bool) (x : TrackValue) (f : TrackValue → Option TrackValue)
         → (if b then f x else None) ≡ option_and_then f (if b then Some x else None)
     through true x f = refl
     through false x f = refl

@@ -30,7 +30,7 @@ use Rattle.sharing_rules.specs.Laws.Opened.{AreObserved, doubled_opening-observe
 use Rattle.sharing_rules.specs.Laws.Opened.{opened_shifted-has, shifted_opening-observed}
 use Rattle.sharing_rules.specs.Laws.Orders.{lt_irreflexive}
 use Rattle.line_tracks.specs.Laws.WordLines.{layout-sized}
-use Rattle.line_tracks.specs.Kept.{Kept}
+use Rattle.line_tracks.specs.TrackValue.{TrackValue}
 use Rattle.line_tracks.specs.KeptIn.{kept_in}
 use Rattle.line_tracks.specs.Placed.{is_placed_before}
 use Rattle.line_tracks.specs.Laws.Placed.{is_placed_before-ranks}
@@ -148,7 +148,7 @@ at_least_0 b base is = ap (λ (z : ℤ). int_le (pos 0) z) is ∙ none_below b
     none_below b = grind (arith, ints)
 
 -- what a predicted track needs of those before it
-predicted-needs : (g : Grid) (v : Levels) (harts : ℕ) (t : AccessList) (front : List Kept)
+predicted-needs : (g : Grid) (v : Levels) (harts : ℕ) (t : AccessList) (front : List TrackValue)
     (o : Opened) → 0 < v.tracking → IsPredictedIn g v t o
     → is_predicted (header_in_list g v harts t) (counted_in g t)
     (map (due_track g v t) (due_in g v t) ++ front) (kept_in t o) ≡ true
@@ -243,7 +243,7 @@ same_shifted g v t o p is other shifted at =
     ]
 
 -- none of those before is of the same number
-alone : (g : Grid) (v : Levels) (t : AccessList) (front back : List Kept) (o : Opened) (y : Kept)
+alone : (g : Grid) (v : Levels) (t : AccessList) (front back : List TrackValue) (o : Opened) (y : TrackValue)
     → is_layout g.size g.offset ≡ true → IsTrue (may_predict g v)
     → (is : IsPredictedIn g v t o)
     → opened_shifted g.size v.tracking is.threshold t is.of_pair.number ≡ Some o
@@ -261,18 +261,18 @@ alone g v t front back o y allowed native is shifted cut m =
             let w = predicted-is g v t y
             (cut-Member_front (predicted_tracks g v t) front back (kept_in t o) y cut earlier) in
             let same : w.0 ≡ o = same_shifted g v t o w.0 is (predicted-pair g v t w.0 native w.1)
-            shifted (subst (λ (z : Kept). is_shifted_at g is.of_pair.number z ≡ true) w.2 at) in
+            shifted (subst (λ (z : TrackValue). is_shifted_at g is.of_pair.number z ≡ true) w.2 at) in
             let before = cut-rises is_placed_before (predicted_tracks g v t) front back
             (kept_in t o) y cut (predicted-rises g v t allowed native) earlier in
             absurd (lt_irreflexive is_placed_before is_placed_before-ranks (kept_in t o)
-            (subst (λ (z : Kept). is_placed_before z (kept_in t o) ≡ true)
+            (subst (λ (z : TrackValue). is_placed_before z (kept_in t o) ≡ true)
             (w.2 ∙ ap (kept_in t) same) before))
       ]
     ]
 
 -- ---- each kind
 
-shifted-placed : (g : Grid) (v : Levels) (harts : ℕ) (t : AccessList) (front back : List Kept)
+shifted-placed : (g : Grid) (v : Levels) (harts : ℕ) (t : AccessList) (front back : List TrackValue)
     (o : Opened) → is_layout g.size g.offset ≡ true → IsTrue (may_predict g v) → 0 < v.tracking
     → (is : IsPredictedIn g v t o)
     → opened_shifted g.size v.tracking is.threshold t is.of_pair.number ≡ Some o
@@ -302,7 +302,7 @@ shifted-placed g v harts t front back o allowed native some is shifted cut =
     (ap (λ j. not (list_any (is_shifted_at g j) before)) (begins g v t o is).number
     ∙ ap not apart)
 
-doubled-placed : (g : Grid) (v : Levels) (harts : ℕ) (t : AccessList) (front : List Kept)
+doubled-placed : (g : Grid) (v : Levels) (harts : ℕ) (t : AccessList) (front : List TrackValue)
     (o : Opened) → 0 < v.tracking → (is : IsPredictedIn g v t o)
     → opened_doubled g.size v.tracking is.threshold t is.of_pair.number ≡ Some o
     → is_kind_placed (header_in_list g v harts t) (counted_in g t)
@@ -319,7 +319,7 @@ doubled-placed g v harts t front o some is doubled =
 
 -- a predicted line's track where it stands
 pub predicted-placed : (g : Grid) (v : Levels) (harts : ℕ) (t : AccessList)
-    (front back : List Kept) (o : Opened) → is_layout g.size g.offset ≡ true
+    (front back : List TrackValue) (o : Opened) → is_layout g.size g.offset ≡ true
     → IsTrue (may_predict g v) → 0 < v.tracking → IsPredictedIn g v t o
     → predicted_tracks g v t ≡ front ++ kept_in t o ∷ back
     → is_kind_placed (header_in_list g v harts t) (counted_in g t)

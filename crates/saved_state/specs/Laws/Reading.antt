@@ -14,7 +14,7 @@ use Rattle.sharing_rules.specs.Listed.{in_order}
 use Rattle.sharing_rules.specs.Members.{IsRising, Member}
 use Rattle.sharing_rules.specs.Laws.Lists.{slice_cases}
 use Rattle.sharing_rules.specs.Laws.Orders.{in_order-same}
-use Rattle.line_tracks.specs.Kept.{Kept}
+use Rattle.line_tracks.specs.TrackValue.{TrackValue}
 use Rattle.line_tracks.specs.Placed.{is_placed_before}
 use Rattle.line_tracks.specs.Laws.Placed.{is_placed_before-ranks}
 use Rattle.saved_state.specs.declared.state_parts.CountedLine.{CountedLine}
@@ -84,11 +84,11 @@ unfolding line_in
 line_is h before bytes l is = unit_is (spell_line h.grid) (is_good_line h before)
     (line_at h.grid bytes) l bytes is
 
-abbrev pub fits : Header → List CountedLine → List Kept → Kept → Bool
+abbrev pub fits : Header → List CountedLine → List TrackValue → TrackValue → Bool
 fits h lines before x = is_good_track h x && is_placed h lines before x
 
-pub track_is : (h : Header) (lines : List CountedLine) (before : List Kept) (bytes : List ℕ)
-    (x : Kept)
+pub track_is : (h : Header) (lines : List CountedLine) (before : List TrackValue) (bytes : List ℕ)
+    (x : TrackValue)
     → track_in h lines before bytes ≡ Some x → IsUnit spell_track (fits h lines before) bytes x
 unfolding track_in
 track_is h lines before bytes x is = unit_is spell_track (fits h lines before)
@@ -163,8 +163,8 @@ each_passes p (x ∷ xs) all y m =
     ]
 
 -- a track that was read comes behind those before it
-track_rises : (h : Header) (lines : List CountedLine) (before : List Kept) (left : List ℕ)
-    (x : Kept) → track_in h lines before left ≡ Some x → IsRising is_placed_before before
+track_rises : (h : Header) (lines : List CountedLine) (before : List TrackValue) (left : List ℕ)
+    (x : TrackValue) → track_in h lines before left ≡ Some x → IsRising is_placed_before before
     → IsRising is_placed_before (before ++ x ∷ [])
 track_rises h lines before left x is rising =
     let unit = track_is h lines before left x is in
@@ -175,7 +175,7 @@ track_rises h lines before left x is rising =
     (each_passes (λ y. is_placed_before y x) before behind)
 
 -- the units put together
-spelled_whole : (h : Header) (lines : List CountedLine) (tracks : List Kept)
+spelled_whole : (h : Header) (lines : List CountedLine) (tracks : List TrackValue)
     → length lines ≡ h.lines → length tracks ≡ h.tracks → IsRising is_placed_before tracks
     → spell_state (state_with h lines tracks)
     ≡ spell_header h ++ (flat_map (spell_line h.grid) lines ++ flat_map spell_track tracks)
@@ -191,7 +191,7 @@ spelled_whole h lines tracks line_count track_count rising =
     } in
     ap (λ (k : Header). spell_header k ++ (flat_map (spell_line h.grid) lines
     ++ flat_map spell_track (in_order is_placed_before tracks))) same
-    ∙ ap (λ (ts : List Kept). spell_header h ++ (flat_map (spell_line h.grid) lines
+    ∙ ap (λ (ts : List TrackValue). spell_header h ++ (flat_map (spell_line h.grid) lines
     ++ flat_map spell_track ts))
     (in_order-same is_placed_before is_placed_before-ranks tracks rising)
 
@@ -201,11 +201,11 @@ three_lengths a b c = omega (arith, length-append a (b ++ c), length-append b c)
 abbrev at_lines : List ℕ → Units CountedLine
 at_lines bytes = record { read = []; place = 64; left = drop 64 bytes }
 
-abbrev at_tracks : Units CountedLine → Units Kept
+abbrev at_tracks : Units CountedLine → Units TrackValue
 at_tracks u = record { read = []; place = u.place; left = u.left }
 
 -- what was read, once header, lines and tracks are
-whole_is : (bytes : List ℕ) (h : Header) (u : Units CountedLine) (v : Units Kept)
+whole_is : (bytes : List ℕ) (h : Header) (u : Units CountedLine) (v : Units TrackValue)
     → bytes ≡ spell_header h ++ drop 64 bytes
     → AreRead (spell_line h.grid) h.lines (at_lines bytes) u
     → AreRead spell_track h.tracks (at_tracks u) v → IsRising is_placed_before v.read
@@ -220,11 +220,11 @@ whole_is bytes h u v header lines tracks rising =
     lines.begins ∙ ap (λ (ms : List CountedLine). flat_map (spell_line h.grid) ms ++ u.left)
     (sym lines.read) in
     let tracks_begin : u.left ≡ ts ++ v.left =
-    tracks.begins ∙ ap (λ (ms : List Kept). flat_map spell_track ms ++ v.left) (sym tracks.read) in
+    tracks.begins ∙ ap (λ (ms : List TrackValue). flat_map spell_track ms ++ v.left) (sym tracks.read) in
     let line_bytes : length (flat_map (spell_line h.grid) lines.more) ≡ length ls =
     ap (λ (ms : List CountedLine). length (flat_map (spell_line h.grid) ms)) (sym lines.read) in
     let track_bytes : length (flat_map spell_track tracks.more) ≡ length ts =
-    ap (λ (ms : List Kept). length (flat_map spell_track ms)) (sym tracks.read) in
+    ap (λ (ms : List TrackValue). length (flat_map spell_track ms)) (sym tracks.read) in
     record {
       left = v.left;
       spelled = header

@@ -21,7 +21,8 @@ use Rattle.trace_format.specs.Judging.{begun, fields_judged, header_judged}
 use Rattle.base.specs.Fields.{number_at}
 use Rattle.trace_format.specs.Judging.{record_judged, version_at}
 use Rattle.trace_format.specs.Reading.{Reading, begin, byte_read, counted_after, ending_in}
-use Rattle.trace_format.specs.Reading.{extent_at, header_read, part_at, place_of, progress_after}
+use Rattle.trace_format.specs.Reading.{extent_at, header_read, part_at, place_reached}
+use Rattle.trace_format.specs.Reading.{progress_after}
 use Rattle.trace_format.specs.Reading.{read_on, reading_of, record_read, with_fault}
 use Rattle.trace_format.specs.Laws.Reading.{waiting}
 use Rattle.trace_format.specs.Laws.Again.{ComesAt}
@@ -234,7 +235,7 @@ byte_then items (Some fault) p e pending b is = none_more p e items is
 byte_then items None p e pending b is =
     let r = waiting p e pending in
     let more = pending ++ b ∷ [] in
-    by_test (IsThen items) (eqb (place_of p + length pending) longest_trace)
+    by_test (IsThen items) (eqb (place_reached p + length pending) longest_trace)
     ([], with_fault r faults.TooLong) _
     (λ last. none_more p e items is)
     (λ room. by_test (IsThen items) (ltb (length more) (extent_at p e more))

@@ -26,7 +26,7 @@ use Rattle.trace_format.specs.Judging.{record_judged, symbol_judged, symbol_with
 use Rattle.base.specs.Fields.{number_at}
 use Rattle.trace_format.specs.Judging.{version_at, tagged_if, touch_counted}
 use Rattle.trace_format.specs.Reading.{Reading, begin, byte_read, counted_after, header_read}
-use Rattle.trace_format.specs.Reading.{part_at, place_of, progress_after, read_on, reading_of}
+use Rattle.trace_format.specs.Reading.{part_at, place_reached, progress_after, read_on, reading_of}
 use Rattle.trace_format.specs.Reading.{record_read}
 use Rattle.trace_format.specs.ReaderStates.{SameHead}
 
@@ -87,7 +87,7 @@ module _ (Q : List TraceRecord → Option ReadSoFar → Type 0)
   byte_keeps items p xs e (Some fault) b q = nothing_new items p q
   byte_keeps items p xs e None b q =
       let P : List TraceRecord × Reading → Type 0 = λ now. Q (items ++ now.0) now.1.progress in
-      by_test P (eqb (place_of p + length xs) longest_trace) _ _ (λ _. nothing_new items p q)
+      by_test P (eqb (place_reached p + length xs) longest_trace) _ _ (λ _. nothing_new items p q)
       (λ _. by_test P _ _ _ (λ _. nothing_new items p q)
       (λ _. part_keeps items p xs (xs ++ b ∷ []) e None q))
 

@@ -13,7 +13,7 @@ use Rattle.trace_format.specs.declared.record.TraceRecord.{TraceRecord}
 use Rattle.trace_format.specs.declared.read_so_far.ReadSoFar.{ReadSoFar}
 use Rattle.trace_format.specs.Rules.{longest_trace}
 use Rattle.trace_format.specs.Judging.{header_judged, record_judged}
-use Rattle.trace_format.specs.Reading.{Reading, begin, place_of, extent_at, header_read}
+use Rattle.trace_format.specs.Reading.{Reading, begin, place_reached, extent_at, header_read}
 use Rattle.trace_format.specs.Reading.{record_read, part_at, byte_read, read_on, reading_of}
 
 -- what was read before, and what more bytes say then
@@ -74,23 +74,23 @@ pub record FrontsWait (p : Option ReadSoFar) (e : Option Ending) (bytes : List �
 
 module _ (p : Option ReadSoFar) (e : Option Ending) (ys : List ℕ) (fronts : FrontsWait p e ys)
   where
-    one_waits : (xs : List ℕ) (b : ℕ) → place_of p + length xs < longest_trace
+    one_waits : (xs : List ℕ) (b : ℕ) → place_reached p + length xs < longest_trace
         → length (xs ++ b ∷ []) < extent_at p e (xs ++ b ∷ [])
         → byte_read (waiting p e xs) b ≡ ([], waiting p e (xs ++ b ∷ []))
     unfolding byte_read
     one_waits xs b low short =
-        let inside : eqb (place_of p + length xs) longest_trace ≡ false =
+        let inside : eqb (place_reached p + length xs) longest_trace ≡ false =
         grind (arith, nat_tests) in
         let few : ltb (length (xs ++ b ∷ [])) (extent_at p e (xs ++ b ∷ [])) ≡ true =
         grind (arith, nat_tests) in
         rw (inside, few) refl
 
-    one_ends : (xs : List ℕ) (b : ℕ) → place_of p + length xs < longest_trace
+    one_ends : (xs : List ℕ) (b : ℕ) → place_reached p + length xs < longest_trace
         → length (xs ++ b ∷ []) ≡ extent_at p e (xs ++ b ∷ [])
         → byte_read (waiting p e xs) b ≡ part_at (waiting p e []) p e (xs ++ b ∷ [])
     unfolding byte_read
     one_ends xs b low same =
-        let inside : eqb (place_of p + length xs) longest_trace ≡ false =
+        let inside : eqb (place_reached p + length xs) longest_trace ≡ false =
         grind (arith, nat_tests) in
         let enough : ltb (length (xs ++ b ∷ [])) (extent_at p e (xs ++ b ∷ [])) ≡ false =
         grind (arith, nat_tests) in
@@ -101,7 +101,7 @@ module _ (p : Option ReadSoFar) (e : Option Ending) (ys : List ℕ) (fronts : Fr
     unfolding read_on
     read_one r b = refl
 
-    fronts_wait : (k : ℕ) → k ≤ length ys → k < extent_at p e ys → place_of p + k ≤ longest_trace
+    fronts_wait : (k : ℕ) → k ≤ length ys → k < extent_at p e ys → place_reached p + k ≤ longest_trace
         → read_on (waiting p e []) (take k ys) ≡ ([], waiting p e (take k ys))
     unfolding read_on
     fronts_wait zero le lt low = refl
@@ -120,14 +120,14 @@ module _ (p : Option ReadSoFar) (e : Option Ending) (ys : List ℕ) (fronts : Fr
         (before, read_one (waiting p e (take k ys)) b, one) refl)
 
     -- fewer bytes than are judged wait
-    pub all_wait : length ys < extent_at p e ys → place_of p + length ys ≤ longest_trace
+    pub all_wait : length ys < extent_at p e ys → place_reached p + length ys ≤ longest_trace
         → read_on (waiting p e []) ys ≡ ([], waiting p e ys)
     all_wait lt low =
         let all : take (length ys) ys ≡ ys = take_all (length ys) ys (omega arith) in
         rw all at (fronts_wait (length ys) (omega arith) lt low)
 
     ends_at : (k : ℕ) → suc k ≡ extent_at p e ys → suc k ≤ length ys
-        → place_of p + suc k ≤ longest_trace
+        → place_reached p + suc k ≤ longest_trace
         → read_on (waiting p e []) (take (suc k) ys) ≡ part_at (waiting p e []) p e (take (suc k)
         ys)
     ends_at k is le low =
@@ -151,7 +151,7 @@ module _ (p : Option ReadSoFar) (e : Option Ending) (ys : List ℕ) (fronts : Fr
 
     -- what is judged at once is read at once, and then what is behind it
     pub part_then : (n : ℕ) → n ≡ extent_at p e ys → 1 ≤ n → n ≤ length ys
-        → place_of p + n ≤ longest_trace
+        → place_reached p + n ≤ longest_trace
         → read_on (waiting p e []) ys ≡ then_read (part_at (waiting p e []) p e (take n ys))
         (drop n
         ys)
@@ -165,9 +165,9 @@ module _ (p : Option ReadSoFar) (e : Option Ending) (ys : List ℕ) (fronts : Fr
 -- no byte has the place at which a trace is too long
 pub read_on-too_long : (p : Option ReadSoFar) (e : Option Ending) (xs : List ℕ) (b : ℕ) (bytes :
     List ℕ)
-    → place_of p + length xs ≡ longest_trace
+    → place_reached p + length xs ≡ longest_trace
     → read_on (waiting p e xs) (b ∷ bytes) ≡ ([], at_fault p [] e faults.TooLong)
 unfolding read_on byte_read
 read_on-too_long p e xs b bytes is =
-    let there : eqb (place_of p + length xs) longest_trace ≡ true = grind (arith, nat_tests) in
+    let there : eqb (place_reached p + length xs) longest_trace ≡ true = grind (arith, nat_tests) in
     rw there (read_on-fault p [] e faults.TooLong bytes)

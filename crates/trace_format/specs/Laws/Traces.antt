@@ -18,7 +18,7 @@ use Rattle.trace_format.specs.Rules.{IsGoodBefore, IsGoodRecord, IsInner, IsTrac
 use Rattle.trace_format.specs.Rules.{longest_trace, touches_in}
 use Rattle.trace_format.specs.Judging.{begun}
 use Rattle.trace_format.specs.Reading.{Reading, begin, counted_after, ending_in, ending_of}
-use Rattle.trace_format.specs.Reading.{extent_at, part_at, place_of, progress_after, read_on}
+use Rattle.trace_format.specs.Reading.{extent_at, part_at, place_reached, progress_after, read_on}
 use Rattle.trace_format.specs.Reading.{reading_of}
 use Rattle.trace_format.specs.Laws.Reading.{part_then, read_on-append, then_read, waiting}
 use Rattle.trace_format.specs.Laws.Before.{after_good, nothing_good}
@@ -31,7 +31,7 @@ use Rattle.trace_format.specs.Writing.{before_behind, begun_with}
 
 -- bytes that are judged whole are read at once
 pub part_alone : (p : Option ReadSoFar) (e : Option Ending) (bytes : List ℕ)
-    → length bytes ≡ extent_at p e bytes → place_of p + length bytes ≤ longest_trace
+    → length bytes ≡ extent_at p e bytes → place_reached p + length bytes ≤ longest_trace
     → read_on (waiting p e []) bytes ≡ (
       (part_at (waiting p e []) p e bytes).0 ++ [],
       (part_at (waiting p e []) p e bytes).1,

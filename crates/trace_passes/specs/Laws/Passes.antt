@@ -18,7 +18,8 @@ use Rattle.trace_format.specs.Rules.{IsGoodHeader, IsInner, IsWritable, last_pos
 use Rattle.trace_format.specs.Rules.{longest_trace, touches_in}
 use Rattle.trace_format.specs.Judging.{record_judged, version_at}
 use Rattle.trace_format.specs.Reading.{Reading, byte_read, ending_at, ending_of, extent_at}
-use Rattle.trace_format.specs.Reading.{part_at, place_of, read_on, reading_of, record_read, taken}
+use Rattle.trace_format.specs.Reading.{part_at, place_reached, read_on, reading_of, record_read}
+use Rattle.trace_format.specs.Reading.{taken}
 use Rattle.trace_format.specs.Reading.{with_fault}
 use Rattle.trace_format.specs.Laws.Magic.{fault_is_late, has_version, version_kept, version_stays}
 use Rattle.trace_format.specs.Laws.Reading.{read_on-fault, read_on-pieces, waiting}
@@ -26,7 +27,8 @@ use Rattle.trace_passes.specs.declared.wanted.Refusal.{Refusal}
 use Rattle.trace_passes.specs.declared.wanted.Refusal.TheVariants as refusals
 use Rattle.trace_passes.specs.declared.wanted.Wanted.{Wanted}
 use Rattle.trace_passes.specs.Passes.{Trace, IsWanted, all_records, before_last, first_refusal}
-use Rattle.trace_passes.specs.Passes.{harts_refusal, head_of, header_refusal, pcs_refusal, refusal_of}
+use Rattle.trace_passes.specs.Passes.{harts_refusal, head_of, header_refusal, pcs_refusal}
+use Rattle.trace_passes.specs.Passes.{refusal_of}
 use Rattle.trace_passes.specs.Passes.{trace_at, trace_of, trace_refusal, version_refusal}
 use Rattle.trace_format.specs.Laws.Counts.{EndsWith, IsCounted, IsSoFar, so_far, touches_in-append}
 
@@ -77,7 +79,7 @@ head_after_byte None p e pending b =
     let r = waiting p e pending in
     let more = pending ++ b ∷ [] in
     let P : List TraceRecord × Reading → Type 0 = λ now. HeadStays p now.1.progress in
-    by_test P (eqb (place_of p + length pending) longest_trace) ([], with_fault r faults.TooLong) _
+    by_test P (eqb (place_reached p + length pending) longest_trace) ([], with_fault r faults.TooLong) _
     (same_head p)
     (by_test P (ltb (length more) (extent_at p e more)) ([], record r { pending = more })
     (part_at r p e more) (same_head p)

@@ -1,6 +1,6 @@
 use Rattle.std.proofs.Common.{Some, length, ap, ◌∙◌, arith}
 use Rattle.detector.specs.Entries.{entry_at}
-use Rattle.line_tracks.specs.Kept.{saved}
+use Rattle.line_tracks.specs.TrackValue.{saved}
 use Rattle.detector.specs.Index.{names_in}
 use Rattle.detector.specs.Named.{line_of_base}
 use Rattle.detector.specs.Tasks.{with_name}

@@ -5,7 +5,7 @@ use Rattle.base.specs.Ranges.{holds_address, line_range}
 use Rattle.base.specs.Lines.{line_number}
 use Rattle.base.specs.declared.layout.Range.{Range}
 use Rattle.sharing_rules.specs.declared.line_kind.LineKind.TheVariants.{Observed}
-use Rattle.line_tracks.specs.Kept.{CanNote, Kept, note_kept, waiting}
+use Rattle.line_tracks.specs.TrackValue.{CanNote, TrackValue, note_kept, waiting}
 use Rattle.detector.proofs.TaskLaws.{added-at, set_end}
 use Rattle.detector.proofs.task.begin.Goals as goal
 
@@ -19,7 +19,7 @@ pub note-requires-clause-ready : goal.note-requires-clause-ready
 note-requires-clause-ready g c = λ x got.
     let at = added-at c.args.tracks.now c.add.new.tracks (waiting Observed c.line_of.result)
     c.in-Ok.place c.in-Ok.ensures.added c.in-Ok.ensures.place in
-    subst (λ (z : Kept). CanNote z c.args.position c.args.access.addr)
+    subst (λ (z : TrackValue). CanNote z c.args.position c.args.access.addr)
     (same_Some (waiting Observed c.line_of.result) x (sym at ∙ got))
     (record {
       inside = ap (holds_address c.line_of.result) (sym c.addr.ensures)

@@ -1,6 +1,6 @@
 use Rattle.std.proofs.Common.{◌++◌, ap, ◌∙◌}
 use Rattle.std.proofs.lemmas.List.{append_assoc}
-use Rattle.line_tracks.specs.Kept.{Kept}
+use Rattle.line_tracks.specs.TrackValue.{TrackValue}
 use Rattle.std.specs.Prelude.{List}
 use Rattle.sharing_rules.specs.declared.line_kind.LineKind.TheVariants.{Shifted}
 use Rattle.detector.specs.Openings.{waiting_for}
@@ -18,7 +18,7 @@ returns-in-Err-open_one-2-clause-kept c =
     let here = waiting_for Shifted c.args.openings.here in
     kept-after c.args.tracks.now (below ++ here) c.open_one-3.new.tracks
     (c.in-Err-open_one-2.ensures.same ∙ c.in-Ok-open_one.ensures.added
-    ∙ ap (λ (xs : List Kept). xs ++ here) c.in-Ok.ensures.added
+    ∙ ap (λ (xs : List TrackValue). xs ++ here) c.in-Ok.ensures.added
     ∙ append_assoc c.args.tracks.now below here)
 
 pub returns-clause-added : goal.returns-clause-added

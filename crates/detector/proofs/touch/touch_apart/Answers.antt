@@ -1,6 +1,6 @@
 use Rattle.std.proofs.Common.{◌≡◌, ◌+◌, ◌≤◌, refl, sym, ap, ◌∙◌, subst, arith}
 use Rattle.std.specs.Prelude.{false, not, ◌&&◌, ◌||◌}
-use Rattle.detector.specs.declared.track_places.Places.{Places}
+use Rattle.detector.specs.declared.track_places.TrackNumbers.{TrackNumbers}
 use Rattle.detector.specs.declared.line_entry.LineEntry.{LineEntry}
 use Rattle.std.proofs.lemmas.Result.{on_ok_weaker}
 use Rattle.base.specs.Touch.{is_write}
@@ -133,7 +133,7 @@ returns-in-Ok-clause-tracks g c =
     c.task_of-task.result c.peek-here.ensures c.task_of-task.ensures in
     let idle : (c.task_of-task.result.begins || (c.task_of-task.result.searches && not
     (have_opened (places (entry_at m) c.args.line)))) ≡ false =
-    ap (λ (p : Places). c.task_of-task.result.begins || (c.task_of-task.result.searches && not
+    ap (λ (p : TrackNumbers). c.task_of-task.result.begins || (c.task_of-task.result.searches && not
     (have_opened p))) (sym c.places_of.ensures)
     ∙ ap (λ h. c.task_of-task.result.begins || (c.task_of-task.result.searches && not h))
     (sym c.have_opened.ensures) ∙ sym c.is_due_where.ensures ∙ c.if-is_due_where.false in

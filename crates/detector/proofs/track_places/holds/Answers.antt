@@ -2,7 +2,7 @@ use Rattle.std.proofs.Common.{◌≡◌, Some, sym, ap, ◌∙◌}
 use Rattle.std.proofs.lemmas.Option.{same_Some}
 use Rattle.std.specs.Prelude.{slice_get}
 use Rattle.base.specs.Ranges.{holds_address}
-use Rattle.line_tracks.specs.Kept.{Kept}
+use Rattle.line_tracks.specs.TrackValue.{TrackValue}
 use Rattle.sharing_rules.specs.Laws.Lists.{slice_get-seen}
 use Rattle.detector.proofs.track_places.holds.Goals as goal
 
@@ -12,5 +12,5 @@ returns c = λ x at.
     slice_get-seen c.args.tracks.now c.all.result.now c.args.place c.index-all-place.result
     c.all.ensures c.requires c.index-all-place.is in
     c.contains.ensures.value
-    ∙ ap (λ (z : Kept). holds_address z.range c.addr.result) (same_Some _ x (sym read ∙ at))
+    ∙ ap (λ (z : TrackValue). holds_address z.range c.addr.result) (same_Some _ x (sym read ∙ at))
     ∙ ap (holds_address x.range) c.addr.ensures

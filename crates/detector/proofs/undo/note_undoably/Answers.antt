@@ -1,6 +1,6 @@
 use Rattle.std.proofs.Common.{sym, ap, ◌∙◌}
 use Rattle.base.specs.Ranges.{holds_address}
-use Rattle.line_tracks.specs.Kept.{mark_of}
+use Rattle.line_tracks.specs.TrackValue.{mark_of}
 use Rattle.detector.proofs.TouchLaws.{slice_get-get_or_at}
 use Rattle.detector.proofs.UndoLaws.{touched-holds, touched-misses, undoes-note}
 use Rattle.detector.proofs.undo.note_undoably.Goals as goal

@@ -1,6 +1,6 @@
 use Rattle.std.proofs.Common.{◌∙◌, sym, subst}
 use Rattle.std.proofs.lemmas.Option.{same_Some, slice_get_within}
-use Rattle.line_tracks.specs.Kept.{CanRestore}
+use Rattle.line_tracks.specs.TrackValue.{CanRestore}
 use Rattle.detector.specs.Noting.{Undoes}
 use Rattle.detector.proofs.undo.take_back.Goals as goal
 

@@ -1,5 +1,5 @@
 use Rattle.std.proofs.Common.{sym, ◌∙◌}
-use Rattle.finite_cache.specs.Kept.{lists_of}
+use Rattle.finite_cache.specs.CacheState.{lists_of}
 use Rattle.finite_cache.specs.Laws.Fits.{gone-noted}
 use Rattle.finite_cache.specs.Laws.Shapes.{some-sets, some-ways}
 use Rattle.finite_cache.proofs.step.come.Goals as goal

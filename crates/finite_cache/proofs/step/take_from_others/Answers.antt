@@ -4,7 +4,7 @@ use Rattle.std.proofs.lemmas.List.{take_more}
 use Rattle.std.proofs.Math.Bool.{or-false, or-true}
 use Rattle.std.specs.Prelude.{if◌then◌else◌}
 use Rattle.finite_cache.specs.Bounded.{has, set_of, without}
-use Rattle.finite_cache.specs.Kept.{cell_of, lines_at}
+use Rattle.finite_cache.specs.CacheState.{cell_of, lines_at}
 use Rattle.finite_cache.specs.Laws.Cells.{found-more, swept, swept-more}
 use Rattle.finite_cache.specs.Sweeps.{had_by_another}
 use Rattle.finite_cache.proofs.step.take_from_others.Goals.{else-take_from, then-take_from}

@@ -1,6 +1,6 @@
 use Rattle.std.proofs.Common.{◌≡◌, ℕ, take}
 use Rattle.finite_cache.specs.Fits.{HaveWays}
-use Rattle.finite_cache.specs.Kept.{lines_at}
+use Rattle.finite_cache.specs.CacheState.{lines_at}
 use Rattle.finite_cache.specs.Laws.Cells.{swept}
 use Rattle.finite_cache.specs.Sweeps.{had_by_another}
 use Rattle.finite_cache.proofs.step.take_from_others.Given as goal

@@ -1,4 +1,4 @@
-use Rattle.finite_cache.specs.Kept.{LineUse}
+use Rattle.finite_cache.specs.CacheState.{LineUse}
 use Rattle.sharing_rules.specs.Arrivals.{note_arrival}
 use Rattle.finite_cache.specs.Laws.Told.{arrived-new, arrives-known, arrives-new, told-known}
 use Rattle.finite_cache.specs.Laws.Told.{told-new, use-changed-on}

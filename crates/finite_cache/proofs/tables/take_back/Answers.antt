@@ -1,5 +1,5 @@
 use Rattle.std.proofs.Common.{◌-◌, length, take, rules}
-use Rattle.finite_cache.specs.Kept.{LineUse}
+use Rattle.finite_cache.specs.CacheState.{LineUse}
 use Rattle.finite_cache.specs.Laws.Told.{use-written}
 use Rattle.finite_cache.proofs.tables.take_back.Goals as goal
 

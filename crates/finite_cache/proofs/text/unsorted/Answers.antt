@@ -1,4 +1,4 @@
-use Rattle.finite_cache.specs.Kept.{row_kept}
+use Rattle.finite_cache.specs.CacheState.{row_kept}
 use Rattle.finite_cache.specs.Texts.{is_told}
 use Rattle.misses.specs.Laws.Told.{told_more}
 use Rattle.finite_cache.proofs.text.unsorted.Goals as goal

@@ -1,5 +1,5 @@
 use Rattle.std.proofs.Common.{◌≡◌, take, map, filter}
-use Rattle.finite_cache.specs.Kept.{row_kept}
+use Rattle.finite_cache.specs.CacheState.{row_kept}
 use Rattle.finite_cache.specs.Texts.{is_told}
 use Rattle.finite_cache.proofs.text.unsorted.Given as goal
 

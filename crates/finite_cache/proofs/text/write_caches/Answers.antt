@@ -1,7 +1,7 @@
 use Rattle.std.proofs.Common.{◌≡◌, ℕ, List, map, subst}
 use Rattle.base.specs.TextLines.{text_of}
 use Rattle.std.specs.Prelude.{IfOk}
-use Rattle.finite_cache.specs.Kept.{row_kept}
+use Rattle.finite_cache.specs.CacheState.{row_kept}
 use Rattle.finite_cache.specs.Laws.Seen.{text-seen, text-stands}
 use Rattle.finite_cache.specs.Texts.{lines_of_caches, told_rows}
 use Rattle.finite_cache.proofs.text.write_caches.Goals as goal

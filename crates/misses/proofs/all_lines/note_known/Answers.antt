@@ -1,5 +1,5 @@
 use Rattle.std.proofs.Common.{rules}
-use Rattle.misses.specs.Laws.Kept.{refused-same}
+use Rattle.misses.specs.Laws.MissCounts.{refused-same}
 use Rattle.misses.proofs.all_lines.note_known.Goals as goal
 
 pub returns-in-Some-clause-refused : goal.returns-in-Some-clause-refused

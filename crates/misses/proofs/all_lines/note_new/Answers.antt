@@ -1,6 +1,6 @@
 use Rattle.std.proofs.Common.{length, ap, arith}
-use Rattle.misses.specs.Kept.{LineEntry}
-use Rattle.misses.specs.Laws.Kept.{length-blank_words}
+use Rattle.misses.specs.MissCounts.{LineEntry}
+use Rattle.misses.specs.Laws.MissCounts.{length-blank_words}
 use Rattle.misses.proofs.all_lines.note_new.Goals as goal
 
 pub note-requires-clause-within : goal.note-requires-clause-within

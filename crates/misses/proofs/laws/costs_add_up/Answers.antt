@@ -1,5 +1,5 @@
 -- What the numbers of a line owe each other.
-use Rattle.misses.specs.Kept.{lines_of}
+use Rattle.misses.specs.MissCounts.{lines_of}
 use Rattle.misses.specs.Laws.Costs.{alone-costs, cold-needed, costs-ordered, costs-sum}
 use Rattle.misses.specs.Laws.WordLines.{layout-keeps}
 use Rattle.misses.proofs.laws.costs_add_up.Goals as goal

@@ -1,6 +1,6 @@
 -- A line beside the own lines of its words.
 use Rattle.std.proofs.Common.{arith}
-use Rattle.misses.specs.Kept.{lines_of}
+use Rattle.misses.specs.MissCounts.{lines_of}
 use Rattle.misses.specs.Laws.WordLines.{layout-keeps}
 use Rattle.misses.specs.Laws.WordsApart.{apart-missed, needed-apart, saved-apart}
 use Rattle.misses.proofs.laws.padding_saves_what_is_useless.Goals as goal

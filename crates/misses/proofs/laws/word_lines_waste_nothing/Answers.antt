@@ -1,7 +1,7 @@
 -- Lines of one word each.
 use Rattle.std.proofs.Common.{refl}
 use Rattle.base.specs.Lines.{line_number}
-use Rattle.misses.specs.Kept.{lines_of}
+use Rattle.misses.specs.MissCounts.{lines_of}
 use Rattle.misses.specs.Laws.Costs.{needed-own_line, word_line-useless}
 use Rattle.misses.specs.Laws.WordLines.{layout-keeps, word_lines-part}
 use Rattle.misses.proofs.laws.word_lines_waste_nothing.Goals as goal

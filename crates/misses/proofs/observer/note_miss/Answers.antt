@@ -1,4 +1,4 @@
-use Rattle.misses.specs.Kept.{StandsFor}
+use Rattle.misses.specs.MissCounts.{StandsFor}
 use Rattle.trace_format.specs.Laws.Touches.{stands-none}
 use Rattle.misses.proofs.observer.note_miss.Goals as goal
 

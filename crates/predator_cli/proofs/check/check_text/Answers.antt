@@ -1,13 +1,13 @@
 use Rattle.std.proofs.Common.{◌≡◌, ◌∙◌, [], ◌∷◌, Ok, ap, sym}
 use Rattle.command_line.specs.Check.{check_meaning}
 use Rattle.shelf.specs.Shelf.{Told, content}
-use Rattle.command_files.specs.ProgramFiles.{program_reading, program_refusal}
-use Rattle.command_files.specs.Readings.{IsStopped}
-use Rattle.command_files.specs.SettingsFiles.{chosen_settings, settings_in, settings_readings}
-use Rattle.command_files.specs.Laws.Settings.{program_alike, settings_chosen}
-use Rattle.command_files.specs.Laws.Readings.{accepted_behind, alike_accepted, alike_stopped}
-use Rattle.command_files.specs.Laws.Readings.{stopped_behind, stopped_first}
-use Rattle.command_files.specs.Works.{done_with}
+use Rattle.command_io.specs.ProgramFiles.{program_reading, program_refusal}
+use Rattle.command_io.specs.Readings.{IsStopped}
+use Rattle.command_io.specs.SettingsFiles.{chosen_settings, settings_in, settings_readings}
+use Rattle.command_io.specs.Laws.Settings.{program_alike, settings_chosen}
+use Rattle.command_io.specs.Laws.Readings.{accepted_behind, alike_accepted, alike_stopped}
+use Rattle.command_io.specs.Laws.Readings.{stopped_behind, stopped_first}
+use Rattle.command_io.specs.Works.{done_with}
 use Rattle.shelf.specs.Laws.Told.{told_both, told_still}
 use Rattle.settings.specs.declared.values.Settings.{Settings}
 use Rattle.predator_cli.specs.Check.{checked}

@@ -1,5 +1,5 @@
 use Rattle.std.proofs.Common.{List, subst, sym}
-use Rattle.command_files.specs.Readings.{IsStopped, Reading}
+use Rattle.command_io.specs.Readings.{IsStopped, Reading}
 use Rattle.predator_cli.proofs.counter.count.Goals as goal
 
 pub returns-in-Ok : goal.returns-in-Ok
@@ -7,7 +7,7 @@ returns-in-Ok g c =
     let name = c.args.name.now in
     let under = c.args.under in
     let asked = g.met.C.Counter.answers name under in
-    c.tell.ensures (g.C.Counter.asks name under) g.C.Counter.WANTED (g.C.Counter.says under) name
+    c.print_text.ensures (g.C.Counter.asks name under) g.C.Counter.WANTED (g.C.Counter.says under) name
     (g.S.Shelf.outside c.args.shelf.now) asked.reads asked.works asked.repeats
     (rw c.deref.ensures.value c.in-Ok.ensures.counted)
 

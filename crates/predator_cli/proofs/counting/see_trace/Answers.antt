@@ -1,6 +1,6 @@
 use Rattle.std.proofs.Common.{Err, ap, subst, sym, [], ◌∷◌}
-use Rattle.command_files.specs.Readings.{IsStopped}
-use Rattle.command_files.specs.declared.status.Status.{Status}
+use Rattle.command_io.specs.Readings.{IsStopped}
+use Rattle.command_io.specs.declared.status.Status.{Status}
 use Rattle.predator_cli.specs.Replay.{trace_reading}
 use Rattle.predator_cli.proofs.TraceFiles.{pass_stopped}
 use Rattle.predator_cli.proofs.counting.see_trace.Goals as goal

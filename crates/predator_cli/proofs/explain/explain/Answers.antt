@@ -4,8 +4,8 @@ use Rattle.command_line.specs.Explain.{explain_meaning}
 use Rattle.command_line.specs.Run.{RunDemand}
 use Rattle.command_line.specs.Words.{explain}
 use Rattle.guest.specs.Runs.{rest_of}
-use Rattle.command_files.specs.Readings.{IsAccepted, IsStopped}
-use Rattle.command_files.specs.SettingsFiles.{settings_in}
+use Rattle.command_io.specs.Readings.{IsAccepted, IsStopped}
+use Rattle.command_io.specs.SettingsFiles.{settings_in}
 use Rattle.predator_cli.specs.Run.{run_for_demand, run_readings, symbol_records}
 use Rattle.predator_cli.proofs.ExplainEnds.{to_explain}
 use Rattle.predator_cli.proofs.explain.explain.Goals as goal

@@ -1,10 +1,10 @@
 use Rattle.std.proofs.Common.{◌≡◌, IfOk, List, ap, subst, ◌∙◌}
 use Rattle.guest.specs.Runs.{rest_of}
-use Rattle.takings.specs.Watched.{sited_run}
+use Rattle.invalidations.specs.Watched.{sited_run}
 use Rattle.objects.specs.Symbols.{Symbol, symbols_of}
 use Rattle.sharing_rules.specs.Lines.{Line}
 use Rattle.trace_passes.specs.Lives.{symbols_in}
-use Rattle.takings.specs.Text.{explain_text}
+use Rattle.invalidations.specs.Text.{explain_text}
 use Rattle.predator_cli.proofs.explain.watch.Goals as goal
 
 pub returns-clause-text : goal.returns-clause-text

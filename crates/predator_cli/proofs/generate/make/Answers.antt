@@ -2,7 +2,7 @@ use Rattle.std.proofs.Common.{◌≡◌, ◌∙◌, None, IfOk, ap, string_bytes
 use Rattle.base.specs.Levels.{Levels}
 use Rattle.base.specs.Lines.{Grid}
 use Rattle.detector.specs.TotalsOf.{totals_of}
-use Rattle.command_files.specs.SettingsFiles.{levels_of, native_of, usual_settings}
+use Rattle.command_io.specs.SettingsFiles.{levels_of, native_of, usual_settings}
 use Rattle.predator_cli.specs.Gen.{made_accesses, summary_of, summary_text}
 use Rattle.predator_cli.proofs.generate.make.Goals as goal
 

@@ -1,4 +1,4 @@
-use Rattle.command_files.specs.Arguments.{words_in}
+use Rattle.command_io.specs.Arguments.{words_in}
 use Rattle.command_line.specs.Demands.{texts}
 use Rattle.command_line.specs.Words.{demand_of}
 use Rattle.disk_shelf.specs.Disk.{disk_outside}

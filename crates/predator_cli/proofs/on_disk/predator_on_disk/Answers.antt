@@ -1,5 +1,5 @@
 use Rattle.std.specs.Process.{exit_status}
-use Rattle.command_files.specs.Arguments.{words_in}
+use Rattle.command_io.specs.Arguments.{words_in}
 use Rattle.command_line.specs.Demands.{texts}
 use Rattle.command_line.specs.Words.{demand_of}
 use Rattle.disk_shelf.specs.Disk.{disk_outside}

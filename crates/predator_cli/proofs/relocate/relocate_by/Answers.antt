@@ -24,7 +24,7 @@ returns-in-Ok g c = λ old accepted holds is_table.
       is_table = is_table;
     } in
     let copied = c.in-Ok.ensures.moved in
-    c.tell.ensures (asks d) old
+    c.print_copies.ensures (asks d) old
     (moved_worked d table moves old m b accepted
     (told_still (λ files. table_of (content files d.table) ≡ Ok table) m.held b.held
     copied.written.only.held holds) c.in-Ok.made _ copied

@@ -4,7 +4,7 @@ use Rattle.predator_cli.proofs.replay.count_from.Goals as goal
 pub returns-in-None-clause-counted : goal.returns-in-None-clause-counted
 returns-in-None-clause-counted g c =
     rw c.in-None.is (c.count_whole.ensures.counted c.args.layout c.args.thresholds
-    c.new-sightings.ensures.blank)
+    c.new-observations.ensures.blank)
 
 pub returns-in-Some-clause-counted : goal.returns-in-Some-clause-counted
 returns-in-Some-clause-counted g c =

@@ -2,7 +2,7 @@ use Rattle.std.proofs.Common.{List, ℕ, Some, subst}
 use Rattle.command_line.specs.Replay.{replay_meaning}
 use Rattle.command_line.specs.Words.{replay}
 use Rattle.shelf.specs.Files.{AreCut, AreWritten}
-use Rattle.command_files.specs.Works.{output_for}
+use Rattle.command_io.specs.Works.{output_for}
 use Rattle.predator_cli.proofs.ReplayEnds.{saved_cut, saved_worked}
 use Rattle.predator_cli.proofs.replay.show.Goals as goal
 

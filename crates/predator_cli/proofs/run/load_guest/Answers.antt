@@ -3,13 +3,13 @@ use Rattle.command_line.specs.Run.{run_meaning}
 use Rattle.guest.specs.Runs.{rest_of}
 use Rattle.program_files.specs.PlacedImages.{image_of}
 use Rattle.shelf.specs.Shelf.{Narrows, Told, content}
-use Rattle.command_files.specs.ProgramFiles.{program_reading, program_refusal, space_of}
-use Rattle.command_files.specs.Readings.{IsAccepted, IsStopped}
-use Rattle.command_files.specs.SettingsFiles.{chosen_settings, settings_in, settings_readings}
-use Rattle.command_files.specs.Laws.Settings.{program_alike}
-use Rattle.command_files.specs.Laws.Readings.{accepted_behind, alike_accepted, alike_stopped}
-use Rattle.command_files.specs.Laws.Readings.{memory_stopped, stopped_behind}
-use Rattle.command_files.specs.Laws.Readings.{stopped_first, told_again}
+use Rattle.command_io.specs.ProgramFiles.{program_reading, program_refusal, space_of}
+use Rattle.command_io.specs.Readings.{IsAccepted, IsStopped}
+use Rattle.command_io.specs.SettingsFiles.{chosen_settings, settings_in, settings_readings}
+use Rattle.command_io.specs.Laws.Settings.{program_alike}
+use Rattle.command_io.specs.Laws.Readings.{accepted_behind, alike_accepted, alike_stopped}
+use Rattle.command_io.specs.Laws.Readings.{memory_stopped, stopped_behind}
+use Rattle.command_io.specs.Laws.Readings.{stopped_first, told_again}
 use Rattle.shelf.specs.Laws.Told.{told_map, told_still}
 use Rattle.predator_cli.specs.Run.{run_readings, schedule_readings, symbol_records}
 use Rattle.predator_cli.proofs.RunLaws.{run_told}

@@ -2,10 +2,10 @@ use Rattle.std.proofs.Common.{◌≡◌, ◌∙◌, ℕ, List, None, IfErr, IfOk
 use Rattle.guest.specs.Runs.{rest_of}
 use Rattle.shelf.specs.Files.{AreCut, AreWritten, Output}
 use Rattle.run_recorder.specs.Recorded.{outputs_for, trace_for}
-use Rattle.sightings.specs.Sights.{nothing_sighted}
+use Rattle.observations.specs.ObservedTraces.{nothing_observed}
 use Rattle.trace_format.specs.declared.record.TraceRecord.{TraceRecord}
 use Rattle.trace_format.specs.declared.record.Version.{Version}
-use Rattle.command_files.specs.SettingsFiles.{levels_of, native_of}
+use Rattle.command_io.specs.SettingsFiles.{levels_of, native_of}
 use Rattle.predator_cli.specs.Replay.{report_of}
 use Rattle.predator_cli.specs.Run.{version_with}
 use Rattle.predator_cli.proofs.RunEnds.{handed_apart, handed_on}
@@ -35,8 +35,8 @@ returns-clause-text g c =
     c.version_with.result (version_with c.args.options.now.pcs)
     c.args.loaded.guest.setup.harts s.harts c.deref.result.now c.args.loaded.symbols.items
     c.version_with.ensures c.requires.harts c.deref.ensures.value
-    (c.show_run.ensures.text (native_of s) (levels_of None s) (c.new-sightings.ensures.blank
-    ∙ λ i. nothing_sighted (c.native_layout.ensures i)
+    (c.show_run.ensures.text (native_of s) (levels_of None s) (c.new-observations.ensures.blank
+    ∙ λ i. nothing_observed (c.native_layout.ensures i)
     (c.thresholds_of-thresholds.ensures.value i)))
 
 pub returns-clause-written : goal.returns-clause-written

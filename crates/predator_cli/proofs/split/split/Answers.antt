@@ -18,7 +18,7 @@ returns-in-Ok g c =
     let b = g.S.Shelf.outside c.split_trace.new.shelf in
     let copied = c.in-Ok.ensures.copied in
     let all = length (touches_in copied.trace.items) in
-    c.tell.ensures (split d) a
+    c.print_copies.ensures (split d) a
     (copy_worked (split d) d.trace (split_text d.at) (halves d.at d.first d.second)
     (is_split d (c.a_trace_counts_in_parts.ensures d)) a b _ copied
     (ap (copy_text (codes "split") c.in-Ok.made.cut) copied.told.1

@@ -3,8 +3,8 @@ use Rattle.std.proofs.lemmas.Result.{IfErr-weaker, IfOk-weaker}
 use Rattle.saved_state.specs.Resuming.{Resumption, resumption}
 use Rattle.saved_state.specs.ObjectJudging.{objects_judged}
 use Rattle.base.specs.declared.faults.ResumeFault.TheVariants as resume
-use Rattle.command_files.specs.Readings.{IsJudged}
-use Rattle.command_files.specs.declared.status.Status.{Status}
+use Rattle.command_io.specs.Readings.{IsJudged}
+use Rattle.command_io.specs.declared.status.Status.{Status}
 use Rattle.predator_cli.specs.States.{resumed_state, state_refusal}
 use Rattle.predator_cli.proofs.StateFiles.{objects_found, objects_refused}
 use Rattle.predator_cli.proofs.state_file.take_up.Goals as goal

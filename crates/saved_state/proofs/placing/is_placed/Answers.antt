@@ -1,6 +1,6 @@
 use Rattle.std.proofs.Common.{◌≡◌, ◌∙◌, ◌&&◌, List, ap, sym, true}
 use Rattle.std.specs.List.{list_all}
-use Rattle.line_tracks.specs.Kept.{Kept}
+use Rattle.line_tracks.specs.TrackValue.{TrackValue}
 use Rattle.line_tracks.specs.Placed.{is_placed_before}
 use Rattle.saved_state.specs.Parts.{header_meant, kept_of}
 use Rattle.saved_state.specs.Units.{is_kind_placed}
@@ -13,7 +13,7 @@ returns-then-comes_last-clause-value g c =
     let w = c.args.detector.now in
     let x = kept_of c.args.track.now in
     let all : list_all (λ y. is_placed_before y x) w.tracks ≡ true =
-    ap (λ (ts : List Kept). list_all (λ y. is_placed_before y x) ts) (sym c.tracks.ensures.value)
+    ap (λ (ts : List TrackValue). list_all (λ y. is_placed_before y x) ts) (sym c.tracks.ensures.value)
     ∙ sym c.comes_last.ensures ∙ c.if-comes_last.true in
     c.is_kind_placed.ensures
     ∙ sym (ap (λ b. b && is_kind_placed h (counted_lines w.writes) w.tracks x x.kind) all)

@@ -6,7 +6,7 @@ use Rattle.saved_state.specs.Parts.{header_meant, kept_of}
 use Rattle.saved_state.specs.Spelling.{spell_track}
 use Rattle.saved_state.specs.Units.{IsSized, track_in}
 use Rattle.saved_state.specs.declared.state_parts.SavedTrack.{SavedTrack}
-use Rattle.line_tracks.specs.Kept.{IsBlank, IsInTime}
+use Rattle.line_tracks.specs.TrackValue.{IsBlank, IsInTime}
 use Rattle.saved_state.specs.Ready.{IsReady, tracks_at, tracks_read}
 use Rattle.saved_state.specs.Saving.{counted_lines}
 use Rattle.saved_state.proofs.AddLaws.{bad_track, can_add_track, next_track, placed_track}

@@ -3,7 +3,7 @@ use Rattle.std.proofs.lemmas.List.Sorted.{IsPermutation-map, answers_always}
 use Rattle.std.specs.Cmp.{IsStrictWeakOrder}
 use Rattle.std.specs.List.Sorted.{IsPermutation}
 use Rattle.sharing_rules.specs.Laws.Orders.{in_order-from_sorted}
-use Rattle.line_tracks.specs.Kept.{Kept}
+use Rattle.line_tracks.specs.TrackValue.{TrackValue}
 use Rattle.line_tracks.specs.Placed.{is_placed_before}
 use Rattle.line_tracks.specs.Laws.Placed.{is_placed_before-ranks}
 use Rattle.saved_state.specs.WrittenParts.{track_of}
@@ -27,7 +27,7 @@ returns c =
     let shown : map track_of refs ≡ c.args.tracks.now = c.in_ok-refs.ensures in
     in_order-from_sorted is_placed_before is_placed_before-ranks c.args.tracks.now
     (map track_of sorted) c.requires
-    (subst (λ (xs : List Kept). IsPermutation xs (map track_of sorted)) shown
+    (subst (λ (xs : List TrackValue). IsPermutation xs (map track_of sorted)) shown
     (IsPermutation-map track_of refs sorted c.in_ok-sort_by.ensures.permutation))
     (sorted-map track_of is_placed_before sorted
     (c.in_ok-sort_by.ensures.sorted is_before refs-rank

@@ -1,7 +1,7 @@
 use Rattle.std.proofs.Common.{◌≡◌, ℕ, ◌/◌, true, List, sym, ap, ◌∙◌, subst, arith, inl, inr}
 use Rattle.std.proofs.lemmas.Bool.{cases_Bool}
 use Rattle.std.specs.Prelude.{IsTrue, None, Some, if◌then◌else◌, option_and_then, option_map}
-use Rattle.line_tracks.specs.Kept.{IsBlank, IsInTime, saved}
+use Rattle.line_tracks.specs.TrackValue.{IsBlank, IsInTime, saved}
 use Rattle.line_tracks.specs.RangeWords.{RangeWords}
 use Rattle.saved_state.specs.Parts.{are_words, head_meant, header_meant, most_of}
 use Rattle.saved_state.specs.Units.{size_of, words_at}

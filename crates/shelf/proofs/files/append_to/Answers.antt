@@ -19,4 +19,4 @@ returns-in_err-extend_from_slice-clause-err c =
 pub returns-in_default-clause-ok : goal.returns-in_default-clause-ok
 returns-in_default-clause-ok c =
     absurd (no_file c.args.name.now c.args.files.now.items
-    (λ i e. c.in_default.not-Some i (cc (c.place_of.ensures, c.deref.ensures.value, e))) c.requires)
+    (λ i e. c.in_default.not-Some i (cc (c.index_of_file.ensures, c.deref.ensures.value, e))) c.requires)

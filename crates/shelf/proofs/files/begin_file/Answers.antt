@@ -18,5 +18,5 @@ returns-clause-ok c =
     ChangesAt c.args.name.now (λ old new. new ≡ Some []) (file_of c.args.files.now.items)
     (file_of items) in
     subst P (sym e) (pushed c.args.name.now c.args.files.now.items file
-    (λ i e. c.in_default.not-Some i (cc (c.place_of.ensures, c.deref.ensures.value, e)))
+    (λ i e. c.in_default.not-Some i (cc (c.index_of_file.ensures, c.deref.ensures.value, e)))
     c.in_ok-name.ensures.ok c.new.ensures.items)

@@ -13,4 +13,4 @@ returns-in-Some c =
 
 pub returns-in-None : goal.returns-in-None
 returns-in-None c = sym (none_file c.args.name.now c.args.files.now
-    (λ i e. cc (c.place_of.ensures, c.in-None.is, e)))
+    (λ i e. cc (c.index_of_file.ensures, c.in-None.is, e)))

@@ -33,5 +33,5 @@ pub returns-in-None-clause-found : goal.returns-in-None-clause-found
 returns-in-None-clause-found c = (
   (λ e. cc),
   (λ some. absurd (no_file c.args.name.now c.args.files.now
-      (λ i e. cc (c.place_of.ensures, c.in-None.is, e)) some)),
+      (λ i e. cc (c.index_of_file.ensures, c.in-None.is, e)) some)),
 )

@@ -1,6 +1,6 @@
 use Rattle.std.proofs.Common.{◌≡◌, ◌≤◌, ◌+◌, None, length, refl, sym, arith}
 use Rattle.trace_format.specs.Rules.{longest_trace}
-use Rattle.trace_format.specs.Reading.{place_of}
+use Rattle.trace_format.specs.Reading.{place_reached}
 use Rattle.trace_format.proofs.ReadParts.{fault_ends, front_extent, none_there, nothing_read}
 use Rattle.trace_format.proofs.ReadParts.{part_is_read, part_is_some, rest_waits}
 use Rattle.trace_format.proofs.ReadParts.{run_is_read}
@@ -38,12 +38,12 @@ loop-alloc-preserved c =
     let clean : c.loop-alloc.state.fault ≡ None = none_there _ (sym c.loop-alloc-test.ensures) in
     let run = c.read_accesses-front in
     let size : c.extent_in-size.result ≤ length run.result.now = omega arith in
-    let low : place_of run.new.state.progress + length run.result.now ≤ longest_trace = omega (
+    let low : place_reached run.new.state.progress + length run.result.now ≤ longest_trace = omega (
       arith,
       run.ensures.exact,
       c.loop-alloc.invariant.low,
     ) in
-    let fits : place_of run.new.state.progress + c.extent_in-size.result ≤ longest_trace =
+    let fits : place_reached run.new.state.progress + c.extent_in-size.result ≤ longest_trace =
     omega arith in
     let to = run_is_read _ _ _ c.loop-alloc.state c.loop-alloc.rest.now c.loop-alloc.into.items
     clean c.loop-alloc.invariant.read

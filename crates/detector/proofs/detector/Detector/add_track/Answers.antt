@@ -1,5 +1,5 @@
 use Rattle.std.proofs.Common.{List, ap, sym, subst, ◌∙◌}
-use Rattle.line_tracks.specs.Kept.{Kept, saved}
+use Rattle.line_tracks.specs.TrackValue.{TrackValue, saved}
 use Rattle.detector.specs.Adding.{CanAddTrack, with_track}
 use Rattle.base.specs.Levels.{Levels}
 use Rattle.detector.specs.Entries.{entry_at}
@@ -33,7 +33,7 @@ invariant_of-self g c = (
 pub returns-clause-added : goal.returns-clause-added
 returns-clause-added g c = on_ok_weaker c.add_saved.result
     (λ added. rw c.add_saved.ensures.counts
-    (ap (λ (xs : List Kept). watch_of (g.I.LineIndex.entries c.self.inside.index) xs
+    (ap (λ (xs : List TrackValue). watch_of (g.I.LineIndex.entries c.self.inside.index) xs
     c.self.inside.layout c.self.inside.thresholds c.self.inside.position) added
     ∙ ap (λ (w : Watch). with_track w (saved c.args.kind c.args.shadow c.args.start c.args.count))
     c.self.view_is))

@@ -10,7 +10,7 @@ use Rattle.detector.proofs.detector.Detector.has_track.Goals as goal
 
 pub returns : goal.returns
 returns g c =
-    c.is_some.ensures ∙ ap is_some c.place_of.ensures
+    c.is_some.ensures ∙ ap is_some c.named_track.ensures
     ∙ ap (λ (e : LineEntry). is_some (place_in e c.args.kind)) c.peek.ensures
     ∙ sym (is_some-kept (names_in (entry_at (g.I.LineIndex.entries c.self.inside.index)))
     c.self.inside.layout c.self.inside.tracks

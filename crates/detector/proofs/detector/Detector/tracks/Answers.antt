@@ -4,7 +4,7 @@ use Rattle.std.specs.Prelude.{IsTrue, Some, slice_get}
 use Rattle.base.specs.Lines.{is_layout}
 use Rattle.sharing_rules.specs.Listed.{may_predict}
 use Rattle.detector.specs.Entries.{entry_at}
-use Rattle.line_tracks.specs.Kept.{Kept}
+use Rattle.line_tracks.specs.TrackValue.{TrackValue}
 use Rattle.line_tracks.specs.Placed.{AreApart}
 use Rattle.detector.specs.Index.{IsShaped, names_in}
 use Rattle.detector.specs.Named.{line_of_base}
@@ -21,7 +21,7 @@ IsAllowed w = IsTrue (is_layout w.grid.size w.grid.offset) × IsTrue (may_predic
 
 -- each track lies as its kind says
 abbrev AreShaped : Watch → Type 0
-AreShaped w = (i : ℕ) (x : Kept) → slice_get w.tracks i ≡ Some x
+AreShaped w = (i : ℕ) (x : TrackValue) → slice_get w.tracks i ≡ Some x
     → IsShaped w.grid (line_of_base w.grid x.range) x.kind x.range
 
 pub returns-clause-apart : goal.returns-clause-apart

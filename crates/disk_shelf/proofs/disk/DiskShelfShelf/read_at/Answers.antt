@@ -18,8 +18,8 @@ returns-in-Ok-clause-stays g c =
 pub returns-in-Err-clause-cause : goal.returns-in-Err-clause-cause
 returns-in-Err-clause-cause g c =
     rw (← c.self.view_is) (fault_cause_at c.args.name.now c.self.inside.reads
-    c.tell_and_count.new.count c.tell_and_count.result
-    c.tell_and_count.ensures.later c.tell_and_count.ensures.counted)
+    c.report_and_count.new.count c.report_and_count.result
+    c.report_and_count.ensures.later c.report_and_count.ensures.counted)
 
 pub returns-in-Ok-clause-only : goal.returns-in-Ok-clause-only
 returns-in-Ok-clause-only g c =

@@ -1,6 +1,6 @@
 use Rattle.std.proofs.Common.{◌+◌, ap, arith, refl, subst, sym, ◌∙◌}
 use Rattle.finite_cache.specs.Counts.{one_if}
-use Rattle.finite_cache.specs.Kept.{Kept, StandsFor}
+use Rattle.finite_cache.specs.CacheState.{CacheState, StandsFor}
 use Rattle.finite_cache.specs.KeptParts.{parts_of}
 use Rattle.finite_cache.specs.Laws.Fits.{fit-step}
 use Rattle.finite_cache.specs.Laws.Shapes.{some-sets}
@@ -19,13 +19,13 @@ invariant_of-self-2 c =
 pub returns-clause-stands : goal.returns-clause-stands
 returns-clause-stands c =
     let s = c.self.inside in
-    let old : Kept = record {
+    let old : CacheState = record {
       shape = s.shape;
       position = s.position;
       evicted = s.evicted;
       parts = parts_of s.sets s.lines s.rows;
     } in
-    let new : Kept = record {
+    let new : CacheState = record {
       shape = s.shape;
       position = s.position + 1;
       evicted = s.evicted + c.one_if.result;

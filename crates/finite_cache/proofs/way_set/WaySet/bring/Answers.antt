@@ -4,7 +4,7 @@ use Rattle.std.specs.Map.{keys_of}
 use Rattle.std.specs.Prelude.{IfOk, OnOk, slice_get}
 use Rattle.lru.specs.LruCache.{LruCache}
 use Rattle.finite_cache.specs.Bounded.{has, in_front}
-use Rattle.finite_cache.specs.Kept.{WaySet}
+use Rattle.finite_cache.specs.CacheState.{WaySet}
 use Rattle.finite_cache.specs.Laws.Ways.{both-on, found-has, known-left, known-used}
 use Rattle.finite_cache.specs.Laws.Ways.{promoted-same, refused-on, ways_of}
 use Rattle.finite_cache.proofs.way_set.WaySet.bring.Goals as goal

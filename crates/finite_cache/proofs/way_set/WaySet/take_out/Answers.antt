@@ -3,7 +3,7 @@ use Rattle.std.specs.Map.{keys_of}
 use Rattle.std.specs.Prelude.{is_some}
 use Rattle.lru.specs.LruCache.{LruCache}
 use Rattle.finite_cache.specs.Bounded.{has, without}
-use Rattle.finite_cache.specs.Kept.{WaySet}
+use Rattle.finite_cache.specs.CacheState.{WaySet}
 use Rattle.finite_cache.specs.Laws.Ways.{found-has, keys-removed, ways_of}
 use Rattle.finite_cache.proofs.way_set.WaySet.take_out.Goals as goal
 

@@ -1,7 +1,7 @@
 -- An access elsewhere leaves the track that of the list.
 use Rattle.std.proofs.Common.{◌≡◌, false, rules}
 use Rattle.base.specs.Ranges.{holds_address}
-use Rattle.line_tracks.specs.Laws.Kept.{kept-elsewhere}
+use Rattle.line_tracks.specs.Laws.TrackValue.{kept-elsewhere}
 use Rattle.line_tracks.proofs.track.Track.contains.Goals as goal
 
 pub returns-clause-elsewhere : goal.returns-clause-elsewhere

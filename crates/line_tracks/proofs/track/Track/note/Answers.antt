@@ -5,16 +5,16 @@ use Rattle.base.specs.Lines.{is_layout}
 use Rattle.base.specs.Ranges.{holds_address}
 use Rattle.base.specs.Touch.{Touch}
 use Rattle.sharing_rules.specs.Lines.{Line}
-use Rattle.line_tracks.specs.Kept.{IsTrackOf, Kept, note_kept}
-use Rattle.line_tracks.specs.Laws.Kept.{kept-push, untouched-none}
+use Rattle.line_tracks.specs.TrackValue.{IsTrackOf, TrackValue, note_kept}
+use Rattle.line_tracks.specs.Laws.TrackValue.{kept-push, untouched-none}
 use Rattle.line_tracks.proofs.track.Track.note.Goals as goal
 
-noted-follows : (l : Line) (from : ℕ) (t : List Touch) (a : Touch) (x y : Kept) (p : ℕ)
+noted-follows : (l : Line) (from : ℕ) (t : List Touch) (a : Touch) (x y : TrackValue) (p : ℕ)
     → is_layout l.size l.offset ≡ true → length t ≡ p → from ≤ p
     → holds_address x.range a.addr ≡ true → y ≡ note_kept x p a
     → IsTrackOf l from t x → IsTrackOf l from (t ++ a ∷ []) y
 noted-follows l from t a x y p allowed at due inside is old =
-    subst (λ (z : Kept). IsTrackOf l from (t ++ a ∷ []) z) (sym is)
+    subst (λ (z : TrackValue). IsTrackOf l from (t ++ a ∷ []) z) (sym is)
     (kept-push l from t a x p allowed at due inside old)
 
 pub note-requires-clause-room : goal.note-requires-clause-room

@@ -1,5 +1,5 @@
 -- A new track has no start.
-use Rattle.line_tracks.specs.Laws.Kept.{kept-new}
+use Rattle.line_tracks.specs.Laws.TrackValue.{kept-new}
 use Rattle.line_tracks.proofs.tracks.Tracks.add.Goals as goal
 
 pub returns-in-Ok-clause-stands : goal.returns-in-Ok-clause-stands

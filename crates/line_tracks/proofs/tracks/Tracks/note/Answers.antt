@@ -1,8 +1,8 @@
 -- The track at the place is the one that is lent.
 use Rattle.std.proofs.Common.{◌≡◌, ◌+◌, Some, sym, ap, ◌∙◌, subst}
 use Rattle.std.specs.Prelude.{slice_get}
-use Rattle.line_tracks.specs.Kept.{IsInTime, Kept, note_kept}
-use Rattle.line_tracks.specs.Laws.Kept.{kept-push}
+use Rattle.line_tracks.specs.TrackValue.{IsInTime, TrackValue, note_kept}
+use Rattle.line_tracks.specs.Laws.TrackValue.{kept-push}
 use Rattle.line_tracks.proofs.ReadLaws.{same_held}
 use Rattle.line_tracks.proofs.tracks.Tracks.note.Goals as goal
 use Rattle.sharing_rules.specs.Laws.Lists.{slice_get-seen}
@@ -31,8 +31,8 @@ returns-clause-in_time g c = λ x e.
     c.requires.there c.index_mut-track.ensures.value in
     let same : x ≡ c.index_mut-track.result.now =
     same_held c.args.self.now c.args.index x _ there e in
-    subst (λ (k : Kept). IsInTime k (c.args.position + 1))
-    (c.note.ensures.exact ∙ ap (λ (k : Kept). note_kept k c.args.position c.args.access) (sym same))
+    subst (λ (k : TrackValue). IsInTime k (c.args.position + 1))
+    (c.note.ensures.exact ∙ ap (λ (k : TrackValue). note_kept k c.args.position c.args.access) (sym same))
     c.note.ensures.in_time
 
 pub returns-clause-follows : goal.returns-clause-follows

@@ -1,7 +1,7 @@
 -- The track at the place is the one that is lent.
 use Rattle.std.proofs.Common.{◌≡◌, Some, sym, ap, ◌∙◌}
 use Rattle.std.specs.Prelude.{slice_get}
-use Rattle.line_tracks.specs.Kept.{Kept, Marked, note_kept, restored}
+use Rattle.line_tracks.specs.TrackValue.{TrackValue, Marked, note_kept, restored}
 use Rattle.line_tracks.proofs.ReadLaws.{same_held}
 use Rattle.line_tracks.proofs.UndoLaws.{undone}
 use Rattle.line_tracks.proofs.tracks.Tracks.restore.Goals as goal
@@ -31,7 +31,7 @@ returns-clause-undoes c = λ x position a e marked.
     let same : note_kept x position a ≡ c.index_mut-track.result.now =
     same_held c.args.self.now c.args.index _ _ there e in
     let back : c.restore.new.self ≡ x =
-    c.restore.ensures ∙ ap (λ (k : Kept). restored k c.args.mark) (sym same)
+    c.restore.ensures ∙ ap (λ (k : TrackValue). restored k c.args.mark) (sym same)
     ∙ ap (λ (m : Marked). restored (note_kept x position a) m)
     marked ∙ undone x position a in
     rw (back, c.self.view_is)

@@ -2,7 +2,7 @@ use Rattle.std.proofs.Common.{◌+◌, ◌∙◌, ap, sym, subst, ℕ}
 use Rattle.base.specs.Lines.{line_number}
 use Rattle.sharing_rules.specs.Lines.{Line}
 use Rattle.misses.specs.Fits.{AreFit, IsWithin}
-use Rattle.misses.specs.Kept.{StandsFor, note_in}
+use Rattle.misses.specs.MissCounts.{StandsFor, note_in}
 use Rattle.misses.specs.Laws.Fits.{counts-within, line_small, note_in-fit}
 use Rattle.misses.specs.Laws.KeptOf.{stands-noted}
 use Rattle.misses.proofs.all_lines.Misses.on_access.Goals as goal

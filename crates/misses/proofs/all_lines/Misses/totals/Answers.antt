@@ -1,5 +1,5 @@
 use Rattle.std.proofs.Common.{◌≡◌, ◌∙◌, sym, subst}
-use Rattle.misses.specs.Kept.{Kept, StandsFor}
+use Rattle.misses.specs.MissCounts.{MissCounts, StandsFor}
 use Rattle.misses.specs.Laws.Totals.{totals-stand}
 use Rattle.misses.specs.Rows.{all_costs}
 use Rattle.misses.proofs.all_lines.Misses.totals.Goals as goal
@@ -9,7 +9,7 @@ returns-clause-stands c =
     let s = c.self.inside in
     λ t stands.
     let here = subst (StandsFor t) (sym c.self.view_is) stands in
-    subst (λ (k : Kept). c.costs.result ≡ all_costs k.grid t) c.self.view_is
+    subst (λ (k : MissCounts). c.costs.result ≡ all_costs k.grid t) c.self.view_is
     (c.costs.ensures ∙ totals-stand (record {
       grid = s.layout;
       position = s.position;

@@ -1,5 +1,5 @@
 use Rattle.std.proofs.Common.{◌∙◌, sym, []}
-use Rattle.objects.proofs.Places.{entry_of, seen}
+use Rattle.objects.proofs.SymbolKeys.{entry_of, seen}
 use Rattle.objects.proofs.table.ObjectTable.has_symbol.Goals as goal
 
 pub returns : goal.returns

@@ -1,7 +1,7 @@
 use Rattle.std.proofs.Common.{◌≡◌, ◌∙◌, sym, map, true≢false}
 use Rattle.objects.specs.Symbols.{kept_symbol}
 use Rattle.objects.proofs.Lives.{other_symbols}
-use Rattle.objects.proofs.Places.{entry_of, kept, noted, seen, symbol_in, unknown}
+use Rattle.objects.proofs.SymbolKeys.{entry_of, kept, noted, seen, symbol_in, unknown}
 use Rattle.objects.specs.Laws.Symbols.{symbols_after}
 use Rattle.objects.proofs.SymbolLaws.{added, behind, still, whole}
 use Rattle.objects.proofs.table.ObjectTable.note_symbol.Goals as goal

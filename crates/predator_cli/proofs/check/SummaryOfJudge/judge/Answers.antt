@@ -2,8 +2,8 @@ use Rattle.std.proofs.Common.{◌≡◌, ◌∙◌, ap}
 use Rattle.program_files.specs.PlacedImages.{IsImageOf}
 use Rattle.program_files.specs.Symbols.{symbols_of}
 use Rattle.program_files.specs.Summaries.{placed_text}
-use Rattle.command_files.specs.ProgramFiles.{space_of}
-use Rattle.command_files.specs.ProgramFiles.{program_refusal}
+use Rattle.command_io.specs.ProgramFiles.{space_of}
+use Rattle.command_io.specs.ProgramFiles.{program_refusal}
 use Rattle.predator_cli.proofs.Wanted.{judged_wanted}
 use Rattle.predator_cli.proofs.check.SummaryOfJudge.judge.Goals as goal
 

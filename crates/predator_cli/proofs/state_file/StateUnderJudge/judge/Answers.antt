@@ -1,8 +1,8 @@
 use Rattle.std.proofs.Common.{◌≡◌, ◌∙◌, Option, subst, sym, ap}
 use Rattle.std.proofs.lemmas.Result.{IfErr-weaker, IfOk-weaker}
 use Rattle.saved_state.specs.Resuming.{Resumption, resumption}
-use Rattle.command_files.specs.Readings.{IsJudged}
-use Rattle.command_files.specs.declared.status.Status.{Status}
+use Rattle.command_io.specs.Readings.{IsJudged}
+use Rattle.command_io.specs.declared.status.Status.{Status}
 use Rattle.predator_cli.specs.States.{judged_state, resumed_state, state_refusal}
 use Rattle.predator_cli.proofs.StateFiles.{accepted_where, detector_judged, state_resumed}
 use Rattle.predator_cli.proofs.state_file.StateUnderJudge.judge.Goals as goal

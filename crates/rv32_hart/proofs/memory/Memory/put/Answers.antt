@@ -17,7 +17,7 @@ invariant_of-self c =
     } in
     let accepted : store_fault m c.args.addr c.args.size ≡ None = rw (← c.self.view_is) at
     c.requires.accepted in
-    let at : c.place_of-at.result ≡ c.args.addr - m.base = c.place_of-at.ensures.same
+    let at : c.byte_index-at.result ≡ c.args.addr - m.base = c.byte_index-at.ensures.same
     ∙ ap (λ (s : Space). c.args.addr - s.base) (sym c.self.view_is) in
     let page : c.page_of-executable.result ≡ page_at m c.args.addr =
     c.page_of-executable.ensures.page

@@ -1,7 +1,7 @@
 use Rattle.std.proofs.Common.{◌≡◌, ◌≤◌, ◌+◌, length, [], ◌++◌, List, ℕ, None, ap, subst, ◌∙◌, arith}
 use Rattle.std.proofs.lemmas.List.{length-append}
 use Rattle.trace_format.specs.Rules.{longest_trace}
-use Rattle.trace_format.specs.Reading.{Reading, place_of, taken}
+use Rattle.trace_format.specs.Reading.{Reading, place_reached, taken}
 use Rattle.trace_format.specs.ReaderStates.{KeepsHead, reading_with}
 use Rattle.trace_format.proofs.Heads.{as_before, keeps_with}
 use Rattle.trace_format.proofs.ReadParts.{head_first}
@@ -67,8 +67,8 @@ invariant_of-self c =
     let now = c.kept_of-pending.new.state in
     let rest = c.read_parts-rest.result.now in
     let kept = c.kept_of-pending.result.items in
-    let same : place_of s.progress + length old ≡ taken c.args.self.now = ap taken c.self.view_is in
-    let low : place_of s.progress + length old + length piece ≤ longest_trace = omega
+    let same : place_reached s.progress + length old ≡ taken c.args.self.now = ap taken c.self.view_is in
+    let low : place_reached s.progress + length old + length piece ≤ longest_trace = omega
     (arith, c.requires.low) in
     let size : length c.deref-2.result.now ≡ length old + length piece = ap length (bytes_are w)
     ∙ length-append old piece in (

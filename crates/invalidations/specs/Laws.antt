@@ -1,0 +1,20 @@
+-- What follows from the definitions. A law stands here with its proof, so that other crates can
+-- cite it.
+pub mod Another
+pub mod BlameCounts
+pub mod BlameFits
+pub mod BlameKept
+pub mod BlameLines
+pub mod BlameRecords
+pub mod BlameTables
+pub mod BlameText
+pub mod Bounds
+pub mod Groups
+pub mod KeptOf
+pub mod Latest
+pub mod Listed
+pub mod OneWord
+pub mod Rows
+pub mod Sums
+pub mod Invalidations
+pub mod Two

@@ -1,0 +1,16 @@
+pub mod Blame
+pub mod BlameFits
+pub mod BlameInside
+pub mod BlameKept
+pub mod BlameRecords
+pub mod BlameRows
+pub mod BlameText
+pub mod Groups
+pub mod Inside
+pub mod LineInvalidations
+pub mod Latest
+pub mod Laws
+pub mod Rows
+pub mod Invalidations
+pub mod Text
+pub mod Watched

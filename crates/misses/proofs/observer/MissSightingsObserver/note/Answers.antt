@@ -1,5 +1,0 @@
-use Rattle.misses.proofs.SeenLaws.{room_for_miss}
-use Rattle.misses.proofs.observer.MissSightingsObserver.note.Goals as goal
-
-pub note-requires : goal.note-requires
-note-requires c = room_for_miss c.args.self.now c.args.item.now c.requires.room

@@ -1,0 +1,5 @@
+pub mod Laws
+pub mod Origins
+pub mod Seen
+pub mod ObservedTraceCode
+pub mod ObservedTraces

@@ -1,6 +1,0 @@
-pub mod BlameLaws
-pub mod PlaceLaws
-pub mod TextLaws
-pub mod Watching
-pub mod WorkedBlame
-pub mod WorkedTakings

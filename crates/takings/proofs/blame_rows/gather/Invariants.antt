@@ -1,8 +1,0 @@
-use Rattle.std.proofs.Common.{◌≡◌, ℕ, take}
-use Rattle.takings.specs.BlameKept.{rows_in}
-use Rattle.takings.specs.BlameRows.{gathered_at}
-use Rattle.takings.proofs.blame_rows.gather.Given as goal
-
-abbrev pub invariant-loop-i : goal.invariant-loop-i
-invariant-loop-i l =
-    (r : ℕ) → gathered_at l.gathered.entries r ≡ rows_in r (take l.i l.table.entries)

@@ -1,8 +1,0 @@
-use Rattle.std.proofs.Common.{◌≡◌, ◌++◌, map, string_bytes, take}
-use Rattle.base.specs.TextLines.{text_of}
-use Rattle.takings.specs.Text.{pair_line}
-use Rattle.takings.proofs.blame_text.push_pairs.Given as goal
-
-abbrev pub invariant-loop-pair : goal.invariant-loop-pair
-invariant-loop-pair l = string_bytes l.text ≡ string_bytes l.fn.text
-    ++ text_of (map pair_line (take l.pair-index l.pairs))

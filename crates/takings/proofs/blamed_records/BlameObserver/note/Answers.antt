@@ -1,6 +1,0 @@
-use Rattle.trace_passes.specs.Laws.Accounts.{room-for_one}
-use Rattle.takings.specs.BlameRecords.{blame_account}
-use Rattle.takings.proofs.blamed_records.BlameObserver.note.Goals as goal
-
-pub see-requires : goal.see-requires
-see-requires c = room-for_one blame_account c.args.self.now c.args.item.now c.requires.room

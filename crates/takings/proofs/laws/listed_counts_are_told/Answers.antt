@@ -1,7 +1,0 @@
--- What is found of a line has its count since its start.
-use Rattle.takings.specs.Latest.{accesses_of}
-use Rattle.takings.specs.Laws.Listed.{listed-counted}
-use Rattle.takings.proofs.laws.listed_counts_are_told.Goals as goal
-
-pub returns : goal.returns
-returns c = λ g v u f m. listed-counted g v (accesses_of u) f m

@@ -1,5 +1,0 @@
-use Rattle.takings.specs.Laws.BlameRecords.{sited-accesses}
-use Rattle.takings.proofs.laws.sited_lists_are_access_lists.Goals as goal
-
-pub returns : goal.returns
-returns c = sited-accesses

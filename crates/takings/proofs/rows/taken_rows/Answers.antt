@@ -1,9 +1,0 @@
-use Rattle.std.proofs.Common.{sym}
-use Rattle.takings.proofs.TextLaws.{rows_more}
-use Rattle.takings.proofs.rows.taken_rows.Goals as goal
-
-pub loop-i-preserved : goal.loop-i-preserved
-loop-i-preserved c =
-    rows_more c.args.table.now.entries c.loop-i.rows.items c.push.new.self.items c.loop-i.i
-    (c.in-Some.sides.now, c.in-Some.taken.now) (sym c.in-Some.ensures.entry) c.loop-i.invariant
-    c.in_ok-push-in-Some.ensures.items

@@ -1,9 +1,0 @@
-use Rattle.std.proofs.Common.{◌-◌}
-use Rattle.takings.proofs.Watching.{Watches}
-use Rattle.takings.proofs.watch.follow.Given as goal
-
-abbrev pub invariant-turns : goal.invariant-turns
-invariant-turns l = Watches l.initial.guest l.guest l.initial.explainer l.explainer
-
-abbrev pub decreases-turns : goal.decreases-turns
-decreases-turns l = l.guest.setup.budget - l.guest.config.steps
