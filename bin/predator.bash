@@ -52,12 +52,12 @@ _predator() {
         'explain') options="--settings --set --schedule" ;;
         'view') options="--top --object --words --library --predicted --no-predicted --explain --type --sources --html --json --json-version --sarif --against --fail-above --by --patch --program --map" ;;
         'campaign') options="--to --profile --cores --html --check" ;;
-        'native') options="--built --quantum --all --marked --child --pcs --no-pcs --most --trace --table --report --settings --size --shift --mend --build" ;;
+        'native') options="--built --quantum --all --marked --child --pcs --no-pcs --most --max-disk --trace --table --report --settings --size --shift --mend --build" ;;
         'view run') options="--top --object --words --library --predicted --no-predicted --explain --type --sources --html --json --json-version --sarif --against --fail-above --by --patch --latency --settings --set --schedule --trace --pcs --output" ;;
         'view replay') options="--top --object --words --library --predicted --no-predicted --explain --type --sources --html --json --json-version --sarif --against --fail-above --by --patch --program --map --settings --set --size --shift --save --resume" ;;
         'view sweep') options="--size --top --html" ;;
         'view caches') options="--shape --top --html" ;;
-        'view native') options="--top --object --words --library --predicted --no-predicted --explain --type --sources --html --json --json-version --sarif --against --fail-above --by --patch --built --quantum --all --marked --child --pcs --no-pcs --most --settings --set --size --shift" ;;
+        'view native') options="--top --object --words --library --predicted --no-predicted --explain --type --sources --html --json --json-version --sarif --against --fail-above --by --patch --built --quantum --all --marked --child --pcs --no-pcs --most --max-disk --settings --set --size --shift" ;;
     # (so far)
         *) return ;;
     esac

@@ -376,7 +376,10 @@ def list_faults() -> Iterator[Fault]:
         "place",
         "full",
         "pair",
-    ], 13, "place NoRoom", "the object's words do not fit between the last access and the end of the addresses: name a smaller object"
+    ], 13, "place NoRoom", (
+        "the object's words do not fit between the last access and th"
+        "e end of the addresses: name a smaller object"
+    )
     yield [
         "run",
         "plain.elf",
@@ -394,7 +397,10 @@ def list_faults() -> Iterator[Fault]:
     yield [
         "replay",
         "rest",
-    ], 6, "state WrongPosition 0 1", "rest: the first access of the trace is number 1, not 0: replay the parts before it first"
+    ], 6, "state WrongPosition 0 1", (
+        "rest: the first access of the trace is number 1, not 0: repl"
+        "ay the parts before it first"
+    )
     yield [
         "replay",
         "t",
@@ -414,10 +420,16 @@ def list_faults() -> Iterator[Fault]:
         "saved",
         "--size",
         "32",
-    ], 6, "state WrongSettings 8", "saved: the state was saved with another layout or thresholds, as byte 8 shows: use the same"
+    ], 6, "state WrongSettings 8", (
+        "saved: the state was saved with another layout or thresholds"
+        ", as byte 8 shows: use the same"
+    )
     yield [
         "replay",
         "rest",
         "--resume",
         "saved",
-    ], 6, "state WrongPosition 2 1", "rest: its first access is number 1, not 2: count the parts before it first"
+    ], 6, "state WrongPosition 2 1", (
+        "rest: the first access of the trace is number 1, not 2: "
+        "replay the parts before it first"
+    )
