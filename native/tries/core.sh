@@ -5,6 +5,7 @@
 # shellcheck disable=SC2154
 
 gcc -O1 -g -pthread "$here/tries/core.c" -o core
+gcc -O1 -g -pthread "$here/tries/long.c" -o long
 odd_core() { # MODE STATUS OUTPUT [PART]: what the program prints and ends with; standard error has the part, or nothing
     local said
     said=$(timeout 120 "$run" --trace o -- ./core "$1" 2>o.log)
@@ -44,6 +45,25 @@ odd_core calls 3 "-1
 expect_equal "core: calls: said once, in a line" 1 "$(grep -c -v "no access was recorded" o.log)"
 refused "no program by PATH" 127 "\`-- ./core\` is the one in this folder" --trace o -- core
 rm -f o o.* same same.table vgcore.*
+
+# How far the recording is, on a terminal and nowhere else.
+if command -v script >/dev/null; then
+    gcc -O1 -g -pthread "$here/tries/forever.c" -o forever
+    script -qec "$run --trace o -- $work/forever" /dev/null >shown 2>&1 </dev/null &
+    pid=$!
+    for _ in $(seq 1 600); do
+        if grep -q -E "recording: [0-9]+ accesses, [0-9]+ MB" shown; then break; fi
+        sleep 0.1
+    done
+    # (the launcher's words name the program too, and it ends with the program)
+    pkill -f "^$work/forever|-- $work/forever"
+    wait $pid 2>/dev/null
+    expect_part "progress" "recording: " "$(cat shown)"
+    "$run" --trace o -- ./long >shown 2>&1
+    expect_equal "progress: only on a terminal" "sum 600000" "$(cat shown)"
+else
+    skip_checks 2 "progress: no \`script\` is there, which makes a terminal (Debian: bsdutils)"
+fi
 
 # Why a recording ended stands in its address map.
 why() { awk '$1 == "end" { word = $3 } END { print word }' "$1.table"; }
