@@ -121,13 +121,13 @@ ULong bytes_free(Int fd)
     return disk.blocks_available * disk.block_size;
 }
 
-Bool is_terminal(Int fd)
+static Bool is_terminal(Int fd)
 {
     UChar settings[64];
     return !sr_isError(CALL(__NR_ioctl, fd, VKI_TCGETS, settings, 0));
 }
 
-UInt milliseconds(void) { return VG_(read_millisecond_timer)(); }
+static UInt milliseconds(void) { return VG_(read_millisecond_timer)(); }
 #endif
 
 /* How many of the bytes were written, and why no more. */
