@@ -48,21 +48,6 @@ ULong bytes_free(Int fd)
     return is ? (ULong)disk.f_bavail * disk.f_bsize : NO_DISK;
 }
 
-Bool is_terminal(Int fd)
-{
-    int before = errno;
-    Bool is = isatty(fd);
-    errno = before;
-    return is;
-}
-
-UInt milliseconds(void)
-{
-    struct timespec now;
-    clock_gettime(CLOCK_MONOTONIC, &now);
-    return now.tv_sec * 1000UL + now.tv_nsec / 1000000;
-}
-
 Int predator_safe_fd(Int fd)
 {
     int least;

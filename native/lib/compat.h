@@ -12,6 +12,7 @@
 #include <stdint.h>
 #include <stdio.h>
 #include <string.h>
+#include <sys/ioctl.h>
 #include <sys/syscall.h>
 #include <time.h>
 #include <unistd.h>
@@ -153,5 +154,17 @@ Bool predator_get_objname(DiEpoch, Addr, const HChar **);
 UInt predator_get_StackTrace(ThreadId, Addr *calls, UInt most, Addr *, Addr *, Word);
 
 #include "../tool/trace.h"
+
+static inline Bool is_terminal(Int fd)
+{
+    UChar settings[64];
+    return !sr_isError(CALL(SYS_ioctl, fd, TCGETS, settings, 0));
+}
+static inline UInt milliseconds(void)
+{
+    struct timespec now;
+    clock_gettime(CLOCK_MONOTONIC, &now);
+    return now.tv_sec * 1000UL + now.tv_nsec / 1000000;
+}
 
 #endif

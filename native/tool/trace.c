@@ -121,13 +121,13 @@ ULong bytes_free(Int fd)
     return disk.blocks_available * disk.block_size;
 }
 
-Bool is_terminal(Int fd)
+static Bool is_terminal(Int fd)
 {
     UChar settings[64];
     return !sr_isError(CALL(__NR_ioctl, fd, VKI_TCGETS, settings, 0));
 }
 
-UInt milliseconds(void) { return VG_(read_millisecond_timer)(); }
+static UInt milliseconds(void) { return VG_(read_millisecond_timer)(); }
 #endif
 
 /* How many of the bytes were written, and why no more. */
@@ -194,12 +194,10 @@ static void judge_room(void)
     if (by_call)
         most = trace_max_bytes;
     if (own + 2 * LEAST_ROOM > most) {
-        HChar why[128];
+        HChar why[96];
         VG_(sprintf)
-        (why,
-         by_call ? "%llu bytes were written, as many as --max-disk allows"
-                 : "%llu bytes were written, half of what was free on their disk",
-         own);
+        (why, "%llu bytes were written, %s", own,
+         by_call ? "as many as --max-disk allows" : "half of what was free on their disk");
         trace_stop(by_call ? "max-disk" : "disk", why);
         return;
     }
@@ -452,10 +450,12 @@ void trace_end(Bool by_exit, Int code)
         finish(OUTCOME_PART, 0, "signal");
 }
 
+#ifndef PREDATOR_RUNTIME
 void trace_becomes(Bool another)
 {
     table_text("end %llu %s\n", another ? trace_accesses : 0, another ? "exec" : "none");
 }
+#endif
 
 void trace_stop(const HChar *word, const HChar *why)
 {

@@ -37,7 +37,5 @@ extern ULong trace_max_bytes; /* its file and the table's take no more than so m
 /* How much is free on the disk of a file, or NO_DISK where it is on none. */
 #define NO_DISK (~0ULL)
 ULong bytes_free(Int fd);
-Bool is_terminal(Int fd);
-UInt milliseconds(void);
 
 #endif

@@ -5,6 +5,7 @@
 # shellcheck disable=SC2154
 
 gcc -O1 -g -pthread "$here/tries/core.c" -o core
+gcc -O1 -g -pthread "$here/tries/long.c" -o long
 odd_core() { # MODE STATUS OUTPUT [PART]: what the program prints and ends with; standard error has the part, or nothing
     local said
     said=$(timeout 120 "$run" --trace o -- ./core "$1" 2>o.log)
@@ -45,6 +46,25 @@ expect_equal "core: calls: said once, in a line" 1 "$(grep -c -v "no access was 
 refused "no program by PATH" 127 "\`-- ./core\` is the one in this folder" --trace o -- core
 rm -f o o.* same same.table vgcore.*
 
+# How far the recording is, on a terminal and nowhere else.
+if command -v script >/dev/null; then
+    gcc -O1 -g -pthread "$here/tries/forever.c" -o forever
+    script -qec "$run --trace o -- $work/forever" /dev/null >shown 2>&1 </dev/null &
+    pid=$!
+    for _ in $(seq 1 600); do
+        if grep -q -E "recording: [0-9]+ accesses, [0-9]+ MB" shown; then break; fi
+        sleep 0.1
+    done
+    # (the launcher's words name the program too, and it ends with the program)
+    pkill -f "^$work/forever|-- $work/forever"
+    wait $pid 2>/dev/null
+    expect_part "progress" "recording: " "$(cat shown)"
+    "$run" --trace o -- ./long >shown 2>&1
+    expect_equal "progress: only on a terminal" "sum 600000" "$(cat shown)"
+else
+    skip_checks 2 "progress: no \`script\` is there, which makes a terminal (Debian: bsdutils)"
+fi
+
 # Why a recording ended stands in its address map.
 why() { awk '$1 == "end" { word = $3 } END { print word }' "$1.table"; }
 "$run" --trace o -- ./counters >/dev/null 2>&1
@@ -68,7 +88,7 @@ for row in "1024K 1048576" "1500K 1536000" "2M 2097152" "2000000 2000000"; do
 6" "$said"
     expect_part "--max-disk $size: it is said" "as many as --max-disk allows: the trace ends here" "$(cat o.log)"
     expect_equal "--max-disk $size: end" "part max-disk" "$("$judge" end o) $(why o)"
-    expect_between "--max-disk $size: both files" $((most / 2)) "$most" $(($(stat -c %s o) + $(stat -c %s o.table)))
+    expect_between "--max-disk $size: its file" $((most / 2)) "$most" "$(stat -c %s o)"
 done
 "$run" --trace whole -- ./counters >/dev/null 2>&1
 "$run" --max-disk 1M --trace o -- ./counters >/dev/null 2>&1

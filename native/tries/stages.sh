@@ -7,14 +7,16 @@
 gcc -O1 -g -pthread "$here/tries/long.c" -o long
 stages=$work/stages
 mkdir -p "$stages"
-begin_call() {
-    TMPDIR=$stages PYTHONDONTWRITEBYTECODE=1 setsid env --default-signal "$here/../bin/predator" view native --html "$stages/page.html" -- "$work/long" >said 2>&1 &
+gcc -O1 -g -pthread "$here/tries/forever.c" -o forever
+begin_call() { # [PROGRAM]
+    TMPDIR=$stages PYTHONDONTWRITEBYTECODE=1 setsid env --default-signal "$here/../bin/predator" view native --html "$stages/page.html" --most 100000000 -- "$work/${1:-long}" >said 2>&1 &
     pid=$!
 }
 # What is left of a call after ten seconds at most: its processes name the program or the folder.
 remains() {
     left_over "$work/stages"
     left_over "$work/long"
+    left_over "$work/forever"
     rm -f "$stages/page.html"
     ls "$stages"
 }
@@ -48,7 +50,7 @@ for way in TERM HUP INT KILL worker recorder program all; do
 done 2>/dev/null
 # What was recorded is shown, where the signal came while something was recorded.
 for way in TERM HUP INT worker; do
-    begin_call
+    begin_call forever
     for _ in $(seq 1 300); do
         trace=$(echo "$stages"/predator-view-*/trace)
         if [ -e "$trace" ]; then break; fi
