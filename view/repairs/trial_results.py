@@ -38,8 +38,8 @@ class TrialCount(NamedTuple):
 
 class Trial:
     """The best of the repairs of an object and what it came to, each none where none could be tried; `instead` is the fix for words in
-    which threads use different bytes. Of a long trace only its first accesses are counted: `own_misses_in_part` are the object's misses there, and
-    none where the whole is counted."""
+    which threads use different bytes. Of a long trace only its first accesses are counted: `own_misses_in_part` are the object's misses
+    there, and none where the whole is counted."""
 
     def __init__(
         self,
