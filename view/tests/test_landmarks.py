@@ -534,7 +534,7 @@ class Strange(Built):
             table = self.table(path)
             program = self.program(path, table)
             for at in addrs:
-                near = program.near(at)
+                near = program.landmark(at)
                 self.assertIsInstance(near.text() if near else "", str)
         self.assertLess(time.time() - began, 30)
 
@@ -554,7 +554,7 @@ class Strange(Built):
         def told(**panics):
             program = self.program(path, self.table(path))
             program.panics[path] = type("Panics", (), {"places": {}, **panics})()
-            near = program.near(at)
+            near = program.landmark(at)
             return near.text() if near else None
 
         self.assertEqual(told(near=lambda self, addr: None), 'near the text "the list is broken"')
