@@ -8,6 +8,10 @@
 #include <stddef.h>
 #include <stdint.h>
 
+#ifdef __cplusplus
+extern "C" {
+#endif
+
 // (as in errno.h)
 #define EAGAIN 11
 #define EFAULT 14
@@ -98,5 +102,9 @@ static inline uint64_t predator_steps(void)
     __asm__ volatile("ecall" : "=r"(low), "=r"(high) : "r"(a7) : "memory");
     return (uint64_t)high << 32 | low;
 }
+
+#ifdef __cplusplus
+}
+#endif
 
 #endif

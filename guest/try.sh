@@ -405,8 +405,9 @@ C
     expect_status "initialised variables" 0 grep -x 11 o
     expect_status "a build without words" 1 "$here/build.sh"
     cp init.c init.cpp
-    expect_status "a build of C++" 1 "$here/build.sh" cxx.elf init.cpp
-    expect_error_lines "a build of C++" "build.sh: init.cpp is C++: $here/c++ init.cpp -o cxx.elf builds it"
+    expect_status "a build of C++" 0 "$here/build.sh" cxx.elf init.cpp
+    expect_status "what was built of C++" 0 "$predator" run cxx.elf
+    expect_line "what was built of C++" "outcome exit 0"
     # Alone, and with free lines before and behind.
     cat >alone.c <<'C'
 #include "predator.h"

@@ -15,9 +15,7 @@
 #include <variant>
 
 #include "ends.h"
-extern "C" {
 #include "../predator.h"
-}
 
 extern "C" void predator_ends(const char *why)
 {

@@ -14,9 +14,7 @@
 #include <time.h>
 
 #include "ends.h"
-extern "C" {
 #include "../predator.h"
-}
 
 _LIBCPP_BEGIN_NAMESPACE_STD
 

@@ -134,11 +134,12 @@ static void note_mapping(Addr addr, UWord rights, Bool is_shared)
 
 #define GIB  (1UL << 30)
 #define MOST (64 * GIB)
+#define USER (1UL << 47) /* the system itself has no more addresses for a program */
 
 static void name_refusal(UWord size, SysRes result)
 {
     static UInt times;
-    if (sr_isError(result) && size >= MOST / 2 && times++ < 3)
+    if (sr_isError(result) && size >= MOST / 2 && size < USER && times++ < 3)
         VG_(printf)
     ("predator native: the program asks for %lu GiB of addresses at once, and gets \"%s\": under "
      "valgrind all its mappings together have less than 64 GiB\n",

@@ -201,8 +201,8 @@ def unfinished_cases() -> list[Case]:
     cut = f"cut: the trace is cut off after {CUT_AT} bytes: record or copy it again"
     first = trace_header() + access_records(move_accesses(with_late_access(MADE)[:-10]))
     taken = (
-        "late: an access at this address isn't moved, and others would be moved to where it is:"
-        " give them another place, or give this address a line of its own"
+        "late: an access at this address stays, and other accesses would move to it: "
+        "move them elsewhere, or add a line for this address"
     )
     return [
         Case(
@@ -300,7 +300,7 @@ def refused_cases() -> list[Case]:
             usage_text(),
             (),
             (("f", b""),),
-            "'03' has a leading zero: N is a whole number up to 1000000000",
+            "'03' has a leading zero: N must be a whole number up to 1000000000",
         ),
         (
             ("run", "script", *outputs),
