@@ -88,7 +88,7 @@ for row in "1024K 1048576" "1500K 1536000" "2M 2097152" "2000000 2000000"; do
 6" "$said"
     expect_part "--max-disk $size: it is said" "as many as --max-disk allows: the trace ends here" "$(cat o.log)"
     expect_equal "--max-disk $size: end" "part max-disk" "$("$judge" end o) $(why o)"
-    expect_between "--max-disk $size: its file" $((most / 2)) "$most" "$(stat -c %s o)"
+    expect_between "--max-disk $size: both files" $((most / 2)) "$most" $(($(stat -c %s o) + $(stat -c %s o.table)))
 done
 "$run" --trace whole -- ./counters >/dev/null 2>&1
 "$run" --max-disk 1M --trace o -- ./counters >/dev/null 2>&1
