@@ -55,8 +55,8 @@ if command -v script >/dev/null; then
         if grep -q -E "recording: [0-9]+ accesses, [0-9]+ MB" shown; then break; fi
         sleep 0.1
     done
-    # (the launcher's words name the program too, and it ends with the program)
-    pkill -f "^$work/forever|-- $work/forever"
+    # (all that name the program)
+    pkill -f "$work/forever"
     wait $pid 2>/dev/null
     expect_part "progress" "recording: " "$(cat shown)"
     "$run" --trace o -- ./long >shown 2>&1
