@@ -256,14 +256,14 @@ mkdir disk
 if mount -t tmpfs -o size=3m tmpfs disk 2>/dev/null; then
     said=$("$run" --trace disk/t -- ./odd close 2>&1)
     expect_equal "a small disk: status" 6 "$?"
-    expect_part "a small disk" "half of what was free on their disk: the trace ends here" "$said"
+    expect_part "a small disk" "half of what was free: the trace ends here" "$said"
     expect_equal "a small disk: end" "part disk" "$("$judge" end disk/t) $(awk '$1 == "end" { print $3 }' disk/t.table)"
     expect_between "a small disk: half of it is left" $((3 << 19)) $((3 << 20)) $(($(stat -f -c '%a * %S' disk)))
     rm disk/t disk/t.table
     head -c 3100000 /dev/zero >disk/full 2>/dev/null
     said=$("$run" --trace disk/t -- ./odd close 2>&1)
     expect_equal "a full disk: status" 125 "$?"
-    expect_part "a full disk" "half of what was free on their disk" "$said"
+    expect_part "a full disk" "half of what was free" "$said"
     umount disk
 else
     skip_checks 1 "a full disk: no file system can be mounted"

@@ -45,6 +45,15 @@ static File trace = {-1}, table = {-1};
    end soon, for a lack of room. */
 #define LEAST_ROOM 8192
 static UInt room = PIECE;
+static ULong most_bytes = NO_DISK; /* what the trace and the address map may take */
+
+static void limit_room(void)
+{
+    ULong own = trace.length + table.length + table.count;
+    room = own + 2 * LEAST_ROOM > most_bytes              ? LEAST_ROOM
+           : most_bytes - own - LEAST_ROOM < (ULong)PIECE ? most_bytes - own - LEAST_ROOM
+                                                          : PIECE;
+}
 
 Bool trace_has(Int fd) { return fd >= 0 && (fd == trace.fd || fd == table.fd); }
 
@@ -197,11 +206,12 @@ static void judge_room(void)
         HChar why[96];
         VG_(sprintf)
         (why, "%llu bytes were written, %s", own,
-         by_call ? "as many as --max-disk allows" : "half of what was free on their disk");
+         by_call ? "as many as --max-disk allows" : "half of what was free");
         trace_stop(by_call ? "max-disk" : "disk", why);
         return;
     }
-    room = most - own - LEAST_ROOM < PIECE ? most - own - LEAST_ROOM : PIECE;
+    most_bytes = most;
+    limit_room();
 }
 
 /* How far the recording is, on a terminal, from the second second on. */
@@ -308,6 +318,7 @@ void table_text(const HChar *format, ...)
         return;
     VG_(memcpy)(it->bytes + it->count, text, count);
     it->count += count;
+    limit_room();
 }
 
 /* ---- Places of regions ---- */

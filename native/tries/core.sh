@@ -55,8 +55,8 @@ if command -v script >/dev/null; then
         if grep -q -E "recording: [0-9]+ accesses, [0-9]+ MB" shown; then break; fi
         sleep 0.1
     done
-    # (the launcher's words name the program too, and it ends with the program)
-    pkill -f "^$work/forever|-- $work/forever"
+    # (all that name the program)
+    pkill -f "$work/forever"
     wait $pid 2>/dev/null
     expect_part "progress" "recording: " "$(cat shown)"
     "$run" --trace o -- ./long >shown 2>&1
@@ -88,7 +88,7 @@ for row in "1024K 1048576" "1500K 1536000" "2M 2097152" "2000000 2000000"; do
 6" "$said"
     expect_part "--max-disk $size: it is said" "as many as --max-disk allows: the trace ends here" "$(cat o.log)"
     expect_equal "--max-disk $size: end" "part max-disk" "$("$judge" end o) $(why o)"
-    expect_between "--max-disk $size: its file" $((most / 2)) "$most" "$(stat -c %s o)"
+    expect_between "--max-disk $size: both files" $((most / 2)) "$most" $(($(stat -c %s o) + $(stat -c %s o.table)))
 done
 "$run" --trace whole -- ./counters >/dev/null 2>&1
 "$run" --max-disk 1M --trace o -- ./counters >/dev/null 2>&1
