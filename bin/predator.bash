@@ -57,7 +57,7 @@ _predator() {
         'view replay') options="--top --object --words --library --predicted --no-predicted --explain --type --sources --html --json --json-version --sarif --against --fail-above --by --patch --program --map --settings --set --size --shift --save --resume" ;;
         'view sweep') options="--size --top --html" ;;
         'view caches') options="--shape --top --html" ;;
-        'view native') options="--top --object --words --library --predicted --no-predicted --explain --type --sources --html --json --json-version --sarif --against --fail-above --by --patch --built --quantum --all --marked --child --pcs --no-pcs --most --max-disk --settings --set --size --shift" ;;
+        'view native') options="--top --object --words --library --predicted --no-predicted --explain --type --sources --html --json --json-version --sarif --against --fail-above --by --patch --built --quantum --all --marked --child --pcs --no-pcs --most --max-disk --trace --settings --set --size --shift" ;;
     # (so far)
         *) return ;;
     esac
