@@ -132,14 +132,15 @@ static void note_mapping(Addr addr, UWord rights, Bool is_shared)
 
 /* ---- Mappings that are larger than all memory that valgrind has for a program ---- */
 
-#define GIB  (1UL << 30)
-#define MOST (64 * GIB)
-#define USER (1UL << 47) /* the system itself has no more addresses for a program */
+#define GIB       (1UL << 30)
+#define MOST      (64 * GIB)
+#define ADDRESSES (1UL << 47)
 
 static void name_refusal(UWord size, SysRes result)
 {
     static UInt times;
-    if (sr_isError(result) && size >= MOST / 2 && size < USER && times++ < 3)
+    /* (the system itself refuses a size that the processor has no addresses for) */
+    if (sr_isError(result) && size >= MOST / 2 && size < ADDRESSES && times++ < 3)
         VG_(printf)
     ("predator native: the program asks for %lu GiB of addresses at once, and gets \"%s\": under "
      "valgrind all its mappings together have less than 64 GiB\n",
