@@ -141,15 +141,15 @@ def parse_effects(text: str, addresses: Iterable[int]) -> dict[int, MemoryEffect
         while found and "x86-64" in found[1] and rows[at].name in PREFIXES and at + 1 < len(rows):
             prefixes.append(rows[at].name)
             at += 1
-        told = (
+        effect = (
             riscv_effect(rows[at])
             if found and "riscv" in found[1]
             else x86_effect(rows[at])
             if found and "x86-64" in found[1]
             else None
         )
-        if told:
-            made[addr] = ATOMIC_UPDATE if "lock" in prefixes else told
+        if effect:
+            made[addr] = ATOMIC_UPDATE if "lock" in prefixes else effect
     return made
 
 

@@ -29,16 +29,16 @@ class BorderCrossing(NamedTuple):
 
 def bytes_on_line(line: Line, naming: Naming) -> str:
     """Which bytes of which objects a line holds."""
-    told = []
+    parts = []
     for obj in line.objects()[:MAX_HELD_OBJECTS]:
         first, last = (
             max(line.base - obj.addr, 0),
             min(line.base + line.size - obj.addr, obj.size) - 1,
         )
-        told.append(f"bytes {first} to {last} of {object_name(obj, naming)}")
-    more = len(line.objects()) - len(told)
-    told += [f"{more} more"] if more else []
-    return f"{address_text(line.base)}: {', '.join(told)}" if told else address_text(line.base)
+        parts.append(f"bytes {first} to {last} of {object_name(obj, naming)}")
+    more = len(line.objects()) - len(parts)
+    parts += [f"{more} more"] if more else []
+    return f"{address_text(line.base)}: {', '.join(parts)}" if parts else address_text(line.base)
 
 
 def object_name(obj: Symbol | Block, naming: Naming) -> str:

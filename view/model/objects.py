@@ -177,13 +177,13 @@ def contending_objects(
     the things are given, and are one, its share isn't looked for."""
     is_one = keys is not None and len({*keys}) < 2
     keys = [object_key(it, naming, 0) for it in things] if keys is None else keys
-    told = spot.line_with_words()
-    if is_one and things and told and not has_accesses(told, things):
-        return access_shares(told.accesses(), (), (), naming)
+    line = spot.line_with_words()
+    if is_one and things and line and not has_accesses(line, things):
+        return access_shares(line.accesses(), (), (), naming)
     found: Shares = (
         {}
-        if is_one or len(things) < 2 or told is None
-        else access_shares(told.accesses(), things, keys, naming)
+        if is_one or len(things) < 2 or line is None
+        else access_shares(line.accesses(), things, keys, naming)
     )
     # The first object, as long as it isn't told how the words were accessed.
     for at, key in enumerate(() if found else keys):
@@ -236,8 +236,8 @@ class ObjectGrouping:
         known, symbol = self.single_objects.get(rows, NONE)
         if known and symbol:
             # (the same one object as on a line before)
-            told = spot.line_with_words()
-            if told is None or has_accesses(told, (symbol,)):
+            line = spot.line_with_words()
+            if line is None or has_accesses(line, (symbol,)):
                 known.add(spot)
                 return
         things = parse_objects(rows)
@@ -311,12 +311,12 @@ def field_name_at(addr: int, thing: Holder, naming: Naming) -> str:
 
 def word_uses(spot: ObjectLine, naming: Naming, by_word: Misses | None = None) -> list[WordUse]:
     """The words of a line where they are told; `by_word` is the count of misses in lines of a word each."""
-    told = spot.line_with_words()
-    if told is None:
+    line = spot.line_with_words()
+    if line is None:
         return []
     things = spot.objects()
     found: list[WordUse] = []
-    for word in told.words():
+    for word in line.words():
         thing = word_holder(things, word.addr, naming.accesses)
         name, element, field = naming.word_names(word.addr, thing)
         useful = None

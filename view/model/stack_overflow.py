@@ -27,11 +27,11 @@ class Overflow(NamedTuple):
     depth: int
 
     def sentence(self) -> str:
-        told = f"hart {self.hart} overflowed its stack of {self.size:,} bytes: it wrote {self.depth:,} bytes below the top"
+        text = f"hart {self.hart} overflowed its stack of {self.size:,} bytes: it wrote {self.depth:,} bytes below the top"
         enough = 1 << (self.depth - 1).bit_length()
         if enough > MAX_STACK_BYTES:
-            return f"{told}; it recurses without end, or its local variables exceed the largest stack, {MAX_STACK_BYTES:,} bytes"
-        return f"{told}; use `--set stack={enough}`, unless it recurses without end"
+            return f"{text}; it recurses without end, or its local variables exceed the largest stack, {MAX_STACK_BYTES:,} bytes"
+        return f"{text}; use `--set stack={enough}`, unless it recurses without end"
 
 
 def last_bytes_of_run(predator: Predator, words: list[str]) -> bytes:

@@ -161,12 +161,12 @@ class View:
             )
             return
         self.note_missing_harts(predator)
-        told = dict(zip(asked, counted))
-        self.word_misses, self.misses = cast("Misses | None", told.get("words")), cast(
-            Misses, told["lines"]
+        results = dict(zip(asked, counted))
+        self.word_misses, self.misses = cast("Misses | None", results.get("words")), cast(
+            Misses, results["lines"]
         )
-        self.every_line, self.blame = cast("Report | None", told.get("each")), cast(
-            "Blame | None", told.get("blame")
+        self.every_line, self.blame = cast("Report | None", results.get("each")), cast(
+            "Blame | None", results.get("blame")
         )
         self.misses_by_layout = dict(zip(foreseen, cast(list[Misses], counted[len(asked) :])))
         if brief:
@@ -241,9 +241,9 @@ class View:
 
     def group_by_objects(self) -> None:
         """Puts the lines together by objects."""
-        told = [one for one in (self.report, self.misses) if one]
-        self.naming.learn_symbols("\n".join(one.text for one in told))
-        self.naming.find_lines({it for one in told for it in one.sites()})
+        sources = [one for one in (self.report, self.misses) if one]
+        self.naming.learn_symbols("\n".join(one.text for one in sources))
+        self.naming.find_lines({it for one in sources for it in one.sites()})
         self.objects, self.objects_by_key = group_lines(
             self.report, self.misses, self.naming, self.every_line
         )
@@ -712,7 +712,7 @@ class View:
     def element_fix(self, thing: DataObject) -> advice.Element:
         """A function that gives the code by which each element of an array in an object gets its own line, or nothing."""
 
-        def told(array: str) -> str:
+        def code_of(array: str) -> str:
             if self.naming.program is None:
                 return ""
             from view.names.fields import value_or_default
@@ -743,7 +743,7 @@ class View:
             of = element_of(of) if element_of(of) is not None else (of if is_block else None)
             return own_lines_code(Shape(of), self.needed_alignment(thing)) if of is not None else ""
 
-        return told
+        return code_of
 
     def declaration(self, thing: DataObject) -> Declared | None:
         """The file and line where an object is declared or made, or none."""

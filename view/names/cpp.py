@@ -75,11 +75,13 @@ class LandmarkFinder:
     def texts_of(self, start: int, end: int) -> Iterator[int]:
         """The addresses of texts that a part of a function refers to."""
         code = self.image.bytes(start, end - start)
-        told = (
+        references = (
             *find_jumps(code, start, LEA),
             *(it for pattern in self.image.moves for it in find_numbers(code, start, pattern)),
         )
-        yield from (it for _, it in told if self.image.is_constant(it) and self.image.begins(it))
+        yield from (
+            it for _, it in references if self.image.is_constant(it) and self.image.begins(it)
+        )
 
     @functools.cached_property
     def users(self) -> dict[int, set[int]]:
@@ -215,8 +217,8 @@ class LandmarkFinder:
             found.values(),
             key=lambda rank: (rank[0], rank[1].strength, rank[1].functions, rank[1].text),
         )
-        told, count = tuple(it for _, it in best[:NAMED]), len(best) + lost + len(level)
-        return Landmarks(told, True, count - len(told)) if told and count <= MOST else None
+        chosen, count = tuple(it for _, it in best[:NAMED]), len(best) + lost + len(level)
+        return Landmarks(chosen, True, count - len(chosen)) if chosen and count <= MOST else None
 
     @functools.cache
     def near(self, addr: int) -> Landmarks | None:

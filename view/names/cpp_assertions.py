@@ -110,19 +110,19 @@ class Assertions:
 
     def assertion(self, at: int, loads: bytes) -> Assertion | None:
         """The assertion that is called somewhere, by what is loaded before, or none."""
-        told = LOADS.search(loads)
-        if told is None or not told["line"]:
+        match = LOADS.search(loads)
+        if match is None or not match["line"]:
             return None
         texts = tuple(
-            self.loaded_assertion(told, at - len(loads), it) for it in ("function", "file", "text")
+            self.loaded_assertion(match, at - len(loads), it) for it in ("function", "file", "text")
         )
         name, file = map(self.image.text, texts[:2])
-        line = int.from_bytes(told["line"], "little")
+        line = int.from_bytes(match["line"], "little")
         if not SOURCE.fullmatch(file) or not 0 < line < 1 << 20:
             return None
         function = short_function_name(name.decode("latin-1")) if NAME.fullmatch(name) else ""
         return Assertion(
-            at - len(loads) + told.start(),
+            at - len(loads) + match.start(),
             at,
             file.decode("utf-8", "replace"),
             line,
@@ -130,8 +130,8 @@ class Assertions:
             texts,
         )
 
-    def loaded_assertion(self, told: re.Match[bytes], begin: int, what: str) -> int:
+    def loaded_assertion(self, match: re.Match[bytes], begin: int, what: str) -> int:
         """The address of a text that is loaded, or 0."""
-        if told[what]:
-            return begin + told.end(what) + int.from_bytes(told[what], "little", signed=True)
-        return int.from_bytes(told[what + "_at"] or b"", "little") if self.image.is_fixed else 0
+        if match[what]:
+            return begin + match.end(what) + int.from_bytes(match[what], "little", signed=True)
+        return int.from_bytes(match[what + "_at"] or b"", "little") if self.image.is_fixed else 0

@@ -99,10 +99,10 @@ class Classes:
     def names(self) -> dict[int, str]:
         """The names of all classes, which are told by one call."""
         infos = list({it: None for own in self.owners.values() for it in own})
-        told = demangle(["_ZTS" + self.mangled(it) for it in infos])
+        names = demangle(["_ZTS" + self.mangled(it) for it in infos])
         return {
             info: name.removeprefix(SHOWN)
-            for info, name in zip(infos, told)
+            for info, name in zip(infos, names)
             if name.startswith(SHOWN)
         }
 

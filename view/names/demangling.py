@@ -29,10 +29,10 @@ def demangle(names: list[str]) -> list[str]:
         return names
     rows = "".join(SUFFIX.sub("", it) + "\n" for it in names)
     ran = subprocess.run([tool], input=rows.encode("utf-8", "surrogateescape"), capture_output=True)
-    told = ran.stdout.decode("utf-8", "replace").splitlines()
+    rows = ran.stdout.decode("utf-8", "replace").splitlines()
     # (a comma with a blank is between fields that lie in one word)
     return (
-        [HASH.sub("", it).replace(", ", ",") for it in told] if len(told) == len(names) else names
+        [HASH.sub("", it).replace(", ", ",") for it in rows] if len(rows) == len(names) else names
     )
 
 

@@ -285,10 +285,10 @@ def fold_names(names: list[str]) -> list[str]:
     return names
 
 
-def value_or_default(told: Callable[[], A], usual: B) -> A | B:
+def value_or_default(compute: Callable[[], A], usual: B) -> A | B:
     """What a function tells of debug information, and the usual where that is damaged: pyelftools then ends with any fault."""
     try:
-        return told()
+        return compute()
     except Fault:
         raise
     except Exception:
@@ -446,12 +446,12 @@ class Program:
         words = [f"--name={it}" for it in names if it]
         if tool is None or not words:
             return []
-        told = subprocess.run([tool, *words, self.path], capture_output=True).stdout.decode(
+        text = subprocess.run([tool, *words, self.path], capture_output=True).stdout.decode(
             "utf-8", "replace"
         )
         return [
             (int(entry[1], 16), entry[0])
-            for entry in re.finditer(r"^(0x[0-9a-f]+): +DW_TAG_.*\n(?:.+\n)*", told, re.MULTILINE)
+            for entry in re.finditer(r"^(0x[0-9a-f]+): +DW_TAG_.*\n(?:.+\n)*", text, re.MULTILINE)
         ]
 
     def definition(self, die: Die) -> Die:

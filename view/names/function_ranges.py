@@ -88,9 +88,9 @@ class Functions:
 
     def function(self, addr: int) -> Range | None:
         """Where the function of an instruction begins and ends, or none."""
-        told = self.image.function(addr)
-        if told or not self.image.is_code(addr):
-            return told
+        known = self.image.function(addr)
+        if known or not self.image.is_code(addr):
+            return known
         at = bisect.bisect_right(self.starts, addr) - 1
         start = self.starts[at] if at >= 0 else 0
         size = self.image.exported_functions.get(start, 0)
@@ -144,8 +144,8 @@ class Functions:
             table + BRANCHES * DISTANCE.size if self.image.is_constant(table) else 0,
             DISTANCE.size,
         ):
-            told = self.image.bytes(at, DISTANCE.size)
-            to = table + DISTANCE.unpack(told)[0] if told else 0
+            data = self.image.bytes(at, DISTANCE.size)
+            to = table + DISTANCE.unpack(data)[0] if data else 0
             if not start <= to < end:
                 return
             yield to

@@ -181,8 +181,8 @@ class Table:
     def steps(self, table: int) -> tuple[list[int], list[int]]:
         """A table's values, and where each ends, counted from where its function begins."""
         ends, values, end, value = list[int](), list[int](), 0, -1
-        told = decode_numbers(self.data, self.values + table - self.begin)
-        for change, size in zip(told, told):
+        numbers = decode_numbers(self.data, self.values + table - self.begin)
+        for change, size in zip(numbers, numbers):
             if not size or not change and ends or not self.left:
                 break
             self.left -= 1
@@ -249,8 +249,8 @@ class Table:
     def call(self, own: Function, index: int) -> tuple[str, int]:
         """The name of a function that is inlined, and the place of its call; an empty one where that isn't known."""
         tree, how = self.tree(own), self.version.call
-        told = self.image.bytes(tree + how.size * index, how.size) if tree else b""
-        name, place = how.unpack(told) if any(told) else (0, -1)
+        data = self.image.bytes(tree + how.size * index, how.size) if tree else b""
+        name, place = how.unpack(data) if any(data) else (0, -1)
         return (self.name(name), place) if place >= 0 else ("", 0)
 
     def frames(self, addr: int) -> list[SourceLine]:

@@ -233,7 +233,7 @@ class Naming:
         place = next((it for it in frames if it.file and it.line), None)
         names = [self.readable_name(it.function) for it in frames if it.function]
         near = sources.near(addr) if sources and place is None else None
-        told = (
+        text = (
             place.short()
             if place
             else f"near {near.short()}"
@@ -242,11 +242,11 @@ class Naming:
         )
         beside = self.landmark(addr) if not names else None
         return (
-            f"{told} ({' < '.join(names[:2])})"
+            f"{text} ({' < '.join(names[:2])})"
             if names
-            else f"{told} ({beside.text()})"
+            else f"{text} ({beside.text()})"
             if beside
-            else told
+            else text
         )
 
     def is_of_language(self, addr: int) -> bool:
@@ -320,9 +320,9 @@ class Naming:
             return "thread-local variables"
         chain = self.own_sites(sites)
         at = self.site_line(chain[0])
-        near, told = self.landmark_of_sites(chain)
+        near, text = self.landmark_of_sites(chain)
         rest = [
-            self.function_name(site) + (told if at == near else "")
+            self.function_name(site) + (text if at == near else "")
             for at, site in enumerate(chain)
             if at > 0
         ]
@@ -332,7 +332,7 @@ class Naming:
         first += (
             f" ({self.source_function(chain[0])})"
             if at and not rest and chain[0].name != "main"
-            else told
+            else text
             if near == 0
             else ""
         )

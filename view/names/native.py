@@ -293,8 +293,8 @@ class NativeProgram:
             self.panics_of(found[0].path),
             self.landmarks_of(found[0].path),
         ]
-        told = (value_or_default(functools.partial(it.near, found[1]), None) for it in own if it)
-        return next(filter(None, told), None)
+        answers = (value_or_default(functools.partial(it.near, found[1]), None) for it in own if it)
+        return next(filter(None, answers), None)
 
     def has_panics(self) -> bool:
         """Whether panics tell of the program's own code, which has no symbols."""
@@ -472,11 +472,11 @@ class NativeSources(Sources):
                 self.places[address] = found if has_line(found) else self.places[address] or found
         for address in wanted:
             if not has_line(self.places[address]):
-                told: list[Site] = (
+                sites: list[Site] = (
                     self.native.map.frames.get(address) or self.native.map.sites.get(address) or []
                 )
                 self.places[address] = [
-                    place for own in told for place in recorded_frames(own)
+                    place for own in sites for place in recorded_frames(own)
                 ] or self.places[address]
 
     def symbolize(self, addresses: Iterable[tuple[NativeFile, int]]) -> list[list[SourceLine]]:

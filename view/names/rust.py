@@ -86,10 +86,10 @@ class Panics:
 
     def place(self, addr: int, to: int) -> Panic | None:
         """The place at an address whose first word points to a text, or none where that is no place of a source."""
-        told = self.image.bytes(addr + 8, 16)
-        if not told:
+        data = self.image.bytes(addr + 8, 16)
+        if not data:
             return None
-        size, line, column = struct.unpack("<QII", told)
+        size, line, column = struct.unpack("<QII", data)
         if not (len(".rs") < size <= 4096 and 0 < line < 1 << 20 and 0 < column < 1 << 16):
             return None
         name = self.image.bytes(to, size)
@@ -101,11 +101,11 @@ class Panics:
     def panic_checks(self, start: int, end: int) -> list[PanicCheck]:
         """The places that a function hands to panics, those of the standard library only where there are no others."""
         code = self.image.bytes(start, end - start)
-        told = [
+        references = [
             *find_jumps(code, start, LEA),
             *(find_numbers(code, start, MOVE) if self.image.is_fixed else ()),
         ]
-        found = [(at, self.places[to]) for at, to in sorted(told) if to in self.places]
+        found = [(at, self.places[to]) for at, to in sorted(references) if to in self.places]
         own = [it for it in found if not it[1].is_library()] or found
         jumps = conditional_jumps(code, start) if own else {}
         blocks, made = [start - BLOCK - 1, *sorted(jumps)], []

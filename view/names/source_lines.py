@@ -24,11 +24,11 @@ class SourceLine(NamedTuple):
         return f"{os.path.basename(self.file)}:{self.line}" if self.file and self.line else ""
 
 
-def parse_frames(told: dict[str, Any]) -> list[SourceLine]:
+def parse_frames(answer: dict[str, Any]) -> list[SourceLine]:
     """The frames of an address as llvm-symbolizer tells them, the innermost first."""
     frames = [
         (frame.get("FunctionName", ""), frame.get("FileName", ""), frame.get("Line", 0))
-        for frame in told.get("Symbol", [])
+        for frame in answer.get("Symbol", [])
     ]
     return [
         SourceLine(function, file and os.path.normpath(file), line)
@@ -71,8 +71,8 @@ class Sources:
             stderr=subprocess.DEVNULL,
         )
         for row in ran.stdout.decode("utf-8", "replace").splitlines():
-            told = json.loads(row)
-            self.places[int(told["Address"], 16)] = parse_frames(told)
+            answer = json.loads(row)
+            self.places[int(answer["Address"], 16)] = parse_frames(answer)
 
     def frames(self, address: int) -> list[SourceLine]:
         """The functions inlined at an address, the innermost first."""

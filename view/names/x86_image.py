@@ -212,14 +212,14 @@ class Image:
 
     def symbol(self, index: int) -> tuple[str, int]:
         """The name of a symbol for the loader, and its address, 0 where another file has it."""
-        told = (
+        data = (
             self.bytes(self.tags.get(SYMBOLS, 0) + SYMBOL.size * index, SYMBOL.size)
             if SYMBOLS in self.tags
             else b""
         )
-        if not told:
+        if not data:
             return "", 0
-        name, _, _, part, value, _ = SYMBOL.unpack(told)
+        name, _, _, part, value, _ = SYMBOL.unpack(data)
         return self.text(self.tags.get(NAMES, 0) + name).decode("latin-1"), value if part else 0
 
     @functools.cached_property
@@ -267,10 +267,10 @@ class Image:
         """Where the function of an instruction begins and ends, as that table has it, or none."""
         starts, entries = self.unwind_starts
         at = bisect.bisect_right(starts, addr) - 1
-        told = self.bytes(entries[at] + 8, 8) if at >= 0 else b""
-        if not told:
+        data = self.bytes(entries[at] + 8, 8) if at >= 0 else b""
+        if not data:
             return None
-        start, size = LINK.unpack(told)
+        start, size = LINK.unpack(data)
         # (an entry that is written otherwise begins elsewhere)
         if start + entries[at] + 8 != starts[at] or addr >= starts[at] + size:
             return None

@@ -253,16 +253,16 @@ class Report:
             fields, "accesses", of
         )
         layout = re.fullmatch(rf"{NUMBER} {NUMBER}", fields.get("layout", ""))
-        told = re.fullmatch(rf"{NUMBER} ({MANY}|none) {NUMBER}", fields.get("thresholds", ""))
+        thresholds = re.fullmatch(rf"{NUMBER} ({MANY}|none) {NUMBER}", fields.get("thresholds", ""))
         if (
             not layout
-            or not told
+            or not thresholds
             or int(layout[1]) not in SIZES
             or int(layout[2]) >= int(layout[1])
         ):
             raise Fault(f"{of} has no valid line `layout` or `thresholds`")
         self.size, self.offset = int(layout[1]), int(layout[2])
-        self.thresholds = told.groups()
+        self.thresholds = thresholds.groups()
         self.lines, place = parse_lines(text, LINE, Line, of)
         if len(self.lines) != head_number(fields, "lines", of):
             raise Fault(

@@ -269,9 +269,9 @@ def placing(
     found: dict[str, list[str]] = {}
     for addr, (_, hart) in placed.words.items():
         found.setdefault(SHARED if hart == "many" else owner(int(hart)), []).append(name(addr))
-    told = [f"{listing(names)} ({whose})" for whose, names in found.items()]
-    more = len(told) - NAMED
-    where = "; ".join(told[:NAMED]) + (f"; and {more} more" if more > 0 else "")
+    parts = [f"{listing(names)} ({whose})" for whose, names in found.items()]
+    more = len(parts) - NAMED
+    where = "; ".join(parts[:NAMED]) + (f"; and {more} more" if more > 0 else "")
     return f"; grouped by thread ({where}), invalidations {placed.before:,} → {placed.after:,} (`place`)"
 
 

@@ -94,8 +94,8 @@ def aligned_alloc_text(subject: Subject, line: int) -> str:
 
 def size_change_text(old: int, new: int, is_whole: bool) -> str:
     """The size of a type before and after."""
-    told = f"{old:,} → {new:,} bytes" if old != new else f"{old:,} bytes as before"
-    return told if is_whole else f"{told} each"
+    text = f"{old:,} → {new:,} bytes" if old != new else f"{old:,} bytes as before"
+    return text if is_whole else f"{text} each"
 
 
 def own_lines_code(shape: Shape, line: int) -> str:
@@ -142,9 +142,9 @@ def elements_repair(subject: Subject, array: Array, uses: WordUses, line: int) -
     how, change, edits = separate_elements(subject, array, line)
     parts, room = move_words(subject, change)
     wide, whole = array.shape.size(), subject.size()
-    told = [f"{how}, {size_change_text(wide, round_up(wide, line), whole == wide)}"]
+    hows = [f"{how}, {size_change_text(wide, round_up(wide, line), whole == wide)}"]
     return Repair(
-        told,
+        hows,
         parts,
         room,
         edits,
@@ -305,7 +305,7 @@ def fields_repair(
     parts, room = move_words(subject, change)
     keyword, name = record_name(record.shape)
     place = user_declaration(record.die)
-    told = [
+    texts = [
         f"{', '.join(it.name for it in own)} ({sharing_text([one for it in own for one in found[it.name]], subject.owner)})"
         for own in groups
     ]
@@ -316,7 +316,7 @@ def fields_repair(
     )
     what = f"`{keyword} {name}`" if name else f"the {keyword} of {subject.name}{record.path}"
     old, new, whole = record.shape.size(), lay_out(record.shape, change).size, subject.size()
-    said = f"group the fields of {what}{place_text(place)}, each group on its own lines: {'; '.join(told)}; {after}"
+    said = f"group the fields of {what}{place_text(place)}, each group on its own lines: {'; '.join(texts)}; {after}"
     said += aligned_alloc_text(subject, line)
     edits: list[Edit] | None = (
         [OrderFields(place, name, groups, line)] if place and not subject.is_blocks() else None
@@ -330,21 +330,25 @@ def variables_repair(subjects: Sequence[Subject], line: int) -> Repair:
     parts: list[MovedRange] = []
     room = 0
     edits: list[Edit] | None = []
-    told: list[str] = []
+    names_and_places: list[str] = []
     for subject in subjects:
         own, size = move_words(subject, LayoutChange(line))
         parts += [MovedRange(one.begin, one.size, one.to + room) for one in own]
         room = round_up(room + size, line)
         place = user_declaration(subject.die) if subject.die is not None else None
-        told.append(subject.name + place_text(place))
+        names_and_places.append(subject.name + place_text(place))
         edits = (
             [*edits, AlignVariable(place, subject.name, line)]
             if edits is not None and place
             else None
         )
-    names = ", ".join(told[:-1]) + (" and " if len(told) > 1 else "") + told[-1]
-    how = f"`{attribute(line)}` after {'each name' if len(told) > 1 else 'its name'}"
-    own_line = "each its own line" if len(told) > 1 else "its own line"
+    names = (
+        ", ".join(names_and_places[:-1])
+        + (" and " if len(names_and_places) > 1 else "")
+        + names_and_places[-1]
+    )
+    how = f"`{attribute(line)}` after {'each name' if len(names_and_places) > 1 else 'its name'}"
+    own_line = "each its own line" if len(names_and_places) > 1 else "its own line"
     return Repair(
         [f"give {names} {own_line}: {how}"],
         to_whole_words(parts),

@@ -25,11 +25,11 @@ class TrialCount(NamedTuple):
 
     def beside(self, after: "TrialCount") -> str:
         """The numbers before and after a repair."""
-        told = ", ".join(
+        text = ", ".join(
             f"{column} {self.total[name]:,} → {after.total[name]:,}"
             for name, column in (("useless", "false"), ("useful", "true"))
         )
-        return f"misses {told}" + (
+        return f"misses {text}" + (
             ""
             if self.invalidations is None or after.invalidations is None
             else f", invalidations {self.invalidations:,} → {after.invalidations:,}"
