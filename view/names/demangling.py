@@ -27,8 +27,10 @@ def demangle(names: list[str]) -> list[str]:
     tool = shutil.which("c++filt") or shutil.which("llvm-cxxfilt")
     if not names or tool is None:
         return names
-    rows = "".join(SUFFIX.sub("", it) + "\n" for it in names)
-    ran = subprocess.run([tool], input=rows.encode("utf-8", "surrogateescape"), capture_output=True)
+    lines = "".join(SUFFIX.sub("", it) + "\n" for it in names)
+    ran = subprocess.run(
+        [tool], input=lines.encode("utf-8", "surrogateescape"), capture_output=True
+    )
     rows = ran.stdout.decode("utf-8", "replace").splitlines()
     # (a comma with a blank is between fields that lie in one word)
     return (
