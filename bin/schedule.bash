@@ -22,10 +22,24 @@ begin_run() {
         exit 1
     }
     chmod 755 "$work"
+    echo "$$" >"$work/pid"
     trap 'end_run' EXIT
     trap 'stop_run 130 "Ctrl-C"' INT
     trap 'stop_run 143 "a signal to end"' TERM
     trap 'stop_run 129 "the end of its terminal"' HUP
+    remove_old_runs
+}
+
+# Removes what runs of this user left that were killed, so that they couldn't clean up: their folders name processes that aren't there.
+remove_old_runs() {
+    local old pid own=$work
+    for old in "${work%/*}"/predator-try.*; do
+        [ -O "$old" ] && read -r pid 2>/dev/null <"$old/pid" && ! kill -0 "$pid" 2>/dev/null || continue
+        work=$old
+        end_processes '.*' || true
+        remove_folder "$old"
+    done
+    work=$own
 }
 
 # The processes that a part, or any part of this run, has left: they have its folder in their environment.

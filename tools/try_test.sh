@@ -5,8 +5,8 @@
 #     tools/try_test.sh
 #
 # What is tried: what each run has, the sums and the status, parts that fail, that fail once, that take too long, that skip themselves and that leave
-# processes, that outputs don't mix and what wants to be alone is, Ctrl-C and other signals, two calls at once, a checkout that can't be written, and
-# the kit: the right one, another one, none. The last line is `N passed, M failed, K skipped`.
+# processes, that outputs don't mix and what wants to be alone is, Ctrl-C and other signals, a run that is killed, two calls at once, a checkout that
+# can't be written, and the kit: the right one, another one, none. The last line is `N passed, M failed, K skipped`.
 set -u
 top=$(cd "$(dirname "$(readlink -f "$0")")/.." && pwd)
 work=$(mktemp -d)
@@ -119,6 +119,21 @@ stopped() {
     expect_equal "what $1 leaves" "" "$(ls -A tmp; grep -l -s -z -e "^PREDATOR_PART=.*/endless" /proc/[0-9]*/environ)"
 }
 
+# What a run that is killed leaves, the next one removes.
+try_killed() {
+    local pid
+    setsid "$PWD/checkout/bin/test" --long >killed 2>&1 </dev/null &
+    pid=$!
+    for _ in $(seq 100); do
+        grep -q -s -z -e "^PREDATOR_PART=.*/endless" /proc/[0-9]*/environ && break
+        sleep 0.1
+    done
+    kill -KILL "$pid"
+    wait "$pid" 2>/dev/null
+    expect_equal "a killed run leaves its folder" 1 "$(find tmp -mindepth 1 -maxdepth 1 | grep -c .)"
+    call 0 checkout/bin/test --quick
+}
+
 try_two() {
     "$PWD/checkout/bin/test" >first 2>&1 </dev/null &
     sleep 0.5
@@ -192,6 +207,7 @@ try_runs
 try_failures
 stopped INT 130 Ctrl-C
 stopped TERM 143 "a signal to end"
+try_killed
 try_two
 try_sealed
 try_kit
