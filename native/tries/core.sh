@@ -47,23 +47,20 @@ refused "no program by PATH" 127 "\`-- ./core\` is the one in this folder" --tra
 rm -f o o.* same same.table vgcore.*
 
 # How far the recording is, on a terminal and nowhere else.
-if command -v script >/dev/null; then
-    gcc -O1 -g -pthread "$here/tries/forever.c" -o forever
-    script -qec "$run --trace o -- $work/forever" /dev/null >shown 2>&1 </dev/null &
-    pid=$!
-    for _ in $(seq 1 600); do
-        if grep -q -E "recording: [0-9]+ accesses, [0-9]+ MB" shown; then break; fi
-        sleep 0.1
-    done
-    # (all that name the program)
-    pkill -f "$work/forever"
-    wait $pid 2>/dev/null
-    expect_part "progress" "recording: " "$(cat shown)"
-    "$run" --trace o -- ./long >shown 2>&1
-    expect_equal "progress: only on a terminal" "sum 600000" "$(cat shown)"
-else
-    skip_checks 2 "progress: no \`script\` is there, which makes a terminal (Debian: bsdutils)"
-fi
+gcc -O1 -g -pthread "$here/tries/forever.c" -o forever
+: >shown
+python3 -c 'import pty, sys; pty.spawn(sys.argv[1:])' "$run" --trace o -- "$work/forever" >shown 2>&1 </dev/null &
+pid=$!
+for _ in $(seq 1 600); do
+    if grep -q -E "recording: [0-9]+ accesses, [0-9]+ MB" shown; then break; fi
+    sleep 0.1
+done
+# (all that name the program)
+pkill -f "$work/forever"
+wait $pid 2>/dev/null
+expect_part "progress" "recording: " "$(cat shown)"
+"$run" --trace o -- ./long >shown 2>&1
+expect_equal "progress: only on a terminal" "sum 600000" "$(cat shown)"
 
 # Why a recording ended stands in its address map.
 why() { awk '$1 == "end" { word = $3 } END { print word }' "$1.table"; }
