@@ -162,13 +162,13 @@ class InTime(unittest.TestCase):
         with open(os.path.join(TOP, "docs", "STUDIES.md"), encoding="utf-8") as file:
             table = file.read().partition("<!-- clock -->\n")[2].partition("\n\n| Study")[0]
         rows = [[it.strip() for it in row.split("|")[1:-1]] for row in table.split("\n") if row]
-        middle = [at for at, it in enumerate(rows[0]) if it == "middle"]
+        medians_at = [at for at, it in enumerate(rows[0]) if it == "median"]
         for band, row in zip(BANDS[1:], rows[3:], strict=True):
-            medians = [float(row[at]) for at in middle]
+            medians = [float(row[at]) for at in medians_at]
             told = f"{min(medians):.1f} to {max(medians):.1f} times faster"
             self.assertTrue(band.told.endswith(told), (band.told, told))
             self.assertIn(f"{band.least:g}", row[0])
-        self.assertTrue(all(float(rows[2][at]) <= 1 for at in middle))
+        self.assertTrue(all(float(rows[2][at]) <= 1 for at in medians_at))
 
     def test_bound(self):
         self.assertEqual(at_most(0, 140, 0.4), 0)
