@@ -136,7 +136,11 @@ try_killed() {
 
 try_two() {
     "$PWD/checkout/bin/test" >first 2>&1 </dev/null &
-    sleep 0.5
+    # (it has the lock once it says how many parts it has)
+    for _ in $(seq 100); do
+        grep -q " at a time; " first && break
+        sleep 0.1
+    done
     "$PWD/checkout/bin/test" --quick >out 2>&1 </dev/null
     expect_equal "the status of a second call" 2 "$?"
     expect_line "a second call" "test: another bin/test runs in $work/checkout: wait until it ends"

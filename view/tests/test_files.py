@@ -251,7 +251,7 @@ print(len({it.addr: it for it in (Word(int(it[1], 16), int(it[2]), int(it[3])) f
 # So many times as long may view take at most. (It takes twice as long.)
 TIMES = 4
 # What view does with it; its folder is the first word.
-SHOWS = "import sys; sys.argv[0:1] = []; sys.path.insert(0, sys.argv[0]); from view from view import main; main.main(sys.argv[1:])"
+SHOWS = "import sys; sys.argv[0:1] = []; sys.path.insert(0, sys.argv[0]); from view import main; main.main(sys.argv[1:])"
 
 
 class Ran:
