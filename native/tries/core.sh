@@ -46,19 +46,7 @@ expect_equal "core: calls: said once, in a line" 1 "$(grep -c -v "no access was 
 refused "no program by PATH" 127 "\`-- ./core\` is the one in this folder" --trace o -- core
 rm -f o o.* same same.table vgcore.*
 
-# How far the recording is, on a terminal and nowhere else.
-gcc -O1 -g -pthread "$here/tries/forever.c" -o forever
-: >shown
-python3 -c 'import pty, sys; pty.spawn(sys.argv[1:])' "$run" --trace o -- "$work/forever" >shown 2>&1 </dev/null &
-pid=$!
-for _ in $(seq 1 600); do
-    if grep -q -E "recording: [0-9]+ accesses, [0-9]+ MB" shown; then break; fi
-    sleep 0.1
-done
-# (all that name the program)
-pkill -f "$work/forever"
-wait $pid 2>/dev/null
-expect_part "progress" "recording: " "$(cat shown)"
+# How far a recording is stands on a terminal alone.
 "$run" --trace o -- ./long >shown 2>&1
 expect_equal "progress: only on a terminal" "sum 600000" "$(cat shown)"
 
