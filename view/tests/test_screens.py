@@ -514,7 +514,7 @@ class OfThisMachine(Shown):
                 self.shows(
                     text,
                     "counters: exit 0, ",
-                    "counters: struct own[4], counters.c:",
+                    "counters: struct own[400], counters.c:12",
                     "give each element of counters its own line: struct __attribute__((aligned(64))) own",
                     "each thread writes its own element: thread 1: [0]",
                 )
