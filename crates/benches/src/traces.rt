@@ -15,7 +15,11 @@ const ACCESSES: u32 = 8192;
 // How many bytes of the next piece's first record stand at the end of a piece.
 const OVERLAP: usize = 2;
 
-const HEADER: Header = Header { first: 0, harts: 8 };
+const HEADER: Header = Header {
+    first: 0,
+    harts: 8,
+    near: 0,
+};
 
 fn access_of(i: u32) -> Option<Access>
     requires { i < 8192 }

@@ -9,7 +9,7 @@ use crate::settings_faults::settings_advice;
 use crate::state_faults::state_advice;
 use crate::status::Status;
 use crate::table_faults::{OCCUPIED_ADVICE, table_advice};
-use crate::trace_faults::{NO_PCS_ADVICE, trace_advice};
+use crate::trace_faults::{FILTERED_ADVICE, NO_PCS_ADVICE, TOO_WIDE_ADVICE, trace_advice};
 use command_line::{Demand, Reason, WordsFault};
 use std::alloc::{AllocError, Global};
 use std::env;
@@ -38,6 +38,8 @@ pub fn advice_on(
         Status::Settings(fault) => settings_advice(alloc, fault, front)?,
         Status::Trace(fault) => trace_advice(alloc, *fault)?,
         Status::NoPcs => String::from_str(alloc, NO_PCS_ADVICE)?,
+        Status::Filtered => String::from_str(alloc, FILTERED_ADVICE)?,
+        Status::TooWide => String::from_str(alloc, TOO_WIDE_ADVICE)?,
         Status::State(fault) => state_advice(alloc, *fault)?,
         Status::Place(refusal) => String::from_str(alloc, place_advice(*refusal))?,
         Status::Table(fault) => table_advice(alloc, *fault)?,

@@ -56,6 +56,8 @@ pub fn fault_line(alloc: Global, status: &Status) -> Result<String, AllocError>
             line_of(alloc, "trace", name.as_str())
         }
         Status::NoPcs => line_of(alloc, "trace", "NoPcs"),
+        Status::Filtered => line_of(alloc, "trace", "Filtered"),
+        Status::TooWide => line_of(alloc, "trace", "TooWide"),
         Status::State(fault) => {
             let name = state_name(alloc, *fault)?;
             line_of(alloc, "state", name.as_str())

@@ -1,12 +1,13 @@
 // Which of the files that a command reads a refusal is of.
 ghost use Rattle.std.specs.Prelude.{◌≡◌, option_map};
+ghost use Rattle.std.specs.Option.{option_copied};
 ghost use Rattle.command_line.specs.FilesRead.{trace_read};
 ghost use Rattle.command_line.specs.Words.{meaning, trace_of};
-ghost use Rattle.command_io.specs.FilesRead.{is_own};
+ghost use Rattle.command_io.specs.FilesRead.{is_own, refused_name};
 
 use crate::state_faults::HARTS;
 use crate::status::{StateFault, Status};
-use command_line::{Demand, TraceToRead};
+use command_line::{Demand, FilesRead, TraceToRead};
 use settings::SettingsFault;
 
 /// The trace that is read for what is asked for, where one is, and whether it is read again. One
@@ -36,7 +37,18 @@ fn is_of_file(fault: &SettingsFault) -> bool
 /// The name of the file that such a refusal is of, where a file is refused.
 pub fn file_refused<'a>(demand: &Demand<'a>, status: &Status) -> Option<&'a str> {
     let files = demand.files();
-    let trace = files.trace.map(called);
+    name_refused(&files, files.trace.map(called), status)
+}
+
+// Which of the names of the files that are read, and of the trace, such a refusal is of.
+fn name_refused<'a>(
+    files: &FilesRead<'a>,
+    trace: Option<&'a str>,
+    status: &Status,
+) -> Option<&'a str>
+    ensures { option_copied result ≡ refused_name files.now (option_copied trace.entry)
+        status.now }
+{
     match status {
         Status::Elf(_) => files.program,
         Status::Schedule(_) => files.schedule,
@@ -50,6 +62,8 @@ pub fn file_refused<'a>(demand: &Demand<'a>, status: &Status) -> Option<&'a str>
         }
         Status::Trace(_)
         | Status::NoPcs
+        | Status::Filtered
+        | Status::TooWide
         | Status::Occupied(_)
         | Status::State(StateFault::WrongSettings(HARTS) | StateFault::WrongPosition { .. }) => {
             trace

@@ -49,6 +49,10 @@ pub enum Status {
     /// The command needs the pc of each access, and the trace is of version 1 or 2, which have
     /// none.
     NoPcs,
+    /// The trace is filtered, and the command needs all accesses.
+    Filtered,
+    /// The trace is filtered, and the lines have more bytes than its regions.
+    TooWide,
     /// The saved state has this fault, or the trace doesn't go on from where the count of it
     /// stands.
     State(StateFault),
@@ -83,7 +87,7 @@ impl Status {
             Status::Elf(_) => 2,
             Status::Schedule(_) => 3,
             Status::Settings(_) => 4,
-            Status::Trace(_) | Status::NoPcs => 5,
+            Status::Trace(_) | Status::NoPcs | Status::Filtered | Status::TooWide => 5,
             Status::State(_) => 6,
             Status::ReadFault => 7,
             Status::WriteFault => 8,

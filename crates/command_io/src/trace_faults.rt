@@ -17,6 +17,15 @@ pub const NO_PCS_ADVICE: &str =
     "the trace has no pcs: record a guest with `predator run PROGRAM --pcs --trace F`, or a program \
      of this machine with `predator native --pcs --trace F -- PROGRAM`";
 
+/// What to do about a filtered trace, where a command needs all accesses.
+pub const FILTERED_ADVICE: &str =
+    "the trace is filtered, and this command needs all accesses: use the trace that was filtered, or \
+     record the program without a filter";
+
+/// What to do about a filtered trace whose regions are smaller than the lines.
+pub const TOO_WIDE_ADVICE: &str =
+    "the trace was filtered for smaller lines: choose smaller lines, or filter for larger ones";
+
 const TOO_LONG: &str = "the trace has more than 2^40 accesses, or 2^44 bytes or more";
 
 // What a fault of a trace is called, with its numbers.

@@ -55,7 +55,7 @@ freed_elsewhere = refl
 there_before : objects_after (blocks (block 0x2000 24 3 (Some 5) ∷ block 0x2000 8 6 None
     ∷ block 0x3000 8 7 None ∷ [])) 10
     (a_write ∷ records.Free 0x2000 ∷ records.End
-    (record { outcome = Exit 0; steps = 9; accesses = 11 }) ∷ [])
+    (record { outcome = Exit 0; steps = 9; accesses = 11; whole = None }) ∷ [])
     ≡ blocks (block 0x2000 24 3 (Some 5) ∷ block 0x2000 8 6 (Some 11) ∷ block 0x3000 8 7 None ∷ [])
 unfolding a_write made block blocks
 there_before = refl

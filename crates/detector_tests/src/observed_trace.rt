@@ -10,7 +10,7 @@ use observations::Observations;
 use std::alloc::Global;
 use std::process::Abort;
 use std::test::Fail;
-use trace_format::TraceRecord;
+use trace_format::{TraceEnd, TraceRecord};
 use trace_passes::Observer;
 
 const ENDING: Ending = Ending {
@@ -151,7 +151,7 @@ fn is_reported(alloc: Global, observations: &Observations, text: &str) -> Result
 fn tell(rt: &impl Abort, alloc: Global, observations: &mut Observations) -> Result<(), Fail> {
     note_all(rt, alloc, observations, &BEFORE_THE_FREE)?;
     free(rt, observations, 0x2000)?;
-    note(rt, observations, &TraceRecord::End(ENDING))?;
+    note(rt, observations, &TraceRecord::End(TraceEnd::of(&ENDING)))?;
     assert!(rt; counts(observations) == (2, 2, 1));
     assert!(rt; is_reported(alloc, observations, REPORT)?);
     Ok(())

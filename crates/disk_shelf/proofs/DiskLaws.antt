@@ -1,36 +1,53 @@
--- An error of the system is the cause of what a shelf answers.
-use Rattle.std.proofs.Common.{◌≡◌, ℕ, ◌+◌, ◌-◌, ◌^◌, ◌≤◌, min, List, Err, refl, ap, arith}
+-- A call that failed is the cause of what a shelf answers.
+use Rattle.std.proofs.Common.{◌≡◌, ℕ, ◌+◌, ◌≤◌, Bool, true, false, List, ◌∷◌, Err, refl, arith}
+use Rattle.std.specs.Prelude.{if◌then◌else◌}
+use Rattle.std.specs.Str.{bytes_eq}
+use Rattle.std.proofs.lemmas.Slice.Eq.{bytes_eq-Decides}
 use Rattle.shelf.specs.Shelf.{HasCause, HasCauseAt, Rose}
 use Rattle.shelf.specs.declared.shelf.ShelfError.{ShelfError}
 use Rattle.shelf.specs.declared.shelf.ShelfError.TheVariants.{Failed, NoMemory}
-use Rattle.disk_shelf.specs.Disk.{after_fault}
+use Rattle.disk_shelf.specs.Disk.{how_many, is_print_fault, is_read_fault, is_write_fault}
+use Rattle.disk_shelf.specs.Done.{Done, PrintingFailed, ReadingFailed, WritingFailed}
 
-rose : (before now : ℕ) → now ≡ min (before + 1) (2 ^ 64 - 1) → Rose before now
-rose before now is = omega (arith, is)
+later : (test : Bool) (n : ℕ) → n ≤ (if test then n + 1 else n)
+later true n = omega arith
+later false n = omega arith
 
-pub fault_cause : {T : Type 0} (before now : ℕ) (e : ShelfError) → before ≤ now → now
-    ≡ after_fault before e
-    → HasCause {T = T} before now (Err e)
-fault_cause before now Failed later is = record {
-  later = later;
-  failed = λ f. rose before now is;
+rose : (test : Bool) (n : ℕ) → test ≡ true → Rose n (if test then n + 1 else n)
+rose true n is = omega arith
+rose false n is = cc
+
+itself : (name : List ℕ) → bytes_eq name name ≡ true
+itself name = (bytes_eq-Decides name name).1 refl
+
+pub read_cause : {T : Type 0} (name : List ℕ) (before : List Done) (e : ShelfError)
+    → HasCauseAt {T = T} name (λ n. how_many (is_read_fault n) before)
+    (λ n. how_many (is_read_fault n) (ReadingFailed name e ∷ before)) (Err e)
+read_cause name before Failed = record {
+  later = λ n. later (bytes_eq name n) (how_many (is_read_fault n) before);
+  failed = λ f. rose (bytes_eq name name) (how_many (is_read_fault name) before) (itself name);
   quiet = λ q. absurd (q refl);
 }
-fault_cause before now NoMemory later is =
-    record { later = later; failed = λ f. cc; quiet = λ q. is }
+read_cause name before NoMemory =
+    record { later = λ n. omega arith; failed = λ f. cc; quiet = λ q. refl }
 
-pub fault_cause_at : {T : Type 0} (name : List ℕ) (before now : ℕ) (e : ShelfError) → before ≤ now
-    → now ≡ after_fault before e
-    → HasCauseAt {T = T} name (λ _. before) (λ _. now) (Err e)
-fault_cause_at name before now Failed later is = record {
-  later = λ _. later;
-  failed = λ f. rose before now is;
-  quiet =
-      λ q. absurd (q refl);
+pub write_cause : {T : Type 0} (name : List ℕ) (before : List Done) (e : ShelfError)
+    → HasCauseAt {T = T} name (λ n. how_many (is_write_fault n) before)
+    (λ n. how_many (is_write_fault n) (WritingFailed name e ∷ before)) (Err e)
+write_cause name before Failed = record {
+  later = λ n. later (bytes_eq name n) (how_many (is_write_fault n) before);
+  failed = λ f. rose (bytes_eq name name) (how_many (is_write_fault name) before) (itself name);
+  quiet = λ q. absurd (q refl);
 }
-fault_cause_at name before now NoMemory later is = record {
-  later = λ _. later;
-  failed = λ f. cc;
-  quiet =
-      λ q. ap (λ n. (λ (m : List ℕ). n)) is;
+write_cause name before NoMemory =
+    record { later = λ n. omega arith; failed = λ f. cc; quiet = λ q. refl }
+
+pub print_cause : {T : Type 0} (before : List Done) (e : ShelfError)
+    → HasCause {T = T} (how_many is_print_fault before)
+    (how_many is_print_fault (PrintingFailed e ∷ before)) (Err e)
+print_cause before Failed = record {
+  later = omega arith;
+  failed = λ f. omega arith;
+  quiet = λ q. absurd (q refl);
 }
+print_cause before NoMemory = record { later = omega arith; failed = λ f. cc; quiet = λ q. refl }

@@ -6,7 +6,7 @@ ghost use Rattle.std.specs.Prelude.{◌≡◌, ◌≢◌, ◌≤◌, ◌↔◌, 
 ghost use Rattle.std.specs.Io.{ReadsAtMost};
 ghost use Rattle.std.specs.IoError.{error_kind};
 ghost use Rattle.shelf.specs.Shelf.{content, Told, HasCauseAt, OnlyReads, Reads, given_after};
-ghost use Rattle.disk_shelf.specs.Disk.{after_fault, has_other_name};
+ghost use Rattle.disk_shelf.specs.Disk.{has_other_name};
 
 use crate::known_files::{FileId, KnownFiles};
 use crate::log::{Call, Log};
@@ -65,8 +65,8 @@ impl Contents for Brand {
 ///
 /// What it holds are contents that one thinks of: it tells them as long as all that it has read is
 /// theirs, and no more from the first reading on that gave other bytes. What was written and
-/// printed is what it handed to the system in calls that were answered Ok. It counts the errors of
-/// each kind, for all names alike, want of memory aside: contracts see these numbers.
+/// printed is what it handed to the system in calls that were answered Ok. Contracts see how often
+/// reading and writing each file has failed, want of memory aside.
 ///
 /// Each file is opened once for reading and once for writing, and kept open, so that pipes and
 /// terminals serve where they are read, or written, from the front to the end. A regular file that
@@ -83,9 +83,6 @@ pub struct DiskShelf<'a, R: Files + Print + Eprint + Clock + AllocGlobal, K: Con
     meter: Meter,
     stderr: Option<Stderr>,
     run_end: RunEnd,
-    reads: u64,
-    writes: u64,
-    prints: u64,
 }
 
 impl<'a, R: Files + Print + Eprint + Clock + AllocGlobal, K: Contents> Model
@@ -94,43 +91,33 @@ impl<'a, R: Files + Print + Eprint + Clock + AllocGlobal, K: Contents> Model
 
     ghost Value = { Seen };
 
-    ghost view = { λ s. record {
-      reads = s.reads;
-      writes = s.writes;
-      prints = s.prints;
-      done = s.log.items;
-    } };
+    ghost view = { λ s. record { done = s.log.items } };
 }
 
-// What an error of the system is to a shelf: it counts, unless it is want of memory, which is what
+// What an error of the system is to a shelf: a failure, unless it is want of memory, which is what
 // the system calls so.
-fn fault_of(count: &mut u64, error: &io::Error) -> ShelfError
+fn fault_of(error: &io::Error) -> ShelfError
     ensures memory { (result ≡ ShelfError.NoMemory)
         ↔ (error_kind error.now ≡ ErrorKind.OutOfMemory) }
-    ensures counted { count.new ≡ after_fault count.old result }
-    ensures later { count.old ≤ count.new }
 {
     if error.kind() == ErrorKind::OutOfMemory {
         return ShelfError::NoMemory;
     }
-    *count = count.saturating_add(1);
     ShelfError::Failed
 }
 
-// Says why a call of the system failed, and counts it. Room is made for it before.
-fn report_and_count<R: Eprint + AllocGlobal>(
+// Says why a call of the system failed, and what that is to a shelf. Room is made for it before.
+fn report<R: Eprint + AllocGlobal>(
     runtime: &R,
     meter: &mut Meter,
-    count: &mut u64,
     name: &str,
     error: io::Error,
 ) -> ShelfError
-    ensures counted { count.new ≡ after_fault count.old result }
-    ensures later { count.old ≤ count.new }
+    ensures memory { (result ≡ ShelfError.NoMemory) ↔ (error_kind error ≡ ErrorKind.OutOfMemory) }
 {
     meter.make_room(runtime);
     report_fault(runtime, name, &error);
-    fault_of(count, &error)
+    fault_of(&error)
 }
 
 // What is expected of the reading of a trace.
@@ -206,9 +193,8 @@ impl<F: Read + Write + Seek + OpenFile + Drop> FilesOfCall<F> {
         };
         let file = fs::open(runtime, path)?;
         let metadata = file.metadata()?;
-        if let Some(id) = FileId::of(&metadata) {
-            self.known.note(runtime.alloc(), id, name)?;
-        }
+        self.known
+            .note_opened(runtime.alloc(), FileId::of(&metadata), name)?;
         self.read.keep(runtime.alloc(), name, file, metadata.len())?;
         Ok(())
     }
@@ -333,9 +319,6 @@ impl<'a, R: Files + Print + Eprint + Clock + AllocGlobal, K: Contents> DiskShelf
             meter,
             stderr: None,
             run_end: RunEnd::new(),
-            reads: 0,
-            writes: 0,
-            prints: 0,
         }
     }
 
@@ -432,13 +415,12 @@ impl<R: Files + Print + Eprint + Clock + AllocGlobal, K: Contents> Shelf for Dis
                 });
                 Ok(read.count)
             }
-            Err(error) => Err(report_and_count(
-                self.runtime,
-                &mut self.meter,
-                &mut self.reads,
-                self.files.called(name),
-                error,
-            )),
+            Err(error) => {
+                let called = self.files.called(name);
+                let error = report(self.runtime, &mut self.meter, called, error);
+                self.log = self.log.and(&Call::ReadFailed { name, error });
+                Err(error)
+            }
         }
     }
 
@@ -448,13 +430,11 @@ impl<R: Files + Print + Eprint + Clock + AllocGlobal, K: Contents> Shelf for Dis
                 self.log = self.log.and(&Call::Begin { name });
                 Ok(())
             }
-            Err(error) => Err(report_and_count(
-                self.runtime,
-                &mut self.meter,
-                &mut self.writes,
-                name,
-                error,
-            )),
+            Err(error) => {
+                let error = report(self.runtime, &mut self.meter, name, error);
+                self.log = self.log.and(&Call::WriteFailed { name, error });
+                Err(error)
+            }
         }
     }
 
@@ -465,13 +445,11 @@ impl<R: Files + Print + Eprint + Clock + AllocGlobal, K: Contents> Shelf for Dis
                 self.log = self.log.and(&Call::Append { name, piece });
                 Ok(())
             }
-            Err(error) => Err(report_and_count(
-                self.runtime,
-                &mut self.meter,
-                &mut self.writes,
-                name,
-                error,
-            )),
+            Err(error) => {
+                let error = report(self.runtime, &mut self.meter, name, error);
+                self.log = self.log.and(&Call::WriteFailed { name, error });
+                Err(error)
+            }
         }
     }
 
@@ -483,8 +461,9 @@ impl<R: Files + Print + Eprint + Clock + AllocGlobal, K: Contents> Shelf for Dis
                 Ok(())
             }
             Err(error) => {
-                report_fault(self.runtime, STANDARD_OUTPUT, &error);
-                Err(fault_of(&mut self.prints, &error))
+                let error = report(self.runtime, &mut self.meter, STANDARD_OUTPUT, error);
+                self.log = self.log.and(&Call::PrintFailed { error });
+                Err(error)
             }
         }
     }

@@ -1,5 +1,6 @@
 // The regular files that a shelf has read or begun, each under the name that it had.
-ghost use Rattle.std.specs.Prelude.{◌≡◌, ℕ, List, [], OnErr, OnOk, IsTrue};
+ghost use Rattle.std.specs.Prelude.{◌≡◌, ◌↔◌, ℕ, List, [], IfSome, IsSome, OnErr, OnOk, IsTrue};
+ghost use Rattle.std.specs.Fs.{IsFile, file_type};
 ghost use Rattle.disk_shelf.specs.Disk.{has_file, has_name, has_other_name};
 
 use std::alloc::{AllocError, Global};
@@ -16,7 +17,9 @@ pub struct FileId {
 impl FileId {
     /// The file that the system tells of, if it is a regular one. In another, as a terminal or a
     /// pipe, nothing stands that could be lost.
-    pub fn of(metadata: &Metadata) -> Option<FileId> {
+    pub fn of(metadata: &Metadata) -> Option<FileId>
+        ensures { IsSome result ↔ IsFile (file_type metadata.now) }
+    {
         if !metadata.is_file() {
             return None;
         }
@@ -89,5 +92,21 @@ impl KnownFiles {
         let name = String::from_str(alloc, name)?;
         self.files.push(KnownFile { id, name })?;
         Ok(())
+    }
+
+    /// Knows a file that was opened under a name, where it is a regular one.
+    pub fn note_opened(
+        &mut self,
+        alloc: Global,
+        id: Option<FileId>,
+        name: &str,
+    ) -> Result<(), AllocError>
+        ensures known { OnOk result
+            (IfSome id (λ id. IsTrue (has_name id name.now self.new.files.items))) }
+    {
+        match id {
+            Some(id) => self.note(alloc, id, name),
+            None => Ok(()),
+        }
     }
 }

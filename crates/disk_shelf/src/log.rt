@@ -1,12 +1,13 @@
-// What a shelf of the system's files has done: a list that only proofs read. It takes no memory,
-// and nothing is done for it when the program runs.
+// What a shelf of the system's files has done, and which of its calls failed: a list that only proofs
+// read. It takes no memory, and nothing is done for it when the program runs.
 ghost use Rattle.std.specs.Prelude.{◌≡◌, List, [], ◌∷◌};
 ghost use Rattle.std.specs.Borrow.{ftrue};
 ghost use Rattle.disk_shelf.specs.Done.{Done};
 
+use shelf::ShelfError;
 use std::marker::Model;
 
-/// A call that the system answered Ok.
+/// A call of the system, and how it was answered.
 #[derive(Drop)]
 pub enum Call<'a> {
     /// A file was read from a place on, into so much room, and these bytes were given.
@@ -28,6 +29,20 @@ pub enum Call<'a> {
     /// A piece was printed.
     Print {
         piece: &'a [u8],
+    },
+    /// Reading a file failed so.
+    ReadFailed {
+        name: &'a str,
+        error: ShelfError,
+    },
+    /// Writing a file failed so.
+    WriteFailed {
+        name: &'a str,
+        error: ShelfError,
+    },
+    /// Printing failed so.
+    PrintFailed {
+        error: ShelfError,
     },
 }
 

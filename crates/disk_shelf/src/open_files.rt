@@ -1,5 +1,6 @@
 // Files that are open under their names: each is opened once, and kept until the shelf goes.
-ghost use Rattle.std.specs.Prelude.{◌≤◌, IfOk, length};
+ghost use Rattle.std.specs.Prelude.{◌≤◌, IfOk, OnOk, length};
+ghost use Rattle.std.specs.Io.KnownBytes.{Appends};
 
 use std::alloc::{AllocError, Global};
 use std::fs::OpenFile;
@@ -82,7 +83,10 @@ impl<F: Read + Write + Seek + OpenFile + Drop> OpenedFile<F> {
     }
 
     // Adds a piece behind what was written, and answers how many bytes there are then.
-    fn add(&mut self, piece: &[u8]) -> io::Result<u64> {
+    fn add(&mut self, piece: &[u8]) -> io::Result<u64>
+        ensures { OnOk result
+            (Appends (F.contents self.old.file) (F.contents self.new.file) piece.now) }
+    {
         self.file.write_all(piece)?;
         self.at = self.at.saturating_add(piece.len() as u64);
         Ok(self.at)

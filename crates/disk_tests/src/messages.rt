@@ -191,7 +191,7 @@ fn the_wrong_word_is_named(rt: HostRuntime) -> Result<(), Fail> {
     Ok(())
 }
 
-const ADVICE: [(Status, &str); 13] = [
+const ADVICE: [(Status, &str); 15] = [
     (
         Status::Elf(ElfFault::BadFlags),
         "the program uses compressed instructions, floating-point registers or RV32E registers: \
@@ -229,6 +229,15 @@ const ADVICE: [(Status, &str); 13] = [
         Status::NoPcs,
         "the trace has no pcs: record a guest with `predator run PROGRAM --pcs --trace F`, or a \
             program of this machine with `predator native --pcs --trace F -- PROGRAM`",
+    ),
+    (
+        Status::Filtered,
+        "the trace is filtered, and this command needs all accesses: use the trace that was filtered, \
+            or record the program without a filter",
+    ),
+    (
+        Status::TooWide,
+        "the trace was filtered for smaller lines: choose smaller lines, or filter for larger ones",
     ),
     (
         Status::State(StateFault::WrongPosition {

@@ -1,8 +1,8 @@
 // What the tests share: the trace of a list of accesses, and the words of a line.
-use base::{Access, Ending, Hart, Kind, Outcome};
+use base::{Access, Hart, Kind, Outcome};
 use std::alloc::{AllocError, Global};
 use std::test::Fail;
-use trace_format::{Header, TraceRecord, TraceWriter, Version};
+use trace_format::{Header, TraceEnd, TraceRecord, TraceWriter, Version};
 
 // A hart's access to 4 bytes: the hart, the address and what it does.
 pub(crate) type Touched = (u16, u32, Kind);
@@ -18,17 +18,23 @@ pub(crate) const NEIGHBOURS: [Touched; 3] = [
 pub(crate) fn trace(alloc: Global, list: &[Touched]) -> Result<Vec<u8>, Fail> {
     let mut bytes = Vec::new(alloc);
     let mut writer = TraceWriter::new(Version::One);
-    writer.header(Header { first: 0, harts: 8 }, &mut bytes)?;
+    let header = Header {
+        first: 0,
+        harts: 8,
+        near: 0,
+    };
+    writer.header(header, &mut bytes)?;
     for (hart, addr, kind) in list {
         let hart = Hart::new(*hart).ok_or("a hart")?;
         let access = Access::new(hart, *addr, *kind, 4).ok_or("an access")?;
         writer.item(&TraceRecord::Touch(access, None), &mut bytes)?;
     }
     let count = list.len() as u64;
-    let ending = Ending {
+    let ending = TraceEnd {
         outcome: Outcome::Exit(0),
         steps: count,
         accesses: count,
+        whole: None,
     };
     writer.item(&TraceRecord::End(ending), &mut bytes)?;
     Ok(bytes)

@@ -19,6 +19,7 @@ pub mod SoundChanges
 pub mod ThreadPlaces
 pub mod ThreadsTold
 pub mod Tiles
+pub mod TreeHeights
 pub mod TurnAnswers
 pub mod TurnCounts
 pub mod TurnsCounted

@@ -47,7 +47,7 @@ impl Model for GuestHeap {
 
     ghost view = { λ h. record { start = h.start; end = h.end; blocks = h.blocks.items } };
 
-    ghost invariant = { λ h. IsLaidOut h.start h.gap h.end h.live h.blocks.items };
+    ghost invariant = { λ h. IsLaidOut h.start h.gap h.end h.live.0 h.blocks.items };
 }
 
 // How many bytes a block of a size takes: a multiple of 16, at least 16.

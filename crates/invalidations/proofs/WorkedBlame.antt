@@ -1,4 +1,5 @@
 -- Worked lists, computed from the definitions.
+use Rattle.std.specs.Prelude.{None}
 use Rattle.std.proofs.Common.{◌≡◌, ℕ, List, [], ◌∷◌, ◌++◌, codes, refl}
 use Rattle.std.specs.Fmt.{digits}
 use Rattle.base.specs.Lines.{Grid}
@@ -42,7 +43,7 @@ in_longer_turns =
 abbrev layout : ℕ → ℕ → Grid
 layout n o = record { size = n; offset = o }
 
-in_one_line : blame_text (layout 64 0) in_turn ≡ codes "predator blame 1\n"
+in_one_line : blame_text (layout 64 0) None in_turn ≡ codes "predator blame 1\n"
     ++ codes "accesses 19\n"
     ++ codes "layout 64 0\n"
     ++ codes "lines 1\n"
@@ -61,7 +62,7 @@ unfolding blame_text count_places digits latest latest_place invalidations
 in_one_line = refl
 
 -- under longer lines, whose base is lower
-in_longer_lines : blame_text (layout 128 32) in_turn ≡ codes "predator blame 1\n"
+in_longer_lines : blame_text (layout 128 32) None in_turn ≡ codes "predator blame 1\n"
     ++ codes "accesses 19\n"
     ++ codes "layout 128 32\n"
     ++ codes "lines 1\n"
@@ -79,7 +80,7 @@ in_longer_lines : blame_text (layout 128 32) in_turn ≡ codes "predator blame 1
 unfolding blame_text count_places digits latest latest_place invalidations
 in_longer_lines = refl
 
-by_longer_turns : blame_text (layout 64 0) in_longer_turns ≡ codes "predator blame 1\n"
+by_longer_turns : blame_text (layout 64 0) None in_longer_turns ≡ codes "predator blame 1\n"
     ++ codes "accesses 19\n"
     ++ codes "layout 64 0\n"
     ++ codes "lines 1\n"
@@ -97,7 +98,7 @@ unfolding blame_text count_places digits latest latest_place invalidations
 by_longer_turns = refl
 
 -- a line for each word leaves the two bytes that share a word
-by_words : blame_text (layout 4 0) in_turn ≡ codes "predator blame 1\n"
+by_words : blame_text (layout 4 0) None in_turn ≡ codes "predator blame 1\n"
     ++ codes "accesses 19\n"
     ++ codes "layout 4 0\n"
     ++ codes "lines 1\n"
@@ -111,7 +112,7 @@ by_words : blame_text (layout 4 0) in_turn ≡ codes "predator blame 1\n"
 unfolding blame_text count_places digits latest latest_place invalidations
 by_words = refl
 
-of_nothing : blame_text (layout 64 0) [] ≡ codes "predator blame 1\n"
+of_nothing : blame_text (layout 64 0) None [] ≡ codes "predator blame 1\n"
     ++ codes "accesses 0\n"
     ++ codes "layout 64 0\n"
     ++ codes "lines 0\n"
@@ -125,7 +126,7 @@ at h a kind pc =
     record { access = record { hart = h; addr = a; kind = kind; size = 4 }; pc = pc }
 
 -- a line that was only read before its first write is taken by it
-from_a_reader : blame_text (layout 64 0) (at 1 0x1000 Read 4 ∷ at 0 0x1000 Write 8 ∷ []) ≡ codes "predator blame 1\n"
+from_a_reader : blame_text (layout 64 0) None (at 1 0x1000 Read 4 ∷ at 0 0x1000 Write 8 ∷ []) ≡ codes "predator blame 1\n"
     ++ codes "accesses 2\n"
     ++ codes "layout 64 0\n"
     ++ codes "lines 1\n"
@@ -138,7 +139,7 @@ unfolding blame_text count_places digits latest latest_place invalidations
 from_a_reader = refl
 
 -- the line that is taken most comes first, and each has pairs of its own
-by_invalidations : blame_text (layout 64 0)
+by_invalidations : blame_text (layout 64 0) None
     (at 1 0x1000 Read 4 ∷ at 0 0x1000 Write 8 ∷ at 1 0x2000 Read 4 ∷ at 0 0x2000 Write 8
     ∷ at 1 0x2008 Write 12 ∷ at 0 0x3000 Write 8 ∷ []) ≡ codes "predator blame 1\n"
     ++ codes "accesses 6\n"

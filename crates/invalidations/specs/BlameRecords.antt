@@ -46,5 +46,5 @@ record_wants_memory k (records.Touch a pc) = wants_memory k (sited_by a pc)
 record_wants_memory k _ = false
 
 -- the text of a list of records, under a layout
-unfoldable pub blame_of_records : Grid → List TraceRecord → List ℕ
-blame_of_records g items = blame_text g (sited_in items)
+unfoldable pub blame_of_records : Grid → Option ℕ → List TraceRecord → List ℕ
+blame_of_records g whole items = blame_text g whole (sited_in items)

@@ -1,4 +1,5 @@
 -- The rows of the lines, as they are gathered for the text.
+use Rattle.std.specs.Prelude.{Option}
 use Rattle.std.specs.Prelude.{ℕ, Bool, ◌&&◌, ◌||◌, ◌==◌, eqb, nat_lt, int_lt, List, [], ◌∷◌, ◌++◌}
 use Rattle.std.specs.Prelude.{codes, filter, flat_map, length, map}
 use Rattle.std.specs.Map.{lookup}
@@ -57,15 +58,15 @@ numbers h pairs harts =
     ∷ codes "pairs" ∷ decimal pairs ∷ codes "harts" ∷ decimal harts ∷ []
 
 -- the lines of the text, whose rows are gathered
-abbrev pub gathered_lines : Blamed → List TakenHead → List (ℕ × List (Sides × Taken))
+abbrev pub gathered_lines : Blamed → Option ℕ → List TakenHead → List (ℕ × List (Sides × Taken))
     → List (ℕ × List (Sides × Taken)) → List TextLine
-gathered_lines k heads pairs harts =
-    blame_heads k.grid k.position (length heads)
+gathered_lines k whole heads pairs harts =
+    blame_heads k.grid k.position whole (length heads)
     ++ flat_map (λ h. lines_of_line (with_rows (gathered_at pairs) (gathered_at harts) h)) heads
     ++ blame_ends k.total
 
 -- the text of what is kept
-abbrev pub kept_text : Blamed → List ℕ
-kept_text k = text_of (blame_lines k.grid k.position
+abbrev pub kept_text : Blamed → Option ℕ → List ℕ
+kept_text k whole = text_of (blame_lines k.grid k.position whole
     (map (with_rows (λ r. rows_in r k.parts.pairs) (λ r. rows_in r k.parts.harts))
     (heads_in_order k.grid k.parts.lines)) k.total)

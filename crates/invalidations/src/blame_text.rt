@@ -38,16 +38,23 @@ fn push_counts(
     text: &mut String,
     layout: Layout,
     accesses: u64,
+    whole: Option<u64>,
     lines: usize,
 ) -> Result<(), AllocError>
-    ensures { OnOk result (AddsLines text.old text.new (count_lines layout accesses lines)) }
+    ensures { OnOk result (AddsLines text.old text.new (count_lines layout accesses whole lines)) }
 {
     let size = layout.size();
     let offset = layout.offset();
-    writeln!(
-        text,
-        "accesses {accesses}\nlayout {size} {offset}\nlines {lines}"
-    )
+    match whole {
+        None => writeln!(
+            text,
+            "accesses {accesses}\nlayout {size} {offset}\nlines {lines}"
+        ),
+        Some(whole) => writeln!(
+            text,
+            "accesses {accesses}\nwhole {whole}\nlayout {size} {offset}\nlines {lines}"
+        ),
+    }
 }
 
 // The first lines.
@@ -55,12 +62,13 @@ fn push_heads(
     text: &mut String,
     layout: Layout,
     accesses: u64,
+    whole: Option<u64>,
     lines: usize,
 ) -> Result<(), AllocError>
-    ensures { OnOk result (AddsLines text.old text.new (blame_heads layout accesses lines)) }
+    ensures { OnOk result (AddsLines text.old text.new (blame_heads layout accesses whole lines)) }
 {
     push_title(text)?;
-    push_counts(text, layout, accesses, lines)
+    push_counts(text, layout, accesses, whole, lines)
 }
 
 // A line with its numbers.
@@ -182,14 +190,15 @@ fn push_blame(
     text: &mut String,
     alloc: Global,
     blame: &Blame,
+    whole: Option<u64>,
     heads: &[TakenHead],
     pairs: &IndexMap<u64, LineRows>,
     harts: &IndexMap<u64, LineRows>,
 ) -> Result<(), NoMemory>
     ensures { OnOk result (AddsLines text.old text.new
-        (gathered_lines blame.now heads.now pairs.now.entries harts.now.entries)) }
+        (gathered_lines blame.now whole heads.now pairs.now.entries harts.now.entries)) }
 {
-    push_heads(text, blame.layout(), blame.position(), heads.len())?;
+    push_heads(text, blame.layout(), blame.position(), whole, heads.len())?;
     push_lines(text, alloc, heads, pairs, harts)?;
     push_ends(text, blame.total())?;
     Ok(())
@@ -199,15 +208,16 @@ fn push_blame(
 fn text_of_rows(
     alloc: Global,
     blame: &Blame,
+    whole: Option<u64>,
     heads: &[TakenHead],
     pairs: &IndexMap<u64, LineRows>,
     harts: &IndexMap<u64, LineRows>,
 ) -> Result<Vec<u8>, NoMemory>
     ensures { IfOk result (λ text. text.items ≡ text_of
-        (gathered_lines blame.now heads.now pairs.now.entries harts.now.entries)) }
+        (gathered_lines blame.now whole heads.now pairs.now.entries harts.now.entries)) }
 {
     let mut text = String::new(alloc);
-    push_blame(&mut text, alloc, blame, heads, pairs, harts)?;
+    push_blame(&mut text, alloc, blame, whole, heads, pairs, harts)?;
     Ok(text.into_bytes())
 }
 
@@ -215,17 +225,17 @@ fn text_of_rows(
 /// pairs of instructions and by which harts; and how many invalidations all lines have.
 ///
 /// NoMemory comes where there is no memory for the text, the lines, their rows and their sort.
-pub fn write_blame(alloc: Global, blame: &Blame) -> Result<Vec<u8>, NoMemory>
-    ensures kept { IfOk result (λ text. text.items ≡ kept_text blame.now) }
+pub fn write_blame(alloc: Global, blame: &Blame, whole: Option<u64>) -> Result<Vec<u8>, NoMemory>
+    ensures kept { IfOk result (λ text. text.items ≡ kept_text blame.now whole) }
     // where it stands for a list, it is the text of the list
     ensures stands { (u : List ASited) → StandsFor u blame.now
-        → IfOk result (λ text. text.items ≡ blame_text blame.now.grid u) }
+        → IfOk result (λ text. text.items ≡ blame_text blame.now.grid whole u) }
     // where it has seen these records from the beginning, it is that of the records
     ensures records { (g : Grid) (items : List Record) → HasBlamed (nothing_blamed g) blame.now items
-        → IfOk result (λ text. text.items ≡ blame_of_records g items) }
+        → IfOk result (λ text. text.items ≡ blame_of_records g whole items) }
 {
     let heads = sorted_heads(alloc, blame.layout(), blame.lines())?;
     let pairs = gather(alloc, blame.pairs())?;
     let harts = gather(alloc, blame.harts())?;
-    text_of_rows(alloc, blame, &heads, &pairs, &harts)
+    text_of_rows(alloc, blame, whole, &heads, &pairs, &harts)
 }

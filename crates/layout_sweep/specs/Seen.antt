@@ -1,4 +1,5 @@
 -- What a sweep has seen of the records of a trace.
+use Rattle.std.specs.Prelude.{Option}
 use Rattle.std.specs.Prelude.{ℕ, List}
 use Rattle.base.specs.Touch.{Touch}
 use Rattle.sharing_rules.specs.AccessLists.{AccessList}
@@ -39,5 +40,5 @@ abbrev pub NeedsNone : Sweep → TraceRecord → Type 0
 NeedsNone s item = (t : AccessList) × StandsFor t s × (WantsMemory s.size t item → ⊥)
 
 -- the text of a list of records, under every shift of a size
-abbrev pub sweep_of_records : ℕ → List TraceRecord → List ℕ
-sweep_of_records n items = sweep_text n (touches_in items)
+abbrev pub sweep_of_records : ℕ → Option ℕ → List TraceRecord → List ℕ
+sweep_of_records n whole items = sweep_text n whole (touches_in items)

@@ -36,11 +36,19 @@ fn push_shifts(text: &mut String, counts: &[Swept]) -> Result<(), AllocError>
 }
 
 // The lines before those of the shifts.
-fn push_head(text: &mut String, size: u32, accesses: u64) -> Result<(), AllocError>
+fn push_head(
+    text: &mut String,
+    size: u32,
+    accesses: u64,
+    whole: Option<u64>,
+) -> Result<(), AllocError>
     ensures { OnOk result (string_bytes text.new
-        ≡ string_bytes text.old ++ text_of (head_lines size accesses)) }
+        ≡ string_bytes text.old ++ text_of (head_lines size accesses whole)) }
 {
-    writeln!(text, "sweep {size}\naccesses {accesses}")
+    match whole {
+        None => writeln!(text, "sweep {size}\naccesses {accesses}"),
+        Some(whole) => writeln!(text, "sweep {size}\naccesses {accesses}\nwhole {whole}"),
+    }
 }
 
 // The lines behind those of the shifts.
@@ -58,30 +66,40 @@ fn push_sweep(
     text: &mut String,
     size: u32,
     accesses: u64,
+    whole: Option<u64>,
     counts: &[Swept],
     least: Swept,
 ) -> Result<(), AllocError>
     ensures { OnOk result (string_bytes text.new
-        ≡ string_bytes text.old ++ text_of (sweep_lines size accesses counts.now (Some least))) }
+        ≡ string_bytes text.old ++ text_of (sweep_lines size accesses whole counts.now
+        (Some least))) }
 {
-    push_head(text, size, accesses)?;
+    push_head(text, size, accesses, whole)?;
     push_shifts(text, counts)?;
     push_least(text, least)
 }
 
-/// The text of a sweep: the line size, how many accesses there are, of each shift the total and the
+/// The text of a sweep: the line size, how many accesses there are, of a filtered trace how many the
+/// whole one has, of each shift the total and the
 /// number of lines, and the least one.
-pub fn write_sweep(alloc: Global, sweep: &Sweep) -> Result<Vec<u8>, NoMemory>
+pub fn write_sweep(alloc: Global, sweep: &Sweep, whole: Option<u64>) -> Result<Vec<u8>, NoMemory>
     ensures of_list { (t : AccessList) → StandsFor t sweep.now
-        → IfOk result (λ text. text.items ≡ sweep_text sweep.now.size t) }
+        → IfOk result (λ text. text.items ≡ sweep_text sweep.now.size whole t) }
     // where it has seen these records from nothing on, it is that of the records
     ensures of_records { (begun : Sweep) (items : List Record) → StandsFor [] begun
         → HasSwept begun sweep.now items
-        → IfOk result (λ text. text.items ≡ sweep_of_records begun.size items) }
+        → IfOk result (λ text. text.items ≡ sweep_of_records begun.size whole items) }
 {
     let mut text = String::new(alloc);
     let size = sweep.size();
     let accesses = sweep.position();
-    push_sweep(&mut text, size, accesses, sweep.counts(), sweep.least())?;
+    push_sweep(
+        &mut text,
+        size,
+        accesses,
+        whole,
+        sweep.counts(),
+        sweep.least(),
+    )?;
     Ok(text.into_bytes())
 }

@@ -1,4 +1,5 @@
 -- What is seen of misses, with one record more.
+use Rattle.std.specs.Prelude.{ℕ, Option}
 use Rattle.std.proofs.Common.{◌≡◌, ◌≤◌, List, [], ◌∷◌, ◌++◌, length, map, refl, sym, ap, ◌∙◌}
 use Rattle.std.proofs.Common.{Result, Ok, Err}
 use Rattle.std.proofs.lemmas.Result.{on_ok_weaker}
@@ -106,23 +107,23 @@ room_for_miss now x room =
     room.given_so_far.accesses.position room.first room.begins_there room.room
 
 -- ---- the text
-pub missed_text : (g : Grid) (now : MissObservations) (items : List TraceRecord) (total : Costs)
+pub missed_text : (g : Grid) (whole : Option ℕ) (now : MissObservations) (items : List TraceRecord) (total : Costs)
     → HasMissed (nothing_missed g) now items
     → ((t : AccessList) → StandsFor t now.misses → total ≡ all_costs now.misses.grid t)
-    → text_of (misses_lines now.misses.grid now.misses.position now.objects
-    (told_rows (map (row_of now.misses.grid) now.misses.lines)) total) ≡ misses_of_records g items
+    → text_of (misses_lines now.misses.grid now.misses.position whole now.objects
+    (told_rows (map (row_of now.misses.grid) now.misses.lines)) total) ≡ misses_of_records g whole items
 unfolding misses_of_records
-missed_text g now items total so_far costs =
+missed_text g whole now items total so_far costs =
     let t : AccessList = touches_in items in
     let k : MissCounts = now.misses in
     let stands : StandsFor t k = so_far.accesses.stands [] refl in
-    ap (λ (rs : List Row). text_of (misses_lines k.grid k.position now.objects (told_rows rs) total))
+    ap (λ (rs : List Row). text_of (misses_lines k.grid k.position whole now.objects (told_rows rs) total))
     (rows-stand k t stands)
-    ∙ ap (λ (c : Costs). text_of (misses_lines k.grid k.position now.objects
+    ∙ ap (λ (c : Costs). text_of (misses_lines k.grid k.position whole now.objects
     (told_rows (rows_of k.grid t)) c)) (costs t stands)
-    ∙ ap (λ (q : Grid). text_of (misses_lines q k.position now.objects (told_rows (rows_of q t))
+    ∙ ap (λ (q : Grid). text_of (misses_lines q k.position whole now.objects (told_rows (rows_of q t))
     (all_costs q t))) so_far.accesses.setting
-    ∙ ap (λ p. text_of (misses_lines g p now.objects (told_rows (rows_of g t)) (all_costs g t)))
+    ∙ ap (λ p. text_of (misses_lines g p whole now.objects (told_rows (rows_of g t)) (all_costs g t)))
     (ap (λ (x : MissCounts). x.position) stands)
-    ∙ ap (λ (o : Objects). text_of (misses_lines g (length t) o (told_rows (rows_of g t))
+    ∙ ap (λ (o : Objects). text_of (misses_lines g (length t) whole o (told_rows (rows_of g t))
     (all_costs g t))) so_far.objects

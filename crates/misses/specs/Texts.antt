@@ -1,5 +1,7 @@
 -- The text of misses: of each line that has useful or useless ones, what its sharing costs and what
 -- stands on it, and the sums over all lines.
+use Rattle.std.specs.Prelude.{Option}
+use Rattle.trace_passes.specs.Whole.{whole_lines}
 use Rattle.std.specs.Prelude.{ℕ, Bool, ◌&&◌, ◌||◌, ◌==◌, nat_lt, int_lt, codes, List, [], ◌∷◌, ◌++◌}
 use Rattle.std.specs.Prelude.{filter, flat_map, length}
 use Rattle.std.specs.Fmt.{decimal}
@@ -46,12 +48,13 @@ miss_line x = codes "line" ∷ address_text (range_of x.line).base ∷ cost_word
 abbrev pub miss_lines : Objects → ℕ → Row → List TextLine
 miss_lines objects end x = miss_line x ∷ lines_on objects (range_of x.line) 0 end
 
--- the layout, and how many accesses and lines are told
-abbrev pub miss_heads : Grid → ℕ → ℕ → List TextLine
-miss_heads g accesses lines =
+-- the layout, how many accesses there are, how many there were before a filtered trace was
+-- filtered, and how many lines are told
+abbrev pub miss_heads : Grid → ℕ → Option ℕ → ℕ → List TextLine
+miss_heads g accesses whole lines =
     (codes "misses" ∷ decimal g.size ∷ decimal g.offset ∷ [])
     ∷ (codes "accesses" ∷ decimal accesses ∷ [])
-    ∷ (codes "lines" ∷ decimal lines ∷ []) ∷ []
+    ∷ (whole_lines whole ++ (codes "lines" ∷ decimal lines ∷ []) ∷ [])
 
 -- the sums over all lines, those that aren't told with the others
 abbrev pub total_line : Costs → TextLine
@@ -60,15 +63,15 @@ total_line total = codes "total" ∷ cost_words total
 abbrev pub miss_ends : Costs → List TextLine
 miss_ends total = total_line total ∷ (codes "end" ∷ []) ∷ []
 
-abbrev pub misses_lines : Grid → ℕ → Objects → List Row → Costs → List TextLine
-misses_lines g accesses objects rows total =
-    miss_heads g accesses (length rows)
+abbrev pub misses_lines : Grid → ℕ → Option ℕ → Objects → List Row → Costs → List TextLine
+misses_lines g accesses whole objects rows total =
+    miss_heads g accesses whole (length rows)
     ++ flat_map (miss_lines objects accesses) rows
     ++ miss_ends total
 
 -- the misses of a list of records under a layout
-unfoldable pub misses_of_records : Grid → List TraceRecord → List ℕ
-misses_of_records g items =
+unfoldable pub misses_of_records : Grid → Option ℕ → List TraceRecord → List ℕ
+misses_of_records g whole items =
     let t = touches_in items in
-    text_of (misses_lines g (length t) (objects_of items) (told_rows (rows_of g t))
+    text_of (misses_lines g (length t) whole (objects_of items) (told_rows (rows_of g t))
     (all_costs g t))

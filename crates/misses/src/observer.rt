@@ -86,14 +86,14 @@ impl MissObservations {
     ///
     /// NoMemory comes where there is no memory for the text, for the told lines and their sort, or
     /// for 32 bytes each 256 blocks.
-    pub fn text(&self, alloc: Global) -> Result<Vec<u8>, NoMemory>
+    pub fn text(&self, alloc: Global, whole: Option<u64>) -> Result<Vec<u8>, NoMemory>
         // where it has seen these records from the beginning, it is that of the records
         ensures { (g : Grid) (items : List Record)
             → HasMissed (nothing_missed g) self.now items
-            → IfOk result (λ text. text.items ≡ misses_of_records g items) }
+            → IfOk result (λ text. text.items ≡ misses_of_records g whole items) }
     {
         let total = self.misses.totals();
-        let text = write_misses(alloc, &self.misses, total, &self.objects)?;
+        let text = write_misses(alloc, &self.misses, whole, total, &self.objects)?;
         Ok(text)
     }
 }

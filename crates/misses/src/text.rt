@@ -120,16 +120,23 @@ fn push_heads(
     text: &mut String,
     layout: Layout,
     accesses: u64,
+    whole: Option<u64>,
     lines: usize,
 ) -> Result<(), AllocError>
-    ensures { OnOk result (AddsLines text.old text.new (miss_heads layout accesses lines)) }
+    ensures { OnOk result (AddsLines text.old text.new (miss_heads layout accesses whole lines)) }
 {
     let size = layout.size();
     let offset = layout.offset();
-    writeln!(
-        text,
-        "misses {size} {offset}\naccesses {accesses}\nlines {lines}"
-    )
+    match whole {
+        None => writeln!(
+            text,
+            "misses {size} {offset}\naccesses {accesses}\nlines {lines}"
+        ),
+        Some(whole) => writeln!(
+            text,
+            "misses {size} {offset}\naccesses {accesses}\nwhole {whole}\nlines {lines}"
+        ),
+    }
 }
 
 // The line of the sums over all lines.
@@ -161,34 +168,36 @@ fn push_ends(text: &mut String, total: Costs) -> Result<(), AllocError>
 fn push_misses(
     text: &mut String,
     misses: &Misses,
+    whole: Option<u64>,
     rows: &[Row],
     total: Costs,
     index: &ObjectIndex<'_>,
 ) -> Result<(), AllocError>
     ensures { OnOk result (AddsLines text.old text.new
-        (misses_lines misses.now.grid misses.now.position index.now rows.now total)) }
+        (misses_lines misses.now.grid misses.now.position whole index.now rows.now total)) }
 {
     let accesses = misses.position();
-    push_heads(text, misses.layout(), accesses, rows.len())?;
+    push_heads(text, misses.layout(), accesses, whole, rows.len())?;
     push_rows(text, rows, index, accesses)?;
     push_ends(text, total)
 }
 
 /// The text of misses, with these sums over all lines, and of the objects on the lines that are
-/// told.
+/// told. Of a filtered trace it also says how many accesses the whole one has.
 pub fn write_misses(
     alloc: Global,
     misses: &Misses,
+    whole: Option<u64>,
     total: Costs,
     objects: &ObjectTable,
 ) -> Result<Vec<u8>, NoMemory>
     ensures { IfOk result (λ text. text.items ≡ text_of
-        (misses_lines misses.now.grid misses.now.position objects.now
+        (misses_lines misses.now.grid misses.now.position whole objects.now
         (told_rows (map (row_of misses.now.grid) misses.now.lines)) total)) }
 {
     let rows = sorted(alloc, misses)?;
     let index = ObjectIndex::new(alloc, objects)?;
     let mut text = String::new(alloc);
-    push_misses(&mut text, misses, &rows, total, &index)?;
+    push_misses(&mut text, misses, whole, &rows, total, &index)?;
     Ok(text.into_bytes())
 }

@@ -10,6 +10,7 @@ ghost use Rattle.sharing_rules.specs.AccessLists.{AccessList};
 ghost use Rattle.detector.specs.Standing.{StandsFor};
 ghost use Rattle.report.specs.OfLists.{report_of};
 ghost use Rattle.trace_format.specs.Rules.{touches_in};
+ghost use Rattle.trace_format.specs.declared.record.TraceEnd.{TraceEnd};
 ghost use Rattle.trace_format.specs.declared.record.TraceRecord.{TraceRecord as Record};
 ghost use Rattle.trace_format.specs.declared.record.TraceRecord.TheVariants as records;
 ghost use Rattle.trace_passes.specs.Lives.{objects_after, objects_of};
@@ -22,9 +23,9 @@ use detector::an_access_changes_what_it_meets;
 
 /// The end record of a trace shows nothing. Nothing is done.
 pub fn an_end_shows_nothing()
-    ensures seen { (begun now : ObservedTrace) (items : List Record) (e : End)
+    ensures seen { (begun now : ObservedTrace) (items : List Record) (e : TraceEnd)
         → HasSeen begun now (items ++ records.End e ∷ []) → HasSeen begun now items }
-    ensures report { (ending e : End) (g : Grid) (v : Levels) (items : List Record)
+    ensures report { (ending : End) (e : TraceEnd) (g : Grid) (v : Levels) (items : List Record)
         → report_of_records ending g v (items ++ records.End e ∷ [])
         ≡ report_of_records ending g v items }
 {}

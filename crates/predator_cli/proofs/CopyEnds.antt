@@ -1,4 +1,5 @@
 -- How a command ends that copies a trace, whatever its outputs are.
+use Rattle.trace_passes.specs.Passes.{near_refusal}
 use Rattle.std.proofs.Common.{◌≡◌, ◌≢◌, ℕ, List, [], ◌∷◌, Option, Some, None, true, false, refl}
 use Rattle.std.proofs.Common.{sym, ap, subst, ◌∙◌, inl, inr}
 use Rattle.std.proofs.lemmas.Slice.Eq.{bytes_eq-Decides}
@@ -11,9 +12,9 @@ use Rattle.command_line.specs.Words.{Demand, convert, split, outputs as outputs_
 use Rattle.shelf.specs.Files.{BegunInOrder, Output}
 use Rattle.shelf.specs.OnTheirWay.{IsNew}
 use Rattle.shelf.specs.Shelf.{Files, Goes, HasRead, Outside, Told, content}
-use Rattle.trace_files.specs.Laws.Copies.{trace_found, trace_unrefused}
+use Rattle.trace_files.specs.Laws.Copies.{plain_found, plain_unrefused}
 use Rattle.trace_files.specs.Copies.{HasCopied, HasStopped, RoseAt as RoseAtCopy, StaysWhereRefused}
-use Rattle.trace_files.specs.Copies.{any, conversion, halves}
+use Rattle.trace_files.specs.Copies.{unfiltered, conversion, halves}
 use Rattle.trace_files.specs.declared.copy_fault.CopyFault.{CopyFault}
 use Rattle.trace_files.specs.declared.copy_fault.CopyFault.TheVariants.{Refused, Changed, ReadFault}
 use Rattle.trace_files.specs.declared.copy_fault.CopyFault.TheVariants.{WriteFault, NoMemory}
@@ -114,11 +115,11 @@ pub record HasFailed (name : List ℕ) (names : List (List ℕ)) (outputs : Trac
     (a b : Outside) (fault : CopyFault) : Type 0
   where
     pub refused : (r : Refusal) → fault ≡ Refused r
-        → Told b.held (λ files. refusal_of any (content files name) ≡ Some r)
+        → Told b.held (λ files. refusal_of unfiltered (content files name) ≡ Some r)
     pub stays : (r : Refusal) → fault ≡ Refused r → HasRead a b
     pub memory : fault ≢ Refused (refusals.Trace trace.NoMemory)
     pub changed : (r : Refusal) → fault ≡ Changed r → b.held ≡ None
-    pub accepted : fault ≡ WriteFault → Told b.held (λ files. refusal_of any (content files name)
+    pub accepted : fault ≡ WriteFault → Told b.held (λ files. refusal_of unfiltered (content files name)
         ≡ None)
     pub begun : StaysWhereRefused b.held name a b
     pub stopped : HasStopped b.held name names outputs a b fault
@@ -127,10 +128,10 @@ module _ (d : Demand) (name : List ℕ) (text : Trace → List ℕ) (outputs : T
     (copying : IsCopying d name text outputs)
     (a b : Outside)
   where
-    accepts : (files : Files) → refusal_of any (content files name) ≡ None
+    accepts : (files : Files) → refusal_of unfiltered (content files name) ≡ None
         → first_refusal (readings_of d) files ≡ None
     accepts files none = ap (λ readings. first_refusal readings files) copying.reads
-        ∙ none_alone (refuses_trace any name files) (ap (option_map status_of_refusal) none)
+        ∙ none_alone (refuses_trace unfiltered name files) (ap (option_map status_of_refusal) none)
 
     work_is : (files : Files) (t : Trace) → trace_of (content files name) ≡ Some t → work_of d files
         ≡ copy_with text outputs t
@@ -140,38 +141,40 @@ module _ (d : Demand) (name : List ℕ) (text : Trace → List ℕ) (outputs : T
     -- ---- the copies are made
 
     to_write : (bytes : List ℕ) (t : Trace) → Told b.held (λ files. bytes ≡ content files name)
-        → trace_of bytes ≡ Some t
+        → trace_of bytes ≡ Some t → near_refusal None t.header.near ≡ None
         → IsToWrite d (copy_with text outputs t) b.held
-    to_write bytes t whole is = record {
+    to_write bytes t whole is plain = record {
       accepts = told_map b.held (λ files same. accepts files
-          (ap (refusal_of any) (sym same) ∙ trace_unrefused bytes t is)) whole;
+          (ap (refusal_of unfiltered) (sym same) ∙ plain_unrefused bytes t is plain)) whole;
       works = told_map b.held (λ files same. work_is files t (ap trace_of (sym same) ∙ is)) whole;
       names = copying.named t;
     }
 
     pub copy_worked : {says : Trace → Type 0} (shown : List ℕ)
         (copied : HasCopied b.held name outputs says a b)
+        → ((t : Trace) → says t → near_refusal None t.header.near ≡ None)
         → shown ≡ text copied.trace → IsWorked d a b status.Done shown
-    copy_worked shown copied is =
+    copy_worked shown copied plain is =
         written_worked d (copy_with text outputs copied.trace) a b status.Done shown
-        (to_write copied.bytes copied.trace copied.whole copied.is) refl is
+        (to_write copied.bytes copied.trace copied.whole copied.is
+        (plain copied.trace copied.told)) refl is
         (told b.held copying.again) copied.written
 
     -- ---- it gave up
 
     part_at : (files : Files) → ((t : Trace) → trace_of (content files name) ≡ Some t
         → Goes a.written b.written (BegunInOrder (outputs t)))
-        → ((r : Refusal) → refusal_of any (content files name) ≡ Some r
+        → ((r : Refusal) → refusal_of unfiltered (content files name) ≡ Some r
         → Goes a.written b.written AreSame)
-        → (r : Option Refusal) → refusal_of any (content files name) ≡ r
+        → (r : Option Refusal) → refusal_of unfiltered (content files name) ≡ r
         → Goes a.written b.written (BegunInOrder (answer_of (Some d) files).outputs)
     part_at files fronts stays None none =
-        let found = trace_found (content files name) none in
+        let found = plain_found (content files name) none in
         own_outputs d files (λ outs. Goes a.written b.written (BegunInOrder outs))
         (accepts files none)
         (subst (λ (w : Work). Goes a.written b.written (BegunInOrder w.outputs))
-        (sym (work_is files found.0 found.1))
-        (fronts found.0 found.1))
+        (sym (work_is files found.trace found.is))
+        (fronts found.trace found.is))
     part_at files fronts stays (Some r) is = same_stands (answer_of (Some d) files).outputs
         a.written b.written (stays r is)
 
@@ -181,7 +184,7 @@ module _ (d : Demand) (name : List ℕ) (text : Trace → List ℕ) (outputs : T
         → IsFaulty (Some d) a b (status_of_refusal r)
     refused_faulty r failed judged =
         let read = failed.stays r refl in
-        let stopped = refused_stopped name (refuses_trace any name) a b (status_of_refusal r) judged
+        let stopped = refused_stopped name (refuses_trace unfiltered name) a b (status_of_refusal r) judged
         (told_map b.held (λ files e. ap (option_map status_of_refusal) e) (failed.refused r refl))
         read.faults read.only in
         stopped_faulty d a b (status_of_refusal r)
@@ -195,7 +198,7 @@ module _ (d : Demand) (name : List ℕ) (text : Trace → List ℕ) (outputs : T
           (BegunInOrder (answer_of (Some d) files).outputs))
       part =
           told_both b.held (λ files fronts stays. part_at files fronts stays
-          (refusal_of any (content files name)) refl)
+          (refusal_of unfiltered (content files name)) refl)
           failed.stopped.fronts failed.begun
 
       only : OnlyAt (outputs_of d) a b

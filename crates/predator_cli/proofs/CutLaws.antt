@@ -1,5 +1,6 @@
 -- The parts of a trace that was cut show what the whole shows: the ends of the earlier parts, which
 -- stand among the records, show nothing.
+use Rattle.trace_format.specs.Ends.{run_end}
 use Rattle.std.proofs.Common.{◌≡◌, ℕ, List, [], ◌∷◌, ◌++◌, length, Option, None, refl, sym, ap, ◌∙◌}
 use Rattle.std.specs.Prelude.{flat_map}
 use Rattle.std.proofs.Common.{append_assoc}
@@ -9,7 +10,7 @@ use Rattle.objects.specs.Objects.{Objects, no_objects}
 use Rattle.saved_state.specs.ObjectSpelling.{spell_objects}
 use Rattle.base.specs.Levels.{Levels}
 use Rattle.base.specs.Lines.{Grid}
-use Rattle.base.specs.declared.ending.Ending.{Ending}
+use Rattle.trace_format.specs.declared.record.TraceEnd.{TraceEnd}
 use Rattle.report.specs.OfLists.{report_of}
 use Rattle.sharing_rules.specs.AccessLists.{AccessList}
 use Rattle.trace_passes.specs.Lives.{objects_after, objects_of}
@@ -28,8 +29,8 @@ use Rattle.predator_cli.specs.States.{state_of_records}
 
 -- what no end changes is the same of the parts and of the whole
 module _ {X : Type 0} (shows : List TraceRecord → X)
-    (last : (xs : List TraceRecord) (e : Ending) → shows (xs ++ records.End e ∷ []) ≡ shows xs)
-    (amid : (xs ys : List TraceRecord) (e : Ending)
+    (last : (xs : List TraceRecord) (e : TraceEnd) → shows (xs ++ records.End e ∷ []) ≡ shows xs)
+    (amid : (xs ys : List TraceRecord) (e : TraceEnd)
     → shows ((xs ++ records.End e ∷ []) ++ ys) ≡ shows (xs ++ ys))
   where
     -- without the ends of the parts between what comes before them and behind them
@@ -80,18 +81,18 @@ module _ {X : Type 0} (shows : List TraceRecord → X)
         ∙ sym (last (before ++ whole.items) whole.ending)
         ∙ ap shows (append_assoc before whole.items (records.End whole.ending ∷ []))
 
-pub touches_last : (xs : List TraceRecord) (e : Ending)
+pub touches_last : (xs : List TraceRecord) (e : TraceEnd)
     → touches_in (xs ++ records.End e ∷ []) ≡ touches_in xs
 touches_last xs e = filter_map-append touch_in xs (records.End e ∷ []) ∙ append-nil (touches_in xs)
 
-touches_amid : (xs ys : List TraceRecord) (e : Ending)
+touches_amid : (xs ys : List TraceRecord) (e : TraceEnd)
     → touches_in ((xs ++ records.End e ∷ []) ++ ys) ≡ touches_in (xs ++ ys)
 touches_amid xs ys e =
     filter_map-append touch_in (xs ++ records.End e ∷ []) ys
     ∙ ap (λ (t : AccessList). t ++ touches_in ys) (touches_last xs e)
     ∙ sym (filter_map-append touch_in xs ys)
 
-objects_last : (xs : List TraceRecord) (e : Ending)
+objects_last : (xs : List TraceRecord) (e : TraceEnd)
     → objects_of (xs ++ records.End e ∷ []) ≡ objects_of xs
 objects_last xs e = objects_after-end xs e no_objects 0
 
@@ -99,7 +100,7 @@ module _ (objects : (before items : List TraceRecord)
     → objects_after (objects_of before) (length (touches_in before)) items
     ≡ objects_of (before ++ items))
   where
-    objects_amid : (xs ys : List TraceRecord) (e : Ending)
+    objects_amid : (xs ys : List TraceRecord) (e : TraceEnd)
         → objects_of ((xs ++ records.End e ∷ []) ++ ys) ≡ objects_of (xs ++ ys)
     objects_amid xs ys e =
         sym (objects (xs ++ records.End e ∷ []) ys)
@@ -119,8 +120,8 @@ module _ (objects : (before items : List TraceRecord)
         same_shown touches_in touches_last touches_amid whole final earlier cut.items in
         let things : objects_of all ≡ objects_of (all_records whole) =
         same_shown objects_of objects_last objects_amid whole final earlier cut.items in
-        let ending : ended_at (length (touches_in all)) final.ending ≡ whole.ending =
-        ap (λ (t : AccessList). ended_at (length t) final.ending)
+        let ending : ended_at (length (touches_in all)) (run_end final.ending) ≡ run_end whole.ending =
+        ap (λ (t : AccessList). ended_at (length t) (run_end final.ending))
         (touches ∙ touches_last whole.items whole.ending)
         ∙ sym cut.ending in
         λ i. shown save (report_of (ending i) g v (things i) (touches i))
@@ -140,10 +141,10 @@ module _ (objects : (before items : List TraceRecord)
         same_behind touches_in touches_last touches_amid before whole first final halves.items in
         let things : objects_of cut ≡ objects_of all =
         same_behind objects_of objects_last objects_amid before whole first final halves.items in
-        let ending : ended_at (length (touches_in cut)) final.ending
-        ≡ ended_at (length (touches_in all)) whole.ending =
-        ap (λ (t : AccessList). ended_at (length t) final.ending) touches
-        ∙ ap (ended_at (length (touches_in all))) halves.ending in
+        let ending : ended_at (length (touches_in cut)) (run_end final.ending)
+        ≡ ended_at (length (touches_in all)) (run_end whole.ending) =
+        ap (λ (t : AccessList). ended_at (length t) (run_end final.ending)) touches
+        ∙ ap (λ (e : TraceEnd). ended_at (length (touches_in all)) (run_end e)) halves.ending in
         λ i. shown save (report_of (ending i) g v (things i) (touches i))
         (state_of_list g v harts (touches i) ++ spell_objects (things i))
 
@@ -152,7 +153,7 @@ pub uncut : (whole : Trace) → whole.ending.accesses ≡ length (touches_in who
     → IsCutIn whole [] whole
 uncut whole counted = record {
   items = refl;
-  ending = ap (λ (n : ℕ). record whole.ending { accesses = n }) counted;
+  ending = ap (λ (n : ℕ). record (run_end whole.ending) { accesses = n }) counted;
   told = All-cons TellsItsCount whole [] counted (All-nil TellsItsCount);
 }
 
@@ -165,7 +166,7 @@ halves_cut at whole halves counted = record {
   items = halves.items
       ∙ ap (λ (xs : List TraceRecord). xs ++ (second_half at whole).items)
       (sym (append-nil (first_half at whole).items));
-  ending = ap (λ (n : ℕ). record whole.ending { accesses = n }) counted;
+  ending = ap (λ (n : ℕ). record (run_end whole.ending) { accesses = n }) counted;
   told = All-cons TellsItsCount (first_half at whole) (second_half at whole ∷ [])
       halves.first_is.good.good.counted
       (All-cons TellsItsCount (second_half at whole) [] halves.second_is.good.good.counted

@@ -101,6 +101,8 @@ no_memory_hidden (status.Schedule fault) kind = let k : refusal ≡ done = kind 
 no_memory_hidden (status.Settings fault) kind = let k : refusal ≡ done = kind in cc
 no_memory_hidden (status.Trace fault) kind = let k : refusal ≡ done = kind in cc
 no_memory_hidden status.NoPcs kind = refl
+no_memory_hidden status.Filtered kind = refl
+no_memory_hidden status.TooWide kind = refl
 no_memory_hidden (status.State fault) kind = refl
 no_memory_hidden status.ReadFault kind = refl
 no_memory_hidden status.WriteFault kind = refl
@@ -428,6 +430,12 @@ stopped_faulty demand a b (status.Trace fault) stopped = file_faulty demand a b
     stopped.why.0 stopped.why.1 stopped.only
 stopped_faulty demand a b status.NoPcs stopped = file_faulty demand a b
     status.NoPcs refl stopped.words stopped.memory
+    stopped.why.0 stopped.why.1 stopped.only
+stopped_faulty demand a b status.Filtered stopped = file_faulty demand a b
+    status.Filtered refl stopped.words stopped.memory
+    stopped.why.0 stopped.why.1 stopped.only
+stopped_faulty demand a b status.TooWide stopped = file_faulty demand a b
+    status.TooWide refl stopped.words stopped.memory
     stopped.why.0 stopped.why.1 stopped.only
 stopped_faulty demand a b (status.State fault) stopped = file_faulty demand a b
     (status.State fault) refl stopped.words stopped.memory

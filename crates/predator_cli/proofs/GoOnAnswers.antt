@@ -1,4 +1,5 @@
 -- A replay that goes on from the state of some records is not refused.
+use Rattle.trace_passes.specs.Passes.{near_refusal}
 use Rattle.std.proofs.Common.{◌≡◌, ℕ, List, [], ◌∷◌, ◌++◌, length, Option, Some, None, Result, Ok}
 use Rattle.std.proofs.Common.{Bool, false, Err}
 use Rattle.std.proofs.Common.{refl, ap, ◌∙◌}
@@ -9,7 +10,7 @@ use Rattle.command_line.specs.Replay.{ReplayDemand}
 use Rattle.command_line.specs.Words.{replay}
 use Rattle.base.specs.Levels.{Levels}
 use Rattle.base.specs.Lines.{Grid}
-use Rattle.base.specs.declared.ending.Ending.{Ending}
+use Rattle.trace_format.specs.declared.record.TraceEnd.{TraceEnd}
 use Rattle.shelf.specs.Shelf.{Files, content}
 use Rattle.trace_format.specs.Judging.{version_at}
 use Rattle.trace_format.specs.Reading.{ending_of, reading_of}
@@ -41,7 +42,7 @@ use Rattle.command_io.specs.Laws.Readings.{accepted_both}
 module _ (w : Wanted) (t : Trace) (any : w.pcs ≡ false)
     (unrefused : header_refusal w (Some t.header) ≡ None)
   where
-    wanted_at : (all : List TraceRecord) (p : Option ReadSoFar) (end : Result Ending TraceFault)
+    wanted_at : (all : List TraceRecord) (p : Option ReadSoFar) (end : Result TraceEnd TraceFault)
         → trace_at all p end ≡ Some t
         → option_or (header_refusal w (head_of p)) (trace_refusal end) ≡ None
     wanted_at all (Some p) (Ok e) is =
@@ -67,10 +68,11 @@ module _ (w : Wanted) (t : Trace) (any : w.pcs ≡ false)
 
 -- one that goes on from some records is wanted behind them
 wanted_behind : (g : Grid) (v : Levels) (harts : ℕ) (before : List TraceRecord) (h : Header)
-    → h.harts ≡ harts → h.first ≡ length (touches_in before)
+    → near_refusal None h.near ≡ None → h.harts ≡ harts
+    → h.first ≡ length (touches_in before)
     → header_refusal (wanted_after (Some (begun_of g v harts before))) (Some h) ≡ None
-wanted_behind g v harts before h same first =
-    rw (eq-eqb h.harts harts same, eq-eqb h.first (length (touches_in before)) first) refl
+wanted_behind g v harts before h plain same first =
+    rw (plain, eq-eqb h.harts harts same, eq-eqb h.first (length (touches_in before)) first) refl
 
 -- ---- all files
 
@@ -106,7 +108,7 @@ module _ (demand : ReplayDemand) (files : Files) (harts : ℕ) (before : List Tr
         (option_map status_of_refusal (refuses (wanted_after b) bytes)) None) begun
         ∙ ap (λ (r : Option Refusal). option_or (option_map status_of_refusal r) None)
         (trace_accepted (wanted_after (Some (begun_of g v harts before))) t refl
-        (wanted_behind g v harts before t.header so.same_harts so.first) bytes so.trace)
+        (wanted_behind g v harts before t.header so.plain so.same_harts so.first) bytes so.trace)
 
     pub answered_on : (all : Work) → replay_work demand files ≡ all
         → first_refusal (settings_readings demand.settings) files ≡ None

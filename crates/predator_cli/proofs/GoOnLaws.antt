@@ -1,4 +1,5 @@
 -- What a replay gives that goes on from the state of some records.
+use Rattle.trace_format.specs.Ends.{run_end}
 use Rattle.std.proofs.Common.{◌≡◌, ◌<◌, ℕ, arith, List, [], ◌++◌, length, eqb, true, Option, Some}
 use Rattle.std.proofs.Common.{None}
 use Rattle.std.proofs.Common.{Ok, Err, refl, sym, ap, ◌∙◌, subst}
@@ -182,13 +183,13 @@ module _ (seen : (begun : ObservedTrace) (items : List TraceRecord) → IsNotabl
         let still = notable_now g v harts before items now came stood behind notable
         (apart (before ++ items)) in
         let counted = stands_now g v harts before items now came stood behind in
-        let text = text_now g v harts before items now came stood behind t.ending
-        (report (ended_at now.watch.position t.ending) now (touches_in (before ++ items)) still
+        let text = text_now g v harts before items now came stood behind (run_end t.ending)
+        (report (ended_at now.watch.position (run_end t.ending)) now (touches_in (before ++ items)) still
         counted) in
         let state = state_now g v harts before items now came stood behind
         (saved harts (touches_in (before ++ items)) now.watch still.layout still.native counted)
         in
-        ap (λ (n : ℕ). shown save (report_of_observed (ended_at now.watch.position t.ending) now)
+        ap (λ (n : ℕ). shown save (report_of_observed (ended_at now.watch.position (run_end t.ending)) now)
         (state_of_observed n now)) same
         ∙ λ i. shown save (text i) (state i)
 

@@ -1,4 +1,5 @@
 -- What `explain` counts of a line that a run of the same files lists is the count that is listed.
+use Rattle.run_recorder.specs.Recorded.{end_for}
 use Rattle.std.proofs.Common.{◌≡◌, ℕ, ◌+◌, ◌*◌, ◌/◌, ◌%◌, ◌<◌, List, [], ◌∷◌, ◌++◌, Some}
 use Rattle.std.proofs.Common.{None, Bool, leb, ltb, eqb, ◌&&◌, pos, map, append-nil, refl, sym, ap}
 use Rattle.std.proofs.Common.{◌∙◌, subst, arith, inl, inr}
@@ -71,7 +72,7 @@ of_trace : (v : Version) (harts : ℕ) (file : List ℕ) (r : Run)
     ≡ touches_in (all_records (trace_for v harts (symbol_records file) r))
 of_trace v harts file r =
     let symbols = symbol_records file in
-    let last : List TraceRecord = records.End r.ending ∷ [] in
+    let last : List TraceRecord = records.End (end_for v r.ending) ∷ [] in
     of_events v r.events
     ∙ sym (filter_map-append touch_in (symbols ++ records_in v r.events) last
     ∙ append-nil (touches_in (symbols ++ records_in v r.events))

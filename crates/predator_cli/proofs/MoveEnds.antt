@@ -13,7 +13,7 @@ use Rattle.shelf.specs.Files.{AreWhole, BegunInOrder, Output, bytes_for, one_fil
 use Rattle.shelf.specs.Laws.Files.{AreWritten-behind}
 use Rattle.shelf.specs.Laws.Told.{goes_map, told, told_both, told_map}
 use Rattle.shelf.specs.Shelf.{Files, Goes, Outside, Told, content}
-use Rattle.trace_files.specs.Copies.{HasCopied}
+use Rattle.trace_files.specs.Copies.{HasCopied, IsUnfiltered}
 use Rattle.trace_files.specs.Moves.{IsFree, moved_list}
 use Rattle.trace_files.specs.Moving.{HasGivenUp, IsCounted, IsRefused, fault_of, moved, moving}
 use Rattle.trace_files.specs.Moving.{written_of}
@@ -53,7 +53,7 @@ use Rattle.predator_cli.proofs.WriteEnds.{IsToWrite, or_false, written_worked}
 
 -- what a law of moved traces says under a table
 pub record Moves (table : List Move) : Type 0 where
-  pub accepted : (bytes : List ℕ) (t : Trace) → trace_of bytes ≡ Some t
+  pub accepted : (bytes : List ℕ) (t : Trace) → trace_of bytes ≡ Some t → IsUnfiltered t
       → IsFree table (touches_in t.items) → fault_of table bytes ≡ None
   pub found : (bytes : List ℕ) → fault_of table bytes ≡ None
       → (t : Trace) × (trace_of bytes ≡ Some t)
@@ -135,10 +135,10 @@ module _ (d : MoveDemand) (table : List Move) (moves : Moves table) where
 
   repeats : (files : Files) → table_of (content files d.table) ≡ Ok table
       → (t : Trace) → trace_of (content files d.trace) ≡ Some t
-      → IsFree table (touches_in t.items) → MoveRepeats d files
-  repeats files holds t is free = λ other later small also at short.
+      → IsUnfiltered t → IsFree table (touches_in t.items) → MoveRepeats d files
+  repeats files holds t is unfiltered free = λ other later small also at short.
       let same : t ≡ other = same_Some t other (sym is ∙ also) in
-      let none = moves.accepted (content files d.trace) t is free in
+      let none = moves.accepted (content files d.trace) t is unfiltered free in
       let answer : judged (move_readings d) (move_work d) files
       ≡ copy_with (move_text table) (moving table d.file) t =
       ap (λ (o : Option Status). option_map_or refused_with o (move_work d files))
@@ -174,14 +174,15 @@ module _ (d : MoveDemand) (table : List Move) (moves : Moves table) where
           let ready : IsToWrite (relocate d) w b.held = record {
             accepts = told_both b.held (λ files same e. accepts files e
                 (ap (fault_of table) (sym same)
-                ∙ moves.accepted copied.bytes t copied.is copied.told.free)) copied.whole holds;
+                ∙ moves.accepted copied.bytes t copied.is copied.told.unfiltered
+                copied.told.free)) copied.whole holds;
             works = told_both b.held (λ files same e. work_is files e t
                 (ap trace_of (sym same) ∙ copied.is)) copied.whole holds;
             names = refl;
           } in
           written_worked (relocate d) w a b status.Done shown ready refl is
           (told_both b.held (λ files same e. repeats files e t (ap trace_of (sym same) ∙ copied.is)
-          copied.told.free) copied.whole holds)
+          copied.told.unfiltered copied.told.free) copied.whole holds)
           (AreWritten-behind (moving table d.file t) a m b read.read copied.written)
 
       -- ---- it gave up

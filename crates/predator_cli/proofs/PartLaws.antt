@@ -1,5 +1,9 @@
 -- A trace that is cut in parts, each counted from the state of those before it, gives what the
 -- whole gives.
+use Rattle.trace_format.specs.declared.record.Header.{Header}
+use Rattle.trace_passes.specs.Passes.{near_refusal}
+use Rattle.trace_format.specs.Rules.{HasRegions}
+use Rattle.trace_format.specs.declared.record.Version.TheVariants.{One, Two, Three, Four}
 use Rattle.std.proofs.Common.{◌≡◌, ◌≢◌, ◌+◌, ◌≤◌, ◌^◌, ℕ, Bool, true, false, List, [], ◌∷◌, ◌++◌}
 use Rattle.std.proofs.Common.{length, Option, Some, None, Ok, refl, sym, ap, subst, ◌∙◌, arith}
 use Rattle.std.proofs.lemmas.Bool.{eq-eqb}
@@ -28,8 +32,8 @@ use Rattle.settings.specs.declared.values.Settings.{Settings}
 use Rattle.shelf.specs.Files.{bytes_for}
 use Rattle.shelf.specs.Shelf.{Files, content}
 use Rattle.trace_passes.specs.Lives.{objects_of}
-use Rattle.trace_files.specs.Copies.{any, first_half, halves, second_half}
-use Rattle.trace_files.specs.Laws.Copies.{trace_unrefused}
+use Rattle.trace_files.specs.Copies.{unfiltered, first_half, halves, second_half}
+use Rattle.trace_files.specs.Laws.Copies.{plain_unrefused}
 use Rattle.trace_format.specs.Rules.{IsGoodRecord, touch_in, touches_in}
 use Rattle.trace_format.specs.declared.record.TraceRecord.{TraceRecord}
 use Rattle.trace_format.specs.declared.record.TraceRecord.TheVariants as records
@@ -117,12 +121,21 @@ pub record IsReady (how : Counting) (s : Settings) (resume : Option (List ℕ)) 
   pub settings : settings_in how.settings files ≡ Ok s
   pub whole : IsWhole t
   pub first : t.header.first ≡ length (touches_in before)
+  pub plain : t.version ≢ Four
   pub good : All (IsGoodRecord t.version t.header.harts) before
   pub from : From (layout_of how.layout s) (levels_of how.layout s) resume files t.header.harts
       before
 
-wanted_whole : (t : Trace) → t.header.first ≡ 0 → header_refusal whole (Some t.header) ≡ None
-wanted_whole t first = rw (eq-eqb t.header.first 0 first) refl
+plain_near : (v : Version) (h : Header) → v ≢ Four → HasRegions v h
+    → near_refusal None h.near ≡ None
+plain_near One h plain none = rw none refl
+plain_near Two h plain none = rw none refl
+plain_near Three h plain none = rw none refl
+plain_near Four h plain none = absurd (plain refl)
+
+wanted_whole : (t : Trace) → near_refusal None t.header.near ≡ None → t.header.first ≡ 0
+    → header_refusal whole (Some t.header) ≡ None
+wanted_whole t plain first = rw (plain, eq-eqb t.header.first 0 first) refl
 
 module _
     (answered : (demand : ReplayDemand) (files : Files) (harts : ℕ) (before : List TraceRecord)
@@ -145,27 +158,29 @@ module _
     -- a whole trace is accepted
     whole_read : (files : Files) (name : List ℕ) (t : Trace) (save : Option (List ℕ))
         → settings_in how.settings files ≡ Ok s
-        → trace_of (content files name) ≡ Some t → t.header.first ≡ 0
+        → trace_of (content files name) ≡ Some t → near_refusal None t.header.near ≡ None
+        → t.header.first ≡ 0
         → first_refusal (replay_readings (part_replay how None name save)) files ≡ None
-    whole_read files name t save settings is first =
+    whole_read files name t save settings is plain first =
         accepted_both (settings_readings how.settings) (trace_reading (λ f. whole) name ∷ [])
         (Some files) (settings_pass how.settings files s settings)
         (none_alone (option_map status_of_refusal (refuses whole (content files name)))
         (ap (option_map status_of_refusal)
-        (trace_accepted whole t refl (wanted_whole t first) (content files name) is)))
+        (trace_accepted whole t refl (wanted_whole t plain first) (content files name) is)))
 
     whole_work : (files : Files) (name : List ℕ) (t : Trace) (save : Option (List ℕ))
         → settings_in how.settings files ≡ Ok s
-        → trace_of (content files name) ≡ Some t → t.header.first ≡ 0 → IsWhole t
+        → trace_of (content files name) ≡ Some t → near_refusal None t.header.near ≡ None
+        → t.header.first ≡ 0 → IsWhole t
         → replayed (part_replay how None name save) files
         ≡ work_of_both save g v t.header.harts [] t
-    whole_work files name t save settings is first full =
+    whole_work files name t save settings is plain first full =
         let demand = part_replay how None name save in
         let chosen = settings_chosen how.settings files s settings in
         ap (λ (r : Option Status). option_map_or refused_with r
         (option_map_or (work_after save (grid_in demand files) (levels_in demand files) None)
         (trace_of (content files name)) (done_with []))) (whole_read files name t save settings is
-        first)
+        plain first)
         ∙ ap (λ (o : Option Trace). option_map_or
         (work_after save (grid_in demand files) (levels_in demand files) None) o (done_with [])) is
         ∙ ap (λ (x : Settings). work_after save (layout_of how.layout x) (levels_of how.layout x)
@@ -181,7 +196,8 @@ module _
     ready_work None files t before name save ready is =
         let first : t.header.first ≡ 0 =
         ready.first ∙ ap (λ (xs : List TraceRecord). length (touches_in xs)) ready.from in
-        whole_work files name t save ready.settings is first ready.whole
+        whole_work files name t save ready.settings is
+        (plain_near t.version t.header ready.plain ready.whole.good.good.regions) first ready.whole
         ∙ ap (λ (xs : List TraceRecord). work_of_both save g v t.header.harts xs t)
         (sym ready.from)
     ready_work (Some state) files t before name save ready is =
@@ -198,6 +214,7 @@ module _
           trace = is;
           same_harts = refl;
           first = ready.first;
+          plain = plain_near t.version t.header ready.plain ready.whole.good.good.regions;
         } in
         answered demand files t.header.harts before t holds
         (settings_pass how.settings files s ready.settings)
@@ -207,12 +224,12 @@ module _
 -- ---- one cut
 
 halved_is : (d : SplitDemand) (files : Files) (t : Trace)
-    → trace_of (content files d.trace) ≡ Some t
+    → trace_of (content files d.trace) ≡ Some t → near_refusal None t.header.near ≡ None
     → halved d files ≡ copy_with (split_text d.at) (halves d.at d.first d.second) t
-halved_is d files t is =
+halved_is d files t is plain =
     let none : first_refusal (split_readings d) files ≡ None =
-    none_alone (option_map status_of_refusal (refuses any (content files d.trace)))
-    (ap (option_map status_of_refusal) (trace_unrefused (content files d.trace) t is)) in
+    none_alone (option_map status_of_refusal (refuses unfiltered (content files d.trace)))
+    (ap (option_map status_of_refusal) (plain_unrefused (content files d.trace) t is plain)) in
     ap (λ (r : Option Status). option_map_or refused_with r (split_work d files)) none
     ∙ ap (λ (o : Option Trace). option_map_or
     (copy_with (split_text d.at) (halves d.at d.first d.second)) o (done_with [])) is
@@ -246,7 +263,8 @@ module _
     (earlier : List Trace) → IsCutIn full earlier last
     → work_of_both save g v full.header.harts (flat_map all_records earlier) last
     ≡ work_after save g v None full)
-    (halved_so : (at : ℕ) (t : Trace) → IsWhole t → AreHalves t (first_half at t) (second_half at t))
+    (halved_so : (at : ℕ) (t : Trace) → IsWhole t → t.version ≢ Four
+    → AreHalves t (first_half at t) (second_half at t))
     (joins : (save : Option (List ℕ)) (g : Grid) (v : Levels) (harts : ℕ)
     (before : List TraceRecord) (full first final : Trace) → AreHalves full first final
     → work_of_both save g v harts (before ++ all_records first) final
@@ -277,18 +295,21 @@ module _
         seen = before ++ all_records part
 
         two : AreHalves t part rest
-        two = halved_so c.split.at t ready.whole
+        two = halved_so c.split.at t ready.whole ready.plain
+
+        near_there : near_refusal None t.header.near ≡ None
+        near_there = plain_near t.version t.header ready.plain ready.whole.good.good.regions
 
         part_there : content c.at_first c.split.first ≡ spell_trace part
         part_there =
             ap (λ (o : Option (List ℕ)). unwrap_or o []) (finds.first
-            ∙ ap (λ (w : Work). bytes_for w.outputs c.split.first) (halved_is c.split files t is)
+            ∙ ap (λ (w : Work). bytes_for w.outputs c.split.first) (halved_is c.split files t is near_there)
             ∙ first_bytes c.split.first c.split.second (spell_trace part) (spell_trace rest))
 
         rest_there : content c.at_second c.split.second ≡ spell_trace rest
         rest_there =
             ap (λ (o : Option (List ℕ)). unwrap_or o []) (finds.second
-            ∙ ap (λ (w : Work). bytes_for w.outputs c.split.second) (halved_is c.split files t is)
+            ∙ ap (λ (w : Work). bytes_for w.outputs c.split.second) (halved_is c.split files t is near_there)
             ∙ second_bytes c.split.first c.split.second (spell_trace rest) (spell_trace part)
             finds.apart)
 
@@ -297,6 +318,7 @@ module _
           settings = finds.first_settings ∙ ready.settings;
           whole = two.first_is;
           first = ready.first;
+          plain = ready.plain;
           good = ready.good;
           from = begun_first grid levels resume files c.at_first t.header.harts before ready.from
               finds.begun;
@@ -341,6 +363,7 @@ module _
           settings = finds.second_settings ∙ ready.settings;
           whole = two.second_is;
           first = seen_count;
+          plain = ready.plain;
           good = seen_good;
           from = (seen_stands, state_there);
         }
@@ -372,16 +395,17 @@ module _
         ∙ rest_joined resume files t before c ready there find.1 how.save
 
     pub all_repeat : (files : Files) (name : List ℕ) (t : Trace) (cuts : List Cut)
-        → settings_in how.settings files ≡ Ok s → IsWhole t
+        → settings_in how.settings files ≡ Ok s → IsWhole t → t.version ≢ Four
         → trace_of (content files name) ≡ Some t → t.header.first ≡ 0
         → AllFind how None name files cuts
         → last_replayed how None name files cuts
         ≡ replayed (part_replay how None name how.save) files
-    all_repeat files name t cuts settings full is first find =
+    all_repeat files name t cuts settings full plain is first find =
         let ready : IsReady how s None files t [] = record {
           settings = settings;
           whole = full;
           first = first;
+          plain = plain;
           good = All-nil (IsGoodRecord t.version t.header.harts);
           from = refl;
         } in

@@ -1,6 +1,7 @@
 -- What a run leaves in its files, and how the command ends after it.
+use Rattle.run_recorder.specs.Recorded.{near_for}
 use Rattle.std.proofs.Common.{◌≡◌, ℕ, List, [], ◌∷◌, ◌++◌, Option, Some, None, Ok, true}
-use Rattle.std.proofs.Common.{refl, sym, ap, subst, ◌∙◌, inl, inr}
+use Rattle.std.proofs.Common.{refl, sym, ap, subst, ◌∙◌, inl, inr, Bool, false}
 use Rattle.std.proofs.Common.{unwrap_or, Result, Err}
 use Rattle.std.specs.Prelude.{IfOk}
 use Rattle.std.proofs.lemmas.Bool.{cases_Bool}
@@ -50,7 +51,7 @@ use Rattle.predator_cli.specs.Replay.{begun_in, grid_in, levels_in, refuses_trac
 use Rattle.predator_cli.specs.Replay.{report_of, state_readings}
 use Rattle.predator_cli.specs.Replay.{trace_reading}
 use Rattle.predator_cli.specs.Replay.{wanted_after, whole}
-use Rattle.predator_cli.specs.Run.{IsReady, file_for, outputs_of_run, run_for_demand, run_readings}
+use Rattle.predator_cli.specs.Run.{version_with, IsReady, file_for, outputs_of_run, run_for_demand, run_readings}
 use Rattle.predator_cli.specs.Run.{status_for}
 use Rattle.predator_cli.specs.Run.{trace_for_demand, work_of_run}
 use Rattle.predator_cli.specs.TraceFaults.{status_of_refusal}
@@ -213,15 +214,15 @@ written_trace d s files later t r name answer named_so holds =
     ∙ found_bytes name (spell_trace t) (output_for d.output (output_of r)))
 
 replay_repeats : (d : RunDemand) (s : Settings) (files : Files) (t : Trace) (r : Run) → IsKept t
-    → t.header.first ≡ 0
+    → t.header.near ≡ 0 → t.header.first ≡ 0
     → settings_in d.settings files ≡ Ok s → answer_of (Some (run d)) files ≡ work_of_run d s t r
     → ReplayRepeatsRun d files
-replay_repeats d s files t r good first is answer = λ name later named_so holds same.
+replay_repeats d s files t r good plain first is answer = λ name later named_so holds same.
     let bytes : content later name ≡ spell_trace t =
     written_trace d s files later t r name answer named_so holds in
     let read : trace_of (content later name) ≡ Some t = ap trace_of bytes ∙ spelled_again t good in
     let none : refusal_of whole (content later name) ≡ None = ap (refusal_of whole) bytes
-    ∙ spelled_wanted t good first in
+    ∙ spelled_wanted t good plain first in
     replay_answer d name later s t (same ∙ is) none read
     ∙ ap done_with (sym (ap (λ (w : Work). w.text) answer))
 
@@ -240,24 +241,29 @@ tells_sites d s files t r good is traced answer = λ pcs name later named_so hol
     )
 
 repeats : (d : RunDemand) (s : Settings) (files : Files) (t : Trace) (r : Run) → IsKept t
-    → t.header.first ≡ 0
+    → t.header.near ≡ 0 → t.header.first ≡ 0
     → settings_in d.settings files ≡ Ok s → t ≡ trace_for_demand d s files
     → answer_of (Some (run d)) files ≡ work_of_run d s t r → RunRepeats d files
-repeats d s files t r good first is traced answer = record {
-  replay = replay_repeats d s files t r good first is answer;
+repeats d s files t r good plain first is traced answer = record {
+  replay = replay_repeats d s files t r good plain first is answer;
   sites = tells_sites d s files t r good is traced answer;
   text = demand_text d (chosen_settings d.settings files) files;
 }
 
+-- a run writes no filtered trace
+pub near_none : (pcs : Bool) → near_for (version_with pcs) ≡ 0
+near_none false = refl
+near_none true = refl
+
 run_repeats : (d : RunDemand) (s : Settings) (o : Option Files) (t : Trace) (r : Run) → IsKept t
-    → t.header.first ≡ 0
+    → t.header.near ≡ 0 → t.header.first ≡ 0
     → Told o (λ files. settings_in d.settings files ≡ Ok s)
     → Told o (λ files. t ≡ trace_for_demand d s files)
     → Told o (λ files. r ≡ run_for_demand d s files)
     → Told o (λ files. first_refusal (run_readings d) files ≡ None) → Told o (RepeatsReport (run d))
-run_repeats d s o t r good first read traced same accepts =
+run_repeats d s o t r good plain first read traced same accepts =
     let both : Told o (λ files. settings_in d.settings files ≡ Ok s → RunRepeats d files) =
-    told_both o (λ files told answer e. repeats d s files t r good first e told answer) traced
+    told_both o (λ files told answer e. repeats d s files t r good plain first e told answer) traced
     (told_both o (λ files none w. accepted_answer (run d) files none ∙ w) accepts
     (works d s o t r read traced same)) in
     told_both o (λ files e f. f e) read both
@@ -286,14 +292,14 @@ pub shown_worked : (d : RunDemand) (s : Settings) (t : Trace) (old m b : Outside
     (st : Status) (text : List ℕ)
     → IsReady d s t r old m → st ≡ status_for r.ending.outcome → text ≡ report_of (levels_of None s)
     (native_of s) t → IsKept t
-    → t.header.first ≡ 0 → AreWritten (outputs_of_run d t r) m b → IsWorked (run d) old b st text
-shown_worked d s t old m b r st text ready ends told_text good first written =
+    → t.header.near ≡ 0 → t.header.first ≡ 0 → AreWritten (outputs_of_run d t r) m b → IsWorked (run d) old b st text
+shown_worked d s t old m b r st text ready ends told_text good plain first written =
     let w = work_of_run d s t r in
     written_worked (run d) w old b st text
     (still_to_write (run d) w m.held b.held written.only.held (to_write d s t r old m ready)) ends
     told_text
     (told_still (RepeatsReport (run d)) m.held b.held written.only.held
-    (run_repeats d s m.held t r good first ready.read ready.traced ready.runs
+    (run_repeats d s m.held t r good plain first ready.read ready.traced ready.runs
     ready.accepted.accepts))
     (AreWritten-behind (outputs_of_run d t r) old m b ready.accepted.read written)
 

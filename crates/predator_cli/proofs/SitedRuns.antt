@@ -1,4 +1,5 @@
 -- A run with pcs beside the same run without them.
+use Rattle.trace_format.specs.Ends.{unfiltered}
 use Rattle.std.proofs.Common.{◌≡◌, ◌∙◌, ◌==◌, if◌then◌else◌, ℕ, Bool, true, false, List, [], ◌∷◌}
 use Rattle.std.proofs.Common.{◌++◌, Option, None, Some, is_none, map, refl, sym, ap, subst}
 use Rattle.std.proofs.lemmas.List.{append-nil, map-append}
@@ -107,8 +108,8 @@ all_plain : (harts : ℕ) (symbols : List TraceRecord) (r : Run) → touches_in 
     → without_pcs (all_records (trace_for Three harts symbols r))
     ≡ all_records (trace_for One harts symbols r)
 all_plain harts symbols r none =
-    map-append without_pc (records_of Three symbols r) (records.End r.ending ∷ [])
-    ∙ ap (λ (l : List TraceRecord). l ++ records.End r.ending ∷ []) (run-plain symbols r none)
+    map-append without_pc (records_of Three symbols r) (records.End (unfiltered r.ending) ∷ [])
+    ∙ ap (λ (l : List TraceRecord). l ++ records.End (unfiltered r.ending) ∷ []) (run-plain symbols r none)
 
 run_text : (pcs : Bool) (v : Levels) (g : Grid) (harts : ℕ) (symbols : List TraceRecord) (r : Run)
     → touches_in symbols ≡ []
@@ -142,7 +143,7 @@ events_blamed (output at bytes ∷ events) = events_blamed events
 run_blamed : (harts : ℕ) (symbols : List TraceRecord) (r : Run) → touches_in symbols ≡ []
     → sited_in (all_records (trace_for Three harts symbols r)) ≡ sited_run r
 run_blamed harts symbols r none =
-    filter_map-append sited_item (records_of Three symbols r) (records.End r.ending ∷ [])
+    filter_map-append sited_item (records_of Three symbols r) (records.End (unfiltered r.ending) ∷ [])
     ∙ append-nil (sited_in (records_of Three symbols r))
     ∙ filter_map-append sited_item symbols (records_in Three r.events)
     ∙ ap (λ (l : List Sited). l ++ sited_in (records_in Three r.events)) (no_blame symbols none)

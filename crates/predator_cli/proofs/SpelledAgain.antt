@@ -1,13 +1,14 @@
 -- The trace that a run wrote is read again as it was.
 use Rattle.std.proofs.Common.{◌≡◌, ℕ, Option, Some, None, Result, refl, ap, ◌∙◌}
 use Rattle.std.specs.Option.{option_or}
-use Rattle.base.specs.declared.ending.Ending.{Ending}
+use Rattle.trace_format.specs.declared.record.TraceEnd.{TraceEnd}
 use Rattle.trace_format.specs.declared.fault.TraceFault.{TraceFault}
 use Rattle.trace_format.specs.declared.read_so_far.ReadSoFar.{ReadSoFar}
 use Rattle.trace_format.specs.Reading.{ending_of, reading_of}
 use Rattle.trace_format.specs.Rules.{IsTrace}
 use Rattle.trace_format.specs.Laws.Traces.{head_again, trace_again}
-use Rattle.trace_passes.specs.Passes.{Trace, first_refusal, head_of, header_refusal, refusal_of}
+use Rattle.trace_passes.specs.Passes.{Trace, first_refusal, head_of, header_refusal, near_refusal}
+use Rattle.trace_passes.specs.Passes.{refusal_of}
 use Rattle.trace_passes.specs.Passes.{spell_trace, trace_of, trace_refusal}
 use Rattle.trace_passes.specs.Laws.Spelled.{trace-spelled}
 use Rattle.run_recorder.specs.Recorded.{IsKept}
@@ -21,14 +22,15 @@ pub spelled_again : (t : Trace) → IsKept t → trace_of (spell_trace t) ≡ So
 spelled_again t good = trace-spelled (spell_trace t) t.version t.header t.items t.ending
     (is_spelled t good)
 
-first_wanted : (first : ℕ) → first ≡ 0 → option_or (option_or None (first_refusal (Some 0) first))
+first_wanted : (near first : ℕ) → near ≡ 0 → first ≡ 0
+    → option_or (option_or (near_refusal None near) (option_or None (first_refusal (Some 0) first)))
     None ≡ None
-first_wanted first is = rw is refl
+first_wanted near first plain is = rw (plain, is) refl
 
 -- and a whole one, if it begins at position 0
-pub spelled_wanted : (t : Trace) → IsKept t → t.header.first ≡ 0 → refusal_of whole (spell_trace t)
-    ≡ None
-spelled_wanted t good first =
+pub spelled_wanted : (t : Trace) → IsKept t → t.header.near ≡ 0 → t.header.first ≡ 0
+    → refusal_of whole (spell_trace t) ≡ None
+spelled_wanted t good plain first =
     let is = is_spelled t good in
     let read = trace_again (spell_trace t) t.version t.header t.items t.ending is in
     let head = head_again (spell_trace t) t.version t.header t.items t.ending is in
@@ -36,6 +38,6 @@ spelled_wanted t good first =
     let now = (reading_of (spell_trace t)).1 in
     ap (λ (p : Option ReadSoFar). option_or (header_refusal whole (head_of p))
     (trace_refusal (ending_of now))) head.1
-    ∙ ap (λ (r : Result Ending TraceFault). option_or (header_refusal whole (Some head.0.header))
+    ∙ ap (λ (r : Result TraceEnd TraceFault). option_or (header_refusal whole (Some head.0.header))
     (trace_refusal r)) read.1
-    ∙ first_wanted head.0.header.first begins
+    ∙ first_wanted head.0.header.near head.0.header.first (ap (λ h. h.near) head.3 ∙ plain) begins

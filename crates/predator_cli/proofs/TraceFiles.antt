@@ -38,6 +38,8 @@ refusal_cases (refusals.Trace trace.TooLong) =
     inr (record { kind = refl; words = λ e. cc; memory = refl })
 refusal_cases (refusals.Trace trace.NoMemory) = inl refl
 refusal_cases refusals.NoPcs = inr (record { kind = refl; words = λ e. cc; memory = refl })
+refusal_cases refusals.Filtered = inr (record { kind = refl; words = λ e. cc; memory = refl })
+refusal_cases refusals.TooWide = inr (record { kind = refl; words = λ e. cc; memory = refl })
 refusal_cases refusals.Harts = inr (record { kind = refl; words = λ e. cc; memory = refl })
 refusal_cases (refusals.Position saved first) =
     inr (record { kind = refl; words = λ e. cc; memory = refl })

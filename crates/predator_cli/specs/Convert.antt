@@ -5,7 +5,7 @@ use Rattle.shelf.specs.Shelf.{Files}
 use Rattle.trace_files.specs.Copies.{conversion, other_version}
 use Rattle.trace_format.specs.Rules.{touches_in}
 use Rattle.trace_format.specs.declared.record.Version.{Version}
-use Rattle.trace_format.specs.declared.record.Version.TheVariants.{One, Two, Three}
+use Rattle.trace_format.specs.declared.record.Version.TheVariants.{One, Two, Three, Four}
 use Rattle.trace_passes.specs.Passes.{Trace}
 use Rattle.command_io.specs.Readings.{Reading}
 use Rattle.command_io.specs.Works.{Work}
@@ -18,6 +18,7 @@ abbrev pub version_number : Version → ℕ
 version_number One = 1
 version_number Two = 2
 version_number Three = 3
+version_number Four = 4
 
 -- which version was written, and how many accesses there are
 abbrev pub convert_text : Trace → List ℕ

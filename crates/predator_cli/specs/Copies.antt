@@ -4,7 +4,7 @@ use Rattle.std.specs.Fmt.{decimal}
 use Rattle.std.specs.Option.{option_map_or}
 use Rattle.shelf.specs.Files.{Output}
 use Rattle.shelf.specs.Shelf.{Files, content}
-use Rattle.trace_files.specs.Copies.{any}
+use Rattle.trace_files.specs.Copies.{unfiltered}
 use Rattle.trace_passes.specs.Passes.{Trace, trace_of}
 use Rattle.command_io.specs.Readings.{Reading, reading}
 use Rattle.command_io.specs.Texts.{line}
@@ -14,7 +14,7 @@ use Rattle.predator_cli.specs.Replay.{refuses_trace}
 
 -- a trace of any number of harts, whose first access may have any position
 abbrev pub copied_reading : List ℕ → Reading
-copied_reading name = reading name (refuses_trace any name)
+copied_reading name = reading name (refuses_trace unfiltered name)
 
 -- a line of a command and two numbers
 abbrev pub copy_text : List ℕ → ℕ → ℕ → List ℕ

@@ -1,6 +1,7 @@
 -- What a replay gives that goes on from the saved state of some records.
+use Rattle.trace_format.specs.Ends.{run_end}
 use Rattle.std.specs.Prelude.{◌≡◌, ℕ, ◌≤◌, ◌^◌, List, [], ◌∷◌, ◌++◌, length, flat_map, map}
-use Rattle.std.specs.Prelude.{Option, Some}
+use Rattle.std.specs.Prelude.{Option, Some, None}
 use Rattle.std.specs.List.{All}
 use Rattle.command_line.specs.Replay.{ReplayDemand}
 use Rattle.detector.specs.Changes.{touched_all}
@@ -16,7 +17,7 @@ use Rattle.observations.specs.ObservedTraces.{ObservedTrace, report_of_observed,
 use Rattle.saved_state.specs.OfLists.{MayKeep}
 use Rattle.trace_format.specs.Rules.{touches_in}
 use Rattle.trace_format.specs.declared.record.TraceRecord.{TraceRecord}
-use Rattle.trace_passes.specs.Passes.{Trace, all_records, trace_of}
+use Rattle.trace_passes.specs.Passes.{Trace, all_records, near_refusal, trace_of}
 use Rattle.predator_cli.specs.Replay.{ended_at, grid_in, levels_in, replay_work, shown}
 use Rattle.predator_cli.specs.States.{state_of_records, state_of_observed}
 use Rattle.command_io.specs.Works.{Work}
@@ -49,9 +50,10 @@ work_of_records save g v harts ending items =
 -- those of some records followed by a trace's
 abbrev pub work_of_both : Option (List ℕ) → Grid → Levels → ℕ → List TraceRecord → Trace → Work
 work_of_both save g v harts before t =
-    work_of_records save g v harts t.ending (before ++ all_records t)
+    work_of_records save g v harts (run_end t.ending) (before ++ all_records t)
 
--- the files of a replay hold the state of some records, and a trace that begins behind them
+-- the files of a replay hold the state of some records, and a trace that begins behind them and
+-- isn't filtered
 pub record HoldsBoth (demand : ReplayDemand) (files : Files) (harts : ℕ) (before : List TraceRecord)
     (t : Trace) :
     Type 0 where
@@ -63,6 +65,7 @@ pub record HoldsBoth (demand : ReplayDemand) (files : Files) (harts : ℕ) (befo
   pub trace : trace_of (content files demand.trace) ≡ Some t
   pub same_harts : t.header.harts ≡ harts
   pub first : t.header.first ≡ length (touches_in before)
+  pub plain : near_refusal None t.header.near ≡ None
 
 -- what was seen once a trace came behind it
 abbrev pub seen_behind : Begun → Trace → ObservedTrace
@@ -76,7 +79,7 @@ pub record NotesAlone (demand : ReplayDemand) (files : Files) (begun : Begun) (t
         ≡ map (touched_all begun.observations.watch.position (touches_in (all_records t)))
         begun.observations.watch.tracks
     pub work : replay_work demand files ≡ shown demand.save
-        (report_of_observed (ended_at (seen_behind begun t).watch.position t.ending)
+        (report_of_observed (ended_at (seen_behind begun t).watch.position (run_end t.ending))
         (seen_behind begun t))
         (state_of_observed t.header.harts (seen_behind begun t))
 
@@ -88,5 +91,6 @@ TellsItsCount t = t.ending.accesses ≡ length (touches_in t.items)
 -- ends as the whole. Each part tells how many accesses it has itself.
 pub record IsCutIn (whole : Trace) (earlier : List Trace) (last : Trace) : Type 0 where
   pub items : whole.items ≡ flat_map (λ t. t.items) earlier ++ last.items
-  pub ending : whole.ending ≡ ended_at (length (touches_in whole.items)) last.ending
+  pub ending : run_end whole.ending
+      ≡ ended_at (length (touches_in whole.items)) (run_end last.ending)
   pub told : All TellsItsCount (earlier ++ last ∷ [])

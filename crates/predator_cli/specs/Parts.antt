@@ -1,5 +1,6 @@
 -- A trace that is cut in parts, each counted from the state of those before it: what the calls
 -- find, and what the last one answers.
+use Rattle.trace_format.specs.declared.record.Version.TheVariants.{Four}
 use Rattle.std.specs.Prelude.{◌≡◌, ◌≢◌, ◌≤◌, ◌<◌, ◌^◌, ℕ, List, [], ◌∷◌, length, IfSome, IsTrue}
 use Rattle.std.specs.Prelude.{Option, Some, None}
 use Rattle.std.specs.List.{All}
@@ -82,14 +83,14 @@ last_replayed how resume trace files [] =
 last_replayed how resume trace files (c ∷ cuts) =
     last_replayed how (Some c.state) c.split.second c.at_second cuts
 
--- Where the files hold a trace from position 0 on, and the settings are accepted, the replay of the
+-- Where the files hold a trace from position 0 on that isn't filtered, and the settings are accepted, the replay of the
 -- last part answers what the replay of the whole answers, however often its second half is cut: the
 -- status, the text and the state.
 abbrev pub SplitRepeats : SplitDemand → Files → Type 0
 SplitRepeats demand files =
     (how : Counting) (t : Trace) (first : Cut) (later : List Cut)
     → All (λ b. b < 256) (content files demand.trace)
-    → trace_of (content files demand.trace) ≡ Some t → t.header.first ≡ 0
+    → trace_of (content files demand.trace) ≡ Some t → t.version ≢ Four → t.header.first ≡ 0
     → first_refusal (settings_readings how.settings) files ≡ None
     → IfSome how.layout (λ g. IsTrue (is_layout g.size g.offset))
     → first.split ≡ demand
@@ -116,13 +117,13 @@ pub record TwoHalves (how : Counting) (demand : SplitDemand) (files : Files) : T
   pub first_settings : settings_in how.settings at_first ≡ settings_in how.settings files
   pub second_settings : settings_in how.settings at_second ≡ settings_in how.settings files
 
--- Where the files hold a trace from position 0 on, and the settings are accepted, the replay of the
+-- Where the files hold a trace from position 0 on that isn't filtered, and the settings are accepted, the replay of the
 -- second half answers what the replay of the whole answers. It is `SplitRepeats` for one cut.
 abbrev pub TwoHalvesRepeat : SplitDemand → Files → Type 0
 TwoHalvesRepeat demand files =
     (how : Counting) (t : Trace) (halves : TwoHalves how demand files)
     → All (λ b. b < 256) (content files demand.trace)
-    → trace_of (content files demand.trace) ≡ Some t → t.header.first ≡ 0
+    → trace_of (content files demand.trace) ≡ Some t → t.version ≢ Four → t.header.first ≡ 0
     → first_refusal (settings_readings how.settings) files ≡ None
     → IfSome how.layout (λ g. IsTrue (is_layout g.size g.offset))
     → replayed (part_replay how (Some halves.state) demand.second how.save) halves.at_second

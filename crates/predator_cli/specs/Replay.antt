@@ -1,5 +1,6 @@
 -- The command `replay`: what it reads, the report that it gives of a trace, and the state that it
 -- saves. A trace is a whole one, or goes on from a saved state.
+use Rattle.trace_format.specs.Ends.{run_end}
 use Rattle.std.specs.Prelude.{ℕ, List, [], ◌∷◌, ◌++◌, ◌≡◌, Option, Some, None, false}
 use Rattle.std.specs.Option.{option_and_then, option_map, option_map_or}
 use Rattle.std.specs.Result.{result_ok}
@@ -50,10 +51,14 @@ abbrev pub begun_in : ReplayDemand → Files → Option Begun
 begun_in demand files =
     begun_under (grid_in demand files) (levels_in demand files) demand.resume files
 
--- a whole trace is wanted: one of any version and number of harts, whose first access has position
--- 0
+-- a whole trace is wanted that isn't filtered: one of any number of harts, whose first access has
+-- position 0
 abbrev pub whole : Wanted
-whole = record { harts = None; first = Some 0; pcs = false }
+whole = record { harts = None; first = Some 0; pcs = false; lines = None }
+
+-- filtered or not, where its regions have at least as many bytes as lines of a size
+abbrev pub whole_for : ℕ → Wanted
+whole_for size = record whole { lines = Some size }
 
 -- behind a state one of its harts, from its position on
 abbrev pub wanted_after : Option Begun → Wanted
@@ -63,6 +68,7 @@ wanted_after (Some begun) =
       harts = Some begun.harts;
       first = Some begun.observations.watch.position;
       pcs = false;
+      lines = None;
     }
 
 -- how a file is refused that is no trace as it is wanted
@@ -89,7 +95,7 @@ shown save text state =
 
 -- the report of a trace under thresholds and a layout
 abbrev pub report_of : Levels → Grid → Trace → List ℕ
-report_of levels layout t = report_of_records t.ending layout levels (all_records t)
+report_of levels layout t = report_of_records (run_end t.ending) layout levels (all_records t)
 
 -- an end at which so many accesses were counted
 abbrev pub ended_at : ℕ → Ending → Ending
@@ -102,7 +108,7 @@ work_after save g v None t =
     shown save (report_of v g t) (state_of_records g v t.header.harts (all_records t))
 work_after save g v (Some begun) t =
     let now = observed_after begun.observations (all_records t) in
-    shown save (report_of_observed (ended_at now.watch.position t.ending) now)
+    shown save (report_of_observed (ended_at now.watch.position (run_end t.ending)) now)
     (state_of_observed t.header.harts now)
 
 abbrev pub replay_work : ReplayDemand → Files → Work

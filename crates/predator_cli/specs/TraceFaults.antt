@@ -17,6 +17,8 @@ use Rattle.command_io.specs.declared.status.Status.TheVariants as status
 abbrev pub status_of_refusal : Refusal → Status
 status_of_refusal (refusals.Trace fault) = status_of_trace fault
 status_of_refusal refusals.NoPcs = status.NoPcs
+status_of_refusal refusals.Filtered = status.Filtered
+status_of_refusal refusals.TooWide = status.TooWide
 status_of_refusal refusals.Harts = status.State (state.WrongSettings harts_place)
 status_of_refusal (refusals.Position saved first) = status.State (state.WrongPosition saved first)
 

@@ -1,6 +1,7 @@
 // The command `blame`: how often each line is taken in the trace of a name, by which instructions
-// and by which harts. The accesses of the trace have their pcs, as those of version 3.
+// and by which harts. The accesses of the trace have their pcs, as those of versions 3 and 4.
 use crate::counter::Counter;
+use crate::counting::whole_for;
 use base::{Layout, NoMemory};
 use invalidations::{Blame, write_blame};
 use std::alloc::Global;
@@ -14,7 +15,7 @@ impl Counter for Blame {
 
     type Under = Layout;
 
-    ghost WANTED = { whole_with_pcs };
+    ghost WANTED = { λ layout. whole_with_pcs layout.size };
 
     ghost says = { blame_text };
 
@@ -22,21 +23,22 @@ impl Counter for Blame {
 
     ghost blank = { λ layout counter. counter ≡ nothing_blamed layout };
 
-    const WANTED: Wanted = Wanted {
-        harts: None,
-        first: Some(0),
-        pcs: true,
-    };
+    fn wanted(under: &Layout) -> Wanted {
+        Wanted {
+            pcs: true,
+            ..whole_for(under.size())
+        }
+    }
 
     fn begin(alloc: Global, under: Layout) -> Result<Self, NoMemory> {
         Ok(Blame::new(alloc, under))
     }
 
-    fn text(&self, alloc: Global) -> Result<Vec<u8>, NoMemory> {
-        write_blame(alloc, self)
+    fn text(&self, alloc: Global, whole: Option<u64>) -> Result<Vec<u8>, NoMemory> {
+        write_blame(alloc, self, whole)
     }
 
-    ghost whole = { refl };
+    ghost whole = { λ layout. refl };
 
     ghost answers = { λ name layout. record {
       reads = refl;

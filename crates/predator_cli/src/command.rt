@@ -164,9 +164,10 @@ pub fn predator<S: Shelf>(alloc: Global, words: &[String], shelf: &mut S) -> Sta
     // trace's.
     ensures again { Told (S.outside shelf.new).held
         (λ files. WhereDone RepeatsReport (demand_of (texts words.now)) files (kind_of result)) }
-    // The run that is asked for, by `run` or by `explain`, makes at most as many steps as its
-    // budget has.
+    // A law of the definitions, which names neither the result nor the shelf: the run that is asked
+    // for, by `run` or by `explain`, makes at most as many steps as its budget has.
     ensures within { (files : Files) → StaysWithinBudget (demand_of (texts words.now)) files }
+    // Another such law.
     // Each count that a report of a run or of a whole trace lists is at most a plain recount of the
     // same line over the same accesses, under the line's own layout with tracking threshold 1, and
     // after the line's start both count alike. So it is of a trace that goes on from the state of

@@ -22,6 +22,7 @@ fn version_number(version: Version) -> u64
         Version::One => 1,
         Version::Two => 2,
         Version::Three => 3,
+        Version::Four => 4,
     }
 }
 

@@ -26,7 +26,7 @@ pub trait Counter: Observer + Drop {
     ghost allowed: { Self.Under → Type 0 } = { λ _. Unit {0} };
 
     /// The traces that it takes.
-    ghost WANTED: { Wish };
+    ghost WANTED: { Self.Under → Wish };
 
     /// The text of a trace.
     ghost says: { Self.Under → Trace → List ℕ };
@@ -38,7 +38,8 @@ pub trait Counter: Observer + Drop {
     ghost blank: { Self.Under → Self → Type 0 };
 
     /// The traces that it takes.
-    const WANTED: Wanted;
+    fn wanted(under: &Self::Under) -> Wanted
+        ensures { result ≡ WANTED under.now };
 
     /// One that has counted nothing yet.
     fn begin(alloc: Global, under: Self::Under) -> Result<Self, NoMemory>
@@ -47,18 +48,18 @@ pub trait Counter: Observer + Drop {
         ensures begins { IfOk result (λ counter. Self.begins counter 0) }
         ensures fresh { IfOk result (λ counter. Self.given counter counter []) };
 
-    /// The text of what it counted.
-    fn text(&self, alloc: Global) -> Result<Vec<u8>, NoMemory>
+    /// The text of what it counted. Of a filtered trace it has how many accesses the whole one has.
+    fn text(&self, alloc: Global, whole: Option<u64>) -> Result<Vec<u8>, NoMemory>
         ensures { (under : Self.Under) (begun : Self) (t : Trace) → blank under begun
-            → Self.given begun self.now (all_records t)
+            → Self.given begun self.now (all_records t) → whole ≡ t.ending.whole
             → IfOk result (λ text. text.items ≡ says under t) };
 
     /// The traces that it takes begin at position 0.
-    ghost whole: { WANTED.first ≡ Some 0 };
+    ghost whole: { (under : Self.Under) → (WANTED under).first ≡ Some 0 };
 
     /// What asks for its text is answered with that.
     ghost answers: { (name : List ℕ) (under : Self.Under)
-        → IsCounted (asks name under) WANTED (says under) name };
+        → IsCounted (asks name under) (WANTED under) (says under) name };
 }
 
 // The text of the trace of a name, of which the counter has seen nothing yet.
@@ -66,18 +67,20 @@ fn text_of<S: Shelf, C: Counter>(
     alloc: Global,
     shelf: &mut S,
     name: &str,
+    wanted: &Wanted,
     mut counter: C,
 ) -> Result<Vec<u8>, Status>
+    requires whole { wanted.now.first ≡ Some 0 }
     requires begins { C.begins counter 0 }
     requires fresh { C.given counter counter [] }
     ensures counted { (under : C.Under) → C.blank under counter → IfOk result (λ text.
-        IsToTell C.WANTED (C.says under) name.now (S.outside shelf.old) (S.outside shelf.new)
+        IsToTell wanted.now (C.says under) name.now (S.outside shelf.old) (S.outside shelf.new)
         text.items) }
-    ensures stopped { IfErr result (IsStopped (counted_readings C.WANTED name.now)
+    ensures stopped { IfErr result (IsStopped (counted_readings wanted.now name.now)
         (S.outside shelf.old) (S.outside shelf.new)) }
 {
-    match see_trace(alloc, shelf, name, &C::WANTED, &mut counter) {
-        Ok(_) => match counter.text(alloc) {
+    match see_trace(alloc, shelf, name, wanted, &mut counter) {
+        Ok(passed) => match counter.text(alloc, passed.ending.whole) {
             Ok(text) => Ok(text),
             Err(NoMemory) => Err(Status::NoMemory),
         },
@@ -93,13 +96,14 @@ fn counted<S: Shelf, C: Counter>(
     under: C::Under,
 ) -> Result<Vec<u8>, Status>
     requires { C.allowed under }
-    ensures counted { IfOk result (λ text. IsToTell C.WANTED (C.says under) name.now
+    ensures counted { IfOk result (λ text. IsToTell (C.WANTED under) (C.says under) name.now
         (S.outside shelf.old) (S.outside shelf.new) text.items) }
-    ensures stopped { IfErr result (IsStopped (counted_readings C.WANTED name.now)
+    ensures stopped { IfErr result (IsStopped (counted_readings (C.WANTED under) name.now)
         (S.outside shelf.old) (S.outside shelf.new)) }
 {
+    let wanted = C::wanted(&under);
     match C::begin(alloc, under) {
-        Ok(counter) => text_of(alloc, shelf, name, counter),
+        Ok(counter) => text_of(alloc, shelf, name, &wanted, counter),
         Err(NoMemory) => Err(Status::NoMemory),
     }
 }

@@ -5,7 +5,7 @@ ghost use Rattle.command_io.specs.Readings.{IsAccepted, IsStopped};
 ghost use Rattle.predator_cli.specs.Commands.{RepeatsReport, readings_of, work_of};
 ghost use Rattle.predator_cli.specs.Counting.{IsToTell, counted_readings, counted_work};
 ghost use Rattle.predator_cli.specs.Meets.{Meets};
-ghost use Rattle.predator_cli.specs.Replay.{whole};
+ghost use Rattle.predator_cli.specs.Replay.{whole, whole_for};
 ghost use Rattle.shelf.specs.Shelf.{Files, Outside};
 ghost use Rattle.trace_format.specs.Rules.{IsGoodHeader};
 ghost use Rattle.trace_format.specs.declared.record.Header.{Header as Head};
@@ -19,12 +19,23 @@ use shelf::Shelf;
 use std::alloc::Global;
 use trace_passes::{Observer, Passed, Wanted, pass};
 
-/// A whole trace: of any version and number of harts, from position 0 on.
+/// A whole trace that isn't filtered: of any number of harts, from position 0 on.
 pub const WHOLE: Wanted = Wanted {
     harts: None,
     first: Some(0),
     pcs: false,
+    lines: None,
 };
+
+/// A whole trace, filtered or not, whose regions have at least as many bytes as lines of a size.
+pub fn whole_for(size: u32) -> Wanted
+    ensures { result ≡ whole_for size }
+{
+    Wanted {
+        lines: Some(size),
+        ..WHOLE
+    }
+}
 
 /// Gives the records of the trace of a name to an observer, or says why the trace isn't taken.
 pub fn see_trace<S: Shelf, O: Observer>(

@@ -1,5 +1,6 @@
 // The laws of replays that go on, for whoever reads contracts alone. The calls do nothing.
-ghost use Rattle.std.specs.Prelude.{◌≡◌, ℕ, ◌<◌, ◌^◌, List, [], ◌∷◌, length, flat_map, None, Ok};
+ghost use Rattle.trace_format.specs.declared.record.Version.TheVariants.{Four};
+ghost use Rattle.std.specs.Prelude.{◌≢◌, ◌≡◌, ℕ, ◌<◌, ◌^◌, List, [], ◌∷◌, length, flat_map, None, Ok};
 ghost use Rattle.std.specs.Prelude.{Option, Some};
 ghost use Rattle.std.specs.List.{All};
 ghost use Rattle.command_io.specs.Readings.{first_refusal};
@@ -78,7 +79,7 @@ pub fn a_replay_goes_on_from_a_list()
         ≡ work_after save g v None whole }
     // as the two halves are that `split` makes
     ensures halves { (at : ℕ) (bytes : List ℕ) (whole : Trace) → All (λ b. b < 256) bytes
-        → trace_of bytes ≡ Some whole
+        → trace_of bytes ≡ Some whole → whole.version ≢ Four
         → IsCutIn whole (first_half at whole ∷ []) (second_half at whole) }
     // the objects and the accesses of good records may stand in a state
     ensures good { (v : Format) (harts : ℕ) (before : List Record)

@@ -16,7 +16,7 @@ impl Counter for Caches {
 
     type Under = Shape;
 
-    ghost WANTED = { whole_trace };
+    ghost WANTED = { λ shape. whole_trace };
 
     ghost says = { caches_text };
 
@@ -24,17 +24,19 @@ impl Counter for Caches {
 
     ghost blank = { λ shape counter. counter ≡ nothing_kept shape };
 
-    const WANTED: Wanted = WHOLE;
+    fn wanted(_under: &Shape) -> Wanted {
+        WHOLE
+    }
 
     fn begin(alloc: Global, under: Shape) -> Result<Self, NoMemory> {
         Ok(Caches::new(alloc, under))
     }
 
-    fn text(&self, alloc: Global) -> Result<Vec<u8>, NoMemory> {
+    fn text(&self, alloc: Global, _whole: Option<u64>) -> Result<Vec<u8>, NoMemory> {
         write_caches(alloc, self)
     }
 
-    ghost whole = { refl };
+    ghost whole = { λ shape. refl };
 
     ghost answers = { λ name shape. record {
       reads = refl;

@@ -1,7 +1,7 @@
 // The command `misses`: what the sharing of each line costs in the trace of a name, its cold
 // misses, those that bring what a hart needs, and those for nothing.
 use crate::counter::Counter;
-use crate::counting::WHOLE;
+use crate::counting::whole_for;
 use base::{Layout, NoMemory};
 use misses::MissObservations;
 use std::alloc::Global;
@@ -12,11 +12,11 @@ impl Counter for MissObservations {
     ghost use Rattle.command_line.specs.Words.{misses};
     ghost use Rattle.misses.specs.Seen.{nothing_missed};
     ghost use Rattle.predator_cli.specs.Misses.{misses_text};
-    ghost use Rattle.predator_cli.specs.Replay.{whole as whole_trace};
+    ghost use Rattle.predator_cli.specs.Replay.{whole_for as whole_under};
 
     type Under = Layout;
 
-    ghost WANTED = { whole_trace };
+    ghost WANTED = { λ layout. whole_under layout.size };
 
     ghost says = { misses_text };
 
@@ -24,17 +24,19 @@ impl Counter for MissObservations {
 
     ghost blank = { λ layout counter. counter ≡ nothing_missed layout };
 
-    const WANTED: Wanted = WHOLE;
+    fn wanted(under: &Layout) -> Wanted {
+        whole_for(under.size())
+    }
 
     fn begin(alloc: Global, under: Layout) -> Result<Self, NoMemory> {
         Ok(MissObservations::new(alloc, under))
     }
 
-    fn text(&self, alloc: Global) -> Result<Vec<u8>, NoMemory> {
-        MissObservations::text(self, alloc)
+    fn text(&self, alloc: Global, whole: Option<u64>) -> Result<Vec<u8>, NoMemory> {
+        MissObservations::text(self, alloc, whole)
     }
 
-    ghost whole = { refl };
+    ghost whole = { λ layout. refl };
 
     ghost answers = { λ name layout. record {
       reads = refl;

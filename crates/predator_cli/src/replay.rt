@@ -115,7 +115,7 @@ fn count_whole<S: Shelf>(
 {
     match see_trace(alloc, shelf, options.trace, &WHOLE, observations) {
         Ok(passed) => {
-            let (harts, ending) = (passed.header.harts, passed.ending);
+            let (harts, ending) = (passed.header.harts, passed.ending.ending());
             match counted_of(alloc, options.save, observations, harts, &ending) {
                 Ok(counted) => Ok(counted),
                 Err(NoMemory) => Err(Status::NoMemory),
@@ -150,13 +150,14 @@ fn count_on<S: Shelf>(
         harts: Some(harts),
         first: Some(observations.position()),
         pcs: false,
+        lines: None,
     };
     match see_trace(alloc, shelf, options.trace, &wanted, observations) {
         Ok(passed) => {
             let harts = passed.header.harts;
             let ending = Ending {
                 accesses: observations.position(),
-                ..passed.ending
+                ..passed.ending.ending()
             };
             match counted_of(alloc, options.save, observations, harts, &ending) {
                 Ok(counted) => Ok(counted),

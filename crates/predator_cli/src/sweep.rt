@@ -1,7 +1,7 @@
 // The command `sweep`: what every shift of a line size counts in the trace of a name, and which
 // counts least.
 use crate::counter::Counter;
-use crate::counting::WHOLE;
+use crate::counting::whole_for;
 use base::NoMemory;
 use layout_sweep::{Sweep, write_sweep};
 use std::alloc::Global;
@@ -12,14 +12,14 @@ impl Counter for Sweep {
     ghost use Rattle.command_line.specs.Sweep.{is_swept_size};
     ghost use Rattle.command_line.specs.Words.{sweep};
     ghost use Rattle.layout_sweep.specs.Standing.{StandsFor};
-    ghost use Rattle.predator_cli.specs.Replay.{whole as whole_trace};
+    ghost use Rattle.predator_cli.specs.Replay.{whole_for as whole_under};
     ghost use Rattle.predator_cli.specs.Sweep.{sweep_text_of};
 
     type Under = u32;
 
     ghost allowed = { λ size. IsTrue (is_swept_size size) };
 
-    ghost WANTED = { whole_trace };
+    ghost WANTED = { λ size. whole_under size };
 
     ghost says = { sweep_text_of };
 
@@ -27,17 +27,19 @@ impl Counter for Sweep {
 
     ghost blank = { λ size counter. (counter.size ≡ size) × StandsFor [] counter };
 
-    const WANTED: Wanted = WHOLE;
+    fn wanted(under: &u32) -> Wanted {
+        whole_for(*under)
+    }
 
     fn begin(alloc: Global, under: u32) -> Result<Self, NoMemory> {
         Sweep::new(alloc, under)
     }
 
-    fn text(&self, alloc: Global) -> Result<Vec<u8>, NoMemory> {
-        write_sweep(alloc, self)
+    fn text(&self, alloc: Global, whole: Option<u64>) -> Result<Vec<u8>, NoMemory> {
+        write_sweep(alloc, self, whole)
     }
 
-    ghost whole = { refl };
+    ghost whole = { λ size. refl };
 
     ghost answers = { λ name size. record {
       reads = refl;

@@ -15,6 +15,8 @@ pub fn status_of_refusal(refusal: Refusal) -> Status
     match refusal {
         Refusal::Trace(fault) => Status::from(fault),
         Refusal::NoPcs => Status::NoPcs,
+        Refusal::Filtered => Status::Filtered,
+        Refusal::TooWide => Status::TooWide,
         Refusal::Harts => Status::State(StateFault::WrongSettings(HARTS_PLACE)),
         Refusal::Position { saved, first } => {
             Status::State(StateFault::WrongPosition { saved, first })

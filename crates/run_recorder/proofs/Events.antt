@@ -21,14 +21,14 @@ use Rattle.guest.specs.Runs.{Run, output_of}
 use Rattle.run_recorder.specs.declared.run_file.Content.{Content}
 use Rattle.run_recorder.specs.declared.run_file.Content.TheVariants.{Trace, Output}
 use Rattle.run_recorder.specs.declared.run_file.RunFile.{RunFile}
-use Rattle.run_recorder.specs.Recorded.{bytes_of, outputs_for, outputs_of, records_of}
+use Rattle.run_recorder.specs.Recorded.{end_for, near_for, bytes_of, outputs_for, outputs_of, records_of}
 use Rattle.run_recorder.specs.Recording.{AreCutAfter, AreNoted, behind_records, bytes_so_far}
 use Rattle.run_recorder.specs.Recording.{has_trace, is_trace, output_part, record_part}
 use Rattle.run_recorder.specs.Recording.{records_part}
 use Rattle.run_recorder.proofs.Putting.{longer, more_on}
 
-abbrev head : ℕ → Header
-head harts = record { first = 0; harts = harts }
+abbrev head : Version → ℕ → Header
+head v harts = record { first = 0; harts = harts; near = near_for v }
 
 -- files whose bytes are the same are the same
 pub outputs_as : (files : List RunFile) (g h : Content → List ℕ)
@@ -75,7 +75,7 @@ record_bytes : (v : Version) (harts : ℕ) (items : List TraceRecord) (put : Lis
     (item : TraceRecord) (content : Content)
     → longer (bytes_so_far v harts items put) (record_part (behind_records v items) item) content
     ≡ bytes_so_far v harts (items ++ item ∷ []) put content
-record_bytes v harts items put item Trace = begun-more v (head harts) items item
+record_bytes v harts items put item Trace = begun-more v (head v harts) items item
 record_bytes v harts items put item Output = append-nil put
 
 -- a record more, where the writer of the traces has spelled those before
@@ -120,7 +120,7 @@ records_bytes : (v : Version) (harts : ℕ) (items more : List TraceRecord) (put
     (content : Content)
     → longer (bytes_so_far v harts items put) (records_part (behind_records v items) more) content
     ≡ bytes_so_far v harts (items ++ more) put content
-records_bytes v harts items more put Trace = sym (begun-append v (head harts) items more)
+records_bytes v harts items more put Trace = sym (begun-append v (head v harts) items more)
 records_bytes v harts items more put Output = append-nil put
 
 -- records more, where the writer of the traces has spelled those before
@@ -165,7 +165,7 @@ output_bytes : (v : Version) (harts : ℕ) (items : List TraceRecord) (put bytes
     Content)
     → longer (bytes_so_far v harts items put) (output_part bytes) content
     ≡ bytes_so_far v harts items (put ++ bytes) content
-output_bytes v harts items put bytes Trace = append-nil (begun_with v (head harts) items)
+output_bytes v harts items put bytes Trace = append-nil (begun_with v (head v harts) items)
 output_bytes v harts items put bytes Output = refl
 
 pub output_put : (v : Version) (harts : ℕ) (files : List RunFile) (items : List TraceRecord)
@@ -177,10 +177,10 @@ output_put v harts files items put bytes =
     (bytes_so_far v harts items (put ++ bytes)) (output_bytes v harts items put bytes)
 
 more_spelled : (v : Version) (harts : ℕ) (items more : List TraceRecord) → (rest : List ℕ)
-    × (begun_with v (head harts) (items ++ more) ≡ begun_with v (head harts) items ++ rest)
+    × (begun_with v (head v harts) (items ++ more) ≡ begun_with v (head v harts) items ++ rest)
 more_spelled v harts items more = (
   spell_records v (before_behind nothing_before items) more,
-  begun-append v (head harts) items more,
+  begun-append v (head v harts) items more,
 )
 
 goes_on : (v : Version) (harts : ℕ) (items more : List TraceRecord) (put out : List ℕ) (content :
@@ -229,19 +229,19 @@ cut_on v harts files items more put out before now e cut =
 
 -- all that a run leaves, its end last
 whole_bytes : (v : Version) (harts : ℕ) (symbols : List TraceRecord) (r : Run) (content : Content)
-    → bytes_so_far v harts (records_of v symbols r ++ records.End r.ending
+    → bytes_so_far v harts (records_of v symbols r ++ records.End (end_for v r.ending)
     ∷ []) (output_of r) content
     ≡ bytes_of v harts symbols r content
-whole_bytes v harts symbols r Trace = begun-all v (head harts) (records_of v symbols r) r.ending
+whole_bytes v harts symbols r Trace = begun-all v (head v harts) (records_of v symbols r) (end_for v r.ending)
 whole_bytes v harts symbols r Output = refl
 
 pub whole_put : (v : Version) (harts : ℕ) (symbols : List TraceRecord) (files : List RunFile) (r :
     Run)
-    → outputs_of files (bytes_so_far v harts (records_of v symbols r ++ records.End r.ending ∷ [])
+    → outputs_of files (bytes_so_far v harts (records_of v symbols r ++ records.End (end_for v r.ending) ∷ [])
     (output_of r))
     ≡ outputs_for v harts symbols r files
 whole_put v harts symbols files r =
-    outputs_as files (bytes_so_far v harts (records_of v symbols r ++ records.End r.ending ∷ [])
+    outputs_as files (bytes_so_far v harts (records_of v symbols r ++ records.End (end_for v r.ending) ∷ [])
     (output_of r)) (bytes_of v harts symbols r)
     (whole_bytes v harts symbols r)
 
@@ -250,14 +250,14 @@ pub cut_whole : (v : Version) (harts : ℕ) (symbols : List TraceRecord) (files 
     Run)
     (items more : List TraceRecord)
     (put out : List ℕ) (before now : Outside) (e : ShelfError)
-    → items ++ more ≡ records_of v symbols r ++ records.End r.ending ∷ [] → put ++ out ≡ output_of r
+    → items ++ more ≡ records_of v symbols r ++ records.End (end_for v r.ending) ∷ [] → put ++ out ≡ output_of r
     → AreCutAfter v harts items put files before now e
     → AreCut (outputs_for v harts symbols r files) before now e
 cut_whole v harts symbols files r items more put out before now e all outs cut =
     subst (λ (l : List AnOutput). AreCut l before now e)
     (ap (λ (l : List TraceRecord). outputs_of files (bytes_so_far v harts l (put ++ out))) all
     ∙ ap (λ (l : List ℕ). outputs_of files
-    (bytes_so_far v harts (records_of v symbols r ++ records.End r.ending ∷ []) l)) outs
+    (bytes_so_far v harts (records_of v symbols r ++ records.End (end_for v r.ending) ∷ []) l)) outs
     ∙ whole_put v harts symbols files r)
     (cut_on v harts files items more put out before now e cut)
 

@@ -6,6 +6,7 @@ use Rattle.std.proofs.lemmas.List.{append-nil, length-append}
 use Rattle.std.proofs.lemmas.List.Elements.{All-append, All-nil}
 use Rattle.base.specs.Touch.{Touch as ATouch}
 use Rattle.base.specs.declared.ending.Ending.{Ending}
+use Rattle.trace_format.specs.declared.record.TraceEnd.{TraceEnd}
 use Rattle.shelf.specs.Shelf.{Outside}
 use Rattle.shelf.specs.declared.shelf.ShelfError.{ShelfError}
 use Rattle.shelf.specs.Files.{AreCut}
@@ -26,7 +27,7 @@ use Rattle.guest.specs.declared.turn.Event.{Event}
 use Rattle.guest.specs.declared.turn.Event.TheVariants.{Quiet, Touch as Touched, Alloc, Free}
 use Rattle.guest.specs.declared.turn.Event.TheVariants.{Output}
 use Rattle.run_recorder.specs.declared.run_file.RunFile.{RunFile}
-use Rattle.run_recorder.specs.Recorded.{outputs_for, outputs_of, records_in, records_of}
+use Rattle.run_recorder.specs.Recorded.{end_for, outputs_for, outputs_of, records_in, records_of}
 use Rattle.run_recorder.specs.Recording.{AreCutAfter, AreNoted, HasStarted, bytes_so_far}
 use Rattle.run_recorder.proofs.Events.{cut_whole}
 use Rattle.run_recorder.proofs.Records.{output-append, records-append}
@@ -194,7 +195,7 @@ room_more begins given first now v events more start on few =
 -- and for the end
 pub room_for_end : {A : Type 0} (begins : A → ℕ → Type 0)
     (given : A → A → List TraceRecord → Type 0) (first now : A)
-    (v : Version) (events : List RunEvent) (e : Ending) → HasStarted begins given first
+    (v : Version) (events : List RunEvent) (e : TraceEnd) → HasStarted begins given first
     → IsGivenOn given first now (records_in v events)
     → length (touches_in events) ≤ 2 ^ 40 → HasRoom begins given now (records.End e ∷ [])
 room_for_end begins given first now v events e start on few =
@@ -219,7 +220,7 @@ pub cut_seen : (v : Version) (harts : ℕ) (symbols : List TraceRecord) (files :
     → AreCutAfter v harts (symbols ++ records_in v events) (output_in events) files before now e
     → AreCut (outputs_for v harts symbols whole files) before now e
 cut_seen v harts symbols files events whole later before now e goes cut =
-    let end : List TraceRecord = records.End whole.ending ∷ [] in
+    let end : List TraceRecord = records.End (end_for v whole.ending) ∷ [] in
     let is : whole.events ≡ events ++ later.events = ap (λ (r : Run). r.events) goes in
     let all : (symbols ++ records_in v events) ++ (records_in v later.events ++ end)
     ≡ (symbols ++ records_in v whole.events) ++ end =
@@ -242,9 +243,9 @@ pub cut_before : (v : Version) (harts : ℕ) (symbols : List TraceRecord) (files
     → AreCut (outputs_for v harts symbols whole files) before now e
 cut_before v harts symbols files whole before now e cut =
     cut_whole v harts symbols files whole symbols
-    (records_in v whole.events ++ records.End whole.ending ∷ []) [] (output_in whole.events)
+    (records_in v whole.events ++ records.End (end_for v whole.ending) ∷ []) [] (output_in whole.events)
     before now e (sym (append_assoc symbols (records_in v whole.events)
-    (records.End whole.ending ∷ []))) refl cut
+    (records.End (end_for v whole.ending) ∷ []))) refl cut
 
 pub cut_start : (v : Version) (harts : ℕ) (symbols : List TraceRecord) (files : List RunFile) (whole
     : Run)
@@ -253,5 +254,5 @@ pub cut_start : (v : Version) (harts : ℕ) (symbols : List TraceRecord) (files 
     → AreCut (outputs_for v harts symbols whole files) before now e
 cut_start v harts symbols files whole before now e cut =
     cut_whole v harts symbols files whole []
-    (records_of v symbols whole ++ records.End whole.ending ∷ []) [] (output_in whole.events)
+    (records_of v symbols whole ++ records.End (end_for v whole.ending) ∷ []) [] (output_in whole.events)
     before now e refl refl cut

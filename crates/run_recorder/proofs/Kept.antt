@@ -1,5 +1,5 @@
 -- The trace of a run keeps the rules of the format.
-use Rattle.std.proofs.Common.{◌≡◌, ℕ, suc, ◌+◌, ◌*◌, ◌^◌, ◌≤◌, List, [], ◌∷◌, ◌++◌, length, refl}
+use Rattle.std.proofs.Common.{None, Some, ◌<◌, ◌≡◌, ℕ, suc, ◌+◌, ◌*◌, ◌^◌, ◌≤◌, List, [], ◌∷◌, ◌++◌, length, refl}
 use Rattle.std.proofs.Common.{Option, sym, ap, ◌∙◌, arith}
 use Rattle.std.specs.Int.{w32, to_le_bytes}
 use Rattle.std.specs.List.{All, flat_map}
@@ -17,9 +17,11 @@ use Rattle.trace_format.specs.declared.record.TraceRecord.{TraceRecord}
 use Rattle.trace_format.specs.declared.record.TraceRecord.TheVariants as records
 use Rattle.trace_format.specs.declared.before.Before.{Before}
 use Rattle.trace_format.specs.declared.record.Version.{Version}
-use Rattle.trace_format.specs.declared.record.Version.TheVariants.{One, Two, Three}
+use Rattle.trace_format.specs.declared.record.Version.TheVariants.{One, Two, Three, Four}
 use Rattle.trace_format.specs.Numbers.{distance, groups}
-use Rattle.trace_format.specs.Rules.{FitsFields, IsAllowedEnd, IsGoodRecord, IsInner, IsWritable}
+use Rattle.trace_format.specs.Rules.{FitsFields, HasRegions, IsAllowedEnd, IsGoodEnding, IsGoodRecord}
+use Rattle.trace_format.specs.Rules.{IsInner, IsWritable}
+use Rattle.trace_format.specs.Laws.Ends.{ending_length}
 use Rattle.trace_format.specs.Rules.{longest_trace}
 use Rattle.trace_format.specs.Rules.{touches_in as touches_among}
 use Rattle.trace_format.specs.Spelling.{spell, spell_alloc, spell_ending, spell_free, spell_header}
@@ -30,7 +32,7 @@ use Rattle.guest.specs.GuestCalls.{RunEvent, quiet, touch, alloc, free, output}
 use Rattle.guest.specs.SeenTurns.{IsEndOf}
 use Rattle.guest.specs.Runs.{IsShort, Run, touch_in, touches_in}
 use Rattle.guest.specs.declared.setup.Setup.{Setup}
-use Rattle.run_recorder.specs.Recorded.{IsKept, IsSymbolRecord, pc_for, record_in, records_in}
+use Rattle.run_recorder.specs.Recorded.{end_for, near_for, IsKept, IsSymbolRecord, pc_for, record_in, records_in}
 use Rattle.run_recorder.specs.Recorded.{records_of, trace_for}
 use Rattle.run_recorder.proofs.Records.{spell-append, touches-among, touches-in}
 
@@ -168,6 +170,11 @@ touch_short Three before a pc =
     ++ groups (distance (pc_before before a.hart) (pc_or_zero pc))))
     (two_groups (distance before.last a.addr)
     (distance (pc_before before a.hart) (pc_or_zero pc)))
+touch_short Four before a pc =
+    two_more (length (groups (distance before.last a.addr)
+    ++ groups (distance (pc_before before a.hart) (pc_or_zero pc))))
+    (two_groups (distance before.last a.addr)
+    (distance (pc_before before a.hart) (pc_or_zero pc)))
 
 alloc_long : (at size : ℕ) (sites : List ℕ) → length (spell_alloc at size sites)
     ≡ length (flat_map (to_le_bytes w32) sites) + 9
@@ -269,38 +276,36 @@ fitting_end harts Part is = absurd is
 
 -- ---- the whole
 
-ending_long : (e : Ending) → length (spell_ending e) ≡ 25
-unfolding spell_ending
-ending_long e = outcome_long e.outcome
-  where
-    outcome_long : (o : Outcome) → length
-        (spell_ending (record { outcome = o; steps = e.steps; accesses = e.accesses })) ≡ 25
-    outcome_long (Exit code) = refl
-    outcome_long Budget = refl
-    outcome_long Deadlock = refl
-    outcome_long (Trap hart pc cause) = refl
-    outcome_long Part = refl
+ending_long : (v : Version) (e : Ending) → length (spell_ending v (end_for v e)) ≤ 33
+ending_long One e = omega (arith, ending_length One e.outcome e.steps e.accesses None)
+ending_long Two e = omega (arith, ending_length Two e.outcome e.steps e.accesses None)
+ending_long Three e = omega (arith, ending_length Three e.outcome e.steps e.accesses None)
+ending_long Four e = omega (
+  arith,
+  ending_length Four e.outcome e.steps e.accesses (Some e.accesses),
+)
 
 header_long : (v : Version) (harts : ℕ)
-    → length (spell_header v (record { first = 0; harts = harts })) ≡ 20
+    → length (spell_header v (record { first = 0; harts = harts; near = near_for v })) ≡ 20
 unfolding spell_header
 header_long One harts = refl
 header_long Two harts = refl
 header_long Three harts = refl
+header_long Four harts = refl
 
 whole_long : (v : Version) (harts : ℕ) (symbols : List TraceRecord) (r : Run)
-    → length (spell v (record { first = 0; harts = harts }) (records_of v symbols r) r.ending)
-    ≡ length (spell_header v (record { first = 0; harts = harts }))
+    → length (spell v (record { first = 0; harts = harts; near = near_for v }) (records_of v symbols r) (end_for v r.ending))
+    ≡ length (spell_header v (record { first = 0; harts = harts; near = near_for v }))
     + ((length (spell_records v nothing_before symbols)
     + length (spell_records v (before_behind nothing_before symbols) (records_in v r.events)))
-    + length (spell_ending r.ending))
+    + length (spell_ending v (end_for v r.ending)))
 unfolding spell
 whole_long v harts symbols r =
-    let head : List ℕ = spell_header v (record { first = 0; harts = harts }) in
+    let head : List ℕ = spell_header v (record { first = 0; harts = harts; near = near_for v }) in
     let front = spell_records v nothing_before symbols in
     let later =
     spell_records v (before_behind nothing_before symbols) (records_in v r.events) in
-    let end : List ℕ = spell_ending r.ending in
+    let end : List ℕ = spell_ending v (end_for v r.ending) in
     ap (λ (l : List ℕ). length (head ++ (l ++ end)))
     (spell-append v nothing_before symbols (records_in v r.events))
     ∙ length-append head ((front ++ later) ++ end)
@@ -309,7 +314,7 @@ whole_long v harts symbols r =
 
 -- the lengths of a trace's parts, summed
 sum_short : (all head symbols events end n m : ℕ) → all ≡ head + ((symbols + events) + end) → head
-    ≡ 20 → end ≡ 25
+    ≡ 20 → end ≤ 33
     → symbols ≤ 1036 * n → n ≤ 2 ^ 20 → events ≤ 25 * m → m ≤ 2 ^ 36 → all ≤ longest_trace
 sum_short all head symbols events end n m is h e s few v short = omega
     (arith, is, h, e, s, few, v, short)
@@ -317,18 +322,64 @@ sum_short all head symbols events end n m is h e s few v short = omega
 run_short : (v : Version) (harts : ℕ) (symbols : List TraceRecord) (r : Run)
     → All IsSymbolRecord symbols → length symbols ≤ 2 ^ 20
     → All (IsGoodRecord v harts) (records_in v r.events) → length r.events ≤ 2 ^ 36
-    → length (spell v (record { first = 0; harts = harts }) (records_of v symbols r) r.ending) ≤
+    → length (spell v (record { first = 0; harts = harts; near = near_for v }) (records_of v symbols r) (end_for v r.ending)) ≤
     longest_trace
 run_short v harts symbols r told few good short =
-    sum_short (length (spell v (record { first = 0; harts = harts })
-    (records_of v symbols r) r.ending))
-    (length (spell_header v (record { first = 0; harts = harts })))
+    sum_short (length (spell v (record { first = 0; harts = harts; near = near_for v })
+    (records_of v symbols r) (end_for v r.ending)))
+    (length (spell_header v (record { first = 0; harts = harts; near = near_for v })))
     (length (spell_records v nothing_before symbols))
     (length (spell_records v (before_behind nothing_before symbols) (records_in v r.events)))
-    (length (spell_ending r.ending)) (length symbols) (length r.events)
+    (length (spell_ending v (end_for v r.ending))) (length symbols) (length r.events)
     (whole_long v harts symbols r) (header_long v harts)
-    (ending_long r.ending) (symbols_short v nothing_before symbols told) few
+    (ending_long v r.ending) (symbols_short v nothing_before symbols told) few
     (events_short v harts (before_behind nothing_before symbols) r.events good) short
+
+regions_kept : (v : Version) (harts : ℕ)
+    → HasRegions v (record { first = 0; harts = harts; near = near_for v })
+regions_kept One harts = refl
+regions_kept Two harts = refl
+regions_kept Three harts = refl
+regions_kept Four harts = (refl, (omega arith, omega arith))
+
+-- the end of a trace that leaves out no access
+end_kept : (v : Version) (harts : ℕ) (e : Ending) → IsAllowedEnd e.steps e.outcome
+    → FitsFields harts e.outcome → e.steps < 2 ^ 64 → e.accesses ≤ 2 ^ 40
+    → IsGoodEnding v harts (end_for v e)
+end_kept One harts e allowed fits steps few = record {
+  allowed = allowed;
+  outcome = fits;
+  steps = steps;
+  accesses = omega arith;
+  whole = refl;
+}
+end_kept Two harts e allowed fits steps few = record {
+  allowed = allowed;
+  outcome = fits;
+  steps = steps;
+  accesses = omega arith;
+  whole = refl;
+}
+end_kept Three harts e allowed fits steps few = record {
+  allowed = allowed;
+  outcome = fits;
+  steps = steps;
+  accesses = omega arith;
+  whole = refl;
+}
+end_kept Four harts e allowed fits steps few = record {
+  allowed = allowed;
+  outcome = fits;
+  steps = steps;
+  accesses = omega arith;
+  whole = (omega arith, few);
+}
+
+counted_end : (v : Version) (e : Ending) → (end_for v e).accesses ≡ e.accesses
+counted_end One e = refl
+counted_end Two e = refl
+counted_end Three e = refl
+counted_end Four e = refl
 
 pub kept_rules : (v : Version) (harts : ℕ) (symbols : List TraceRecord) (s : Setup) (r : Run)
     → 1 ≤ harts
@@ -346,18 +397,16 @@ kept_rules v harts symbols s r some most told few short budget good end =
     let fewer = few_touches r.events in
     record {
       header = record { position = omega arith; some = some; few = most };
+      regions = regions_kept v harts;
       records = All-append (IsGoodRecord v harts) symbols (records_in v r.events)
           (All-weaker IsSymbolRecord (IsGoodRecord v harts) (symbol_good v harts) symbols told)
           good;
       inner = All-append IsInner symbols (records_in v r.events)
           (All-weaker IsSymbolRecord IsInner symbol_inner symbols told) (events_inner v r.events);
-      ending = record {
-        allowed = allowed_end harts r.ending.steps r.ending.outcome end;
-        outcome = fitting_end harts r.ending.outcome end;
-        steps = omega (arith, short.steps, budget);
-        accesses = omega (arith, short.accesses, fewer, short.events, budget);
-      };
+      ending = end_kept v harts r.ending (allowed_end harts r.ending.steps r.ending.outcome end)
+          (fitting_end harts r.ending.outcome end) (omega (arith, short.steps, budget))
+          (omega (arith, short.accesses, fewer, short.events, budget));
       positions = omega (arith, count, short.accesses, fewer, short.events, budget);
-      counted = count;
+      counted = counted_end v r.ending ∙ count;
       short = run_short v harts symbols r told few good (omega (arith, short.events, budget));
     }

@@ -1,3 +1,4 @@
 pub mod Laws
 pub mod Recorded
 pub mod Recording
+pub mod Showing

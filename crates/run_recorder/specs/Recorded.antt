@@ -5,8 +5,11 @@ use Rattle.base.specs.Touch.{Touch}
 use Rattle.shelf.specs.Files.{Output as AnOutput}
 use Rattle.trace_format.specs.declared.record.TraceRecord.{TraceRecord}
 use Rattle.trace_format.specs.declared.record.TraceRecord.TheVariants as records
+use Rattle.base.specs.declared.ending.Ending.{Ending}
+use Rattle.trace_format.specs.declared.record.TraceEnd.{TraceEnd}
+use Rattle.trace_format.specs.Ends.{unfiltered}
 use Rattle.trace_format.specs.declared.record.Version.{Version}
-use Rattle.trace_format.specs.declared.record.Version.TheVariants.{One, Three}
+use Rattle.trace_format.specs.declared.record.Version.TheVariants.{One, Three, Four}
 use Rattle.trace_format.specs.Pcs.{without_pcs}
 use Rattle.trace_format.specs.Rules.{IsGoodSymbol, IsGoodTrace, touches_in}
 use Rattle.trace_passes.specs.Passes.{Trace as ATrace, spell_trace}
@@ -23,9 +26,10 @@ abbrev pub IsSymbolRecord : TraceRecord → Type 0
 IsSymbolRecord (records.Symbol kind addr size name) = IsGoodSymbol addr size name
 IsSymbolRecord _ = ⊥
 
--- version 3 alone tells the pc of an access
+-- versions 3 and 4 alone tell the pc of an access
 abbrev pub pc_for : Version → ℕ → Option ℕ
 pc_for Three pc = Some pc
+pc_for Four pc = Some pc
 pc_for _ pc = None
 
 -- what a trace of a version tells of an event
@@ -44,13 +48,22 @@ records_in v (e ∷ events) = record_in v e ++ records_in v events
 abbrev pub records_of : Version → List TraceRecord → Run → List TraceRecord
 records_of v symbols r = symbols ++ records_in v r.events
 
+-- A trace of version 4 that has all accesses of a run leaves out none, however large the regions.
+abbrev pub near_for : Version → ℕ
+near_for Four = 16
+near_for _ = 0
+
+abbrev pub end_for : Version → Ending → TraceEnd
+end_for Four e = record (unfiltered e) { whole = Some e.accesses }
+end_for _ e = unfiltered e
+
 -- the trace of a version of a run of so many harts, of a program with these symbols
 abbrev pub trace_for : Version → ℕ → List TraceRecord → Run → ATrace
 trace_for v harts symbols r = record {
   version = v;
-  header = record { first = 0; harts = harts };
+  header = record { first = 0; harts = harts; near = near_for v };
   items = records_of v symbols r;
-  ending = r.ending;
+  ending = end_for v r.ending;
 }
 
 -- a trace keeps the rules of the format

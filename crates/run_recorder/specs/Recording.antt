@@ -20,7 +20,7 @@ use Rattle.guest.specs.declared.turn.Turn.TheVariants.{Ran}
 use Rattle.run_recorder.specs.declared.run_file.Content.{Content}
 use Rattle.run_recorder.specs.declared.run_file.Content.TheVariants as content
 use Rattle.run_recorder.specs.declared.run_file.RunFile.{RunFile}
-use Rattle.run_recorder.specs.Recorded.{outputs_of, pc_for, record_in}
+use Rattle.run_recorder.specs.Recorded.{near_for, outputs_of, pc_for, record_in}
 
 -- ---- what a file gets
 
@@ -73,7 +73,7 @@ IsTold harts event config = IsSeen harts (Ran event) config
 -- the bytes of a file once these records were noted and these bytes put out
 abbrev pub bytes_so_far : Version → ℕ → List TraceRecord → List ℕ → Content → List ℕ
 bytes_so_far v harts items put content.Trace =
-    begun_with v (record { first = 0; harts = harts }) items
+    begun_with v (record { first = 0; harts = harts; near = near_for v }) items
 bytes_so_far v harts items put content.Output = put
 
 -- a writer that has spelled these records

@@ -9,7 +9,7 @@ ghost use Rattle.trace_format.specs.Rules.{IsWritable};
 ghost use Rattle.trace_format.specs.Spelling.{before_after};
 ghost use Rattle.trace_format.specs.Writing.{before_behind};
 ghost use Rattle.run_recorder.specs.declared.run_file.Content.{Content as AContent};
-ghost use Rattle.run_recorder.specs.Recorded.{names_of, outputs_of};
+ghost use Rattle.run_recorder.specs.Recorded.{near_for, names_of, outputs_of};
 ghost use Rattle.run_recorder.specs.Recording.{AreCutAfter, bytes_so_far, has_trace};
 ghost use Rattle.run_recorder.specs.Recording.{output_part, record_part, records_part};
 ghost use Rattle.run_recorder.specs.Recording.{touch_records, trace_part};
@@ -21,6 +21,16 @@ use shelf::{Shelf, ShelfError};
 use std::alloc::Global;
 use trace_files::TraceOutputs;
 use trace_format::{Header, TraceRecord, Version};
+
+// The regions of a trace that leaves out no access.
+fn near_for(version: Version) -> u16
+    ensures { result ≡ near_for version }
+{
+    match version {
+        Version::One | Version::Two | Version::Three => 0,
+        Version::Four => 16,
+    }
+}
 
 // Begins a file behind the others, as its content begins.
 fn begin_one<'a, S: Shelf>(
@@ -51,7 +61,12 @@ fn begin_one<'a, S: Shelf>(
 {
     match content {
         Content::Trace => {
-            let header = Header { first: 0, harts };
+            let near = near_for(version);
+            let header = Header {
+                first: 0,
+                harts,
+                near,
+            };
             match outputs.begin_trace(alloc, shelf, place, name, version, header) {
                 Ok(_) => Ok(()),
                 Err(error) => Err(error),

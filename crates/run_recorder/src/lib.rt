@@ -10,6 +10,7 @@ mod files;
 mod laws;
 mod notes;
 mod run_file;
+mod showing;
 mod speller;
 mod telling;
 mod touches;

@@ -13,11 +13,12 @@ ghost use Rattle.run_recorder.specs.Recording.{AreCutAfter, AreNoted, IsTold, by
 ghost use Rattle.run_recorder.specs.Recording.{records_told};
 
 use crate::files::{put_output, put_record};
-use crate::run_file::{Content, RunFile};
+use crate::run_file::RunFile;
+use crate::showing::output_to_show;
 use crate::speller::Speller;
 use crate::telling::{alloc_record, free_record, touch_record};
 use guest::{Event, Guest};
-use shelf::{RunShown, Shelf, ShelfError};
+use shelf::{Shelf, ShelfError};
 use trace_files::TraceOutputs;
 use trace_format::{TraceRecord, Version};
 use trace_passes::Observer;
@@ -64,9 +65,8 @@ pub(crate) fn note_record<S: Shelf, O: Observer>(
 fn show_output<S: Shelf>(shelf: &mut S, files: &[RunFile<'_>], bytes: &[u8])
     ensures { S.outside shelf.new ≡ S.outside shelf.old }
 {
-    let is_kept = files.iter().any(|file| file.content == Content::Output);
-    if !is_kept {
-        shelf.show_run(RunShown::Output(bytes));
+    if let Some(shown) = output_to_show(files, bytes) {
+        shelf.show_run(shown);
     }
 }
 

@@ -14,7 +14,7 @@ fn pc_for(version: Version, pc: u32) -> Option<u32>
     ensures { result ≡ pc_for version pc }
 {
     match version {
-        Version::Three => Some(pc),
+        Version::Three | Version::Four => Some(pc),
         Version::One | Version::Two => None,
     }
 }

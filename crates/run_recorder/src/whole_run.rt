@@ -15,21 +15,22 @@ ghost use Rattle.trace_passes.specs.Passes.{all_records};
 ghost use Rattle.trace_passes.specs.Rooms.{HasRoom};
 ghost use Rattle.guest.specs.SeenTurns.{IsEndOf};
 ghost use Rattle.guest.specs.Runs.{IsShort, output_of, rest_of};
-ghost use Rattle.run_recorder.specs.Recorded.{IsKept, IsSymbolRecord, names_of, outputs_for};
+ghost use Rattle.run_recorder.specs.Recorded.{end_for, IsKept, IsSymbolRecord, names_of, outputs_for};
 ghost use Rattle.run_recorder.specs.Recorded.{outputs_of, records_in, trace_for};
 ghost use Rattle.run_recorder.specs.Recording.{AreCutAfter, AreNoted, HasStarted, bytes_so_far};
 
 use crate::files::begin;
 use crate::notes::note_record;
 use crate::run_file::RunFile;
+use crate::showing::code_to_show;
 use crate::speller::Speller;
 use crate::touches::{note_touches, note_turn};
-use base::{Ending, Outcome};
+use base::Ending;
 use guest::{Guest, Touches, Turn};
 use shelf::{RunShown, Shelf, ShelfError};
 use std::alloc::Global;
 use trace_files::TraceOutputs;
-use trace_format::{TraceRecord, Version};
+use trace_format::{TraceEnd, TraceRecord, Version};
 use trace_passes::Observer;
 
 // Notes the symbols of the program, in their order.
@@ -98,11 +99,8 @@ fn show_end<S: Shelf>(shelf: &mut S, guest: &Guest)
     if guest.lacks_hart() {
         shelf.show_run(RunShown::NoFreeHart(guest.harts()));
     }
-    if let Some(ending) = guest.ending() {
-        match ending.outcome {
-            Outcome::Exit(code) if code != 0 => shelf.show_run(RunShown::ExitCode(code)),
-            _ => {}
-        }
+    if let Some(shown) = code_to_show(guest.ending()) {
+        shelf.show_run(shown);
     }
 }
 
@@ -197,7 +195,7 @@ fn end<S: Shelf, O: Observer>(
     outputs: &mut TraceOutputs<'_>,
     speller: &mut Speller,
     observer: &mut O,
-    ending: &Ending,
+    ending: &TraceEnd,
 ) -> Result<(), ShelfError>
     requires paired { length outputs.old ≡ length files.now }
     requires begun { AreBegun (waiting_names outputs.old) (S.outside shelf.old) }
@@ -230,6 +228,20 @@ fn end<S: Shelf, O: Observer>(
     ) {
         Ok(()) => outputs.finish(shelf),
         Err(error) => Err(error),
+    }
+}
+
+// The end of a trace that leaves out no access of a run.
+fn end_for(version: Version, ending: &Ending) -> TraceEnd
+    ensures { result ≡ end_for version ending.now }
+{
+    let end = TraceEnd::of(ending);
+    match version {
+        Version::One | Version::Two | Version::Three => end,
+        Version::Four => TraceEnd {
+            whole: Some(end.accesses),
+            ..end
+        },
     }
 }
 
@@ -284,7 +296,8 @@ fn note_run<'a, S: Shelf, O: Observer>(
         Ok(ending) => ending,
         Err(error) => return Err(error),
     };
-    match end(shelf, files, outputs, speller, observer, &ending) {
+    let last = end_for(version, &ending);
+    match end(shelf, files, outputs, speller, observer, &last) {
         Ok(()) => Ok(ending),
         Err(error) => Err(error),
     }

@@ -1,5 +1,6 @@
 pub mod AccessLists
 pub mod Arrivals
+pub mod Filtered
 pub mod Holders
 pub mod Laws
 pub mod Lines

@@ -18,13 +18,14 @@ use Rattle.shelf.specs.declared.shelf.ShelfError.{ShelfError}
 use Rattle.shelf.specs.declared.shelf.ShelfError.TheVariants.{Failed, NoMemory}
 use Rattle.shelf.specs.Files.{Output, BegunInOrder, RoseAmong, AreCut, AreWritten}
 use Rattle.shelf.specs.OneFile.{Waiting, kept_of, AddsUp, Holds, IsBegun, Sunk, HoldsFront}
-use Rattle.shelf.specs.OneFile.{OthersStay, OthersStand}
+use Rattle.shelf.specs.OneFile.{LosesNothing, OthersStay, OthersStand}
 use Rattle.shelf.specs.OnTheirWay.{names_of, IsNew, AreApart, AreBegun, AreSunk, IsOutputs}
 use Rattle.shelf.specs.OnTheirWay.{NothingWaits, changed_at, waiting_with}
 use Rattle.shelf.specs.Laws.Files.{Sunk-front, goes_by, goes_then, Others, output_names, HaveFronts}
 use Rattle.shelf.specs.Laws.Files.{AreHeld, all_begun, front_at, front_name, held_whole}
 use Rattle.shelf.specs.Laws.Files.{sunk_fronts, sunk_names}
 use Rattle.shelf.specs.Laws.Told.{writes_alone, writes_both}
+use Rattle.shelf.proofs.Lasting.{stays_then}
 
 pub changed_not : (outputs : List Output) (place : ℕ) → changed_at outputs place (λ b. b) ≡ outputs
 changed_not [] place = refl
@@ -377,6 +378,7 @@ pub record FinishedTo (first now : List Waiting) (place : ℕ) (old new : Outsid
   pub tells : new.held ≡ old.held
   pub gives : new.given ≡ old.given
   pub done : FirstDone place now
+  pub stays : LosesNothing old new
 
 -- ---- one file more
 
@@ -557,8 +559,8 @@ pub finished_more : (first files : List Waiting) (i : ℕ) (f after : Waiting) (
     → FinishedTo first files i old mid
     → AreApart (names_of first) → i < length files → get_or files i f ≡ f
     → Moves f after (λ put. put) mid new → IsBegun f.name new → after.kept ≡ []
-    → FinishedTo first (set files i after) (suc i) old new
-finished_more first files i f after old mid new finished apart below is moves begun none =
+    → LosesNothing mid new → FinishedTo first (set files i after) (suc i) old new
+finished_more first files i f after old mid new finished apart below is moves begun none stays =
     let named : names_of (set files i after)
     ≡ names_of files = name_at files i f after is moves.name in
     record {
@@ -575,6 +577,7 @@ finished_more first files i f after old mid new finished apart below is moves be
       tells = moves.only.held ∙ finished.tells;
       gives = moves.only.given ∙ finished.gives;
       done = done_more files i after none finished.done;
+      stays = stays_then old mid new finished.stays stays;
     }
 
 pub finished_stops : (first files : List Waiting) (i : ℕ) (f : Waiting) (old mid new : Outside)

@@ -1,6 +1,7 @@
 -- A file on its way: what was put into it stands in the written file of its name, but for what
 -- still waits.
-use Rattle.std.specs.Prelude.{◌≡◌, ◌≢◌, ℕ, List, [], ◌++◌, length, take, Some, IsSome, nat_lt}
+use Rattle.std.specs.Prelude.{◌≡◌, ◌≢◌, ℕ, List, [], ◌++◌, length, take, Option, Some, None, IsSome}
+use Rattle.std.specs.Prelude.{nat_lt}
 use Rattle.std.specs.Prelude.{if◌then◌else◌}
 use Rattle.std.specs.Option.{ForSome}
 use Rattle.shelf.specs.Shelf.{Outside, Files, Told, Goes}
@@ -34,6 +35,16 @@ Holds name bytes outside = Told outside.written (λ files. files name ≡ Some b
 abbrev pub HoldsFront : List ℕ → List ℕ → Outside → Type 0
 HoldsFront name bytes outside = Told outside.written
     (λ files. (k : ℕ) × (files name ≡ Some (take k bytes)))
+
+-- what stood in a file stands, and there may be more behind it
+abbrev pub GoesOn : Option (List ℕ) → Option (List ℕ) → Type 0
+GoesOn None now = Unit {0}
+GoesOn (Some bytes) now = (more : List ℕ) × (now ≡ Some (bytes ++ more))
+
+-- no file loses what was written to it
+abbrev pub LosesNothing : Outside → Outside → Type 0
+LosesNothing old new = Goes old.written new.written
+    (λ before now. (name : List ℕ) → GoesOn (before name) (now name))
 
 -- each other name's file is as it was
 abbrev pub OthersStay : List ℕ → Outside → Outside → Type 0

@@ -2,6 +2,7 @@
 ghost use Rattle.std.specs.Prelude.{◌≡◌, ◌<◌, ◌++◌, ◌∷◌, List, [], length, OnOk, IfErr};
 ghost use Rattle.shelf.specs.Shelf.{Outside};
 ghost use Rattle.shelf.specs.Files.{Output, AreCut, AreWritten};
+ghost use Rattle.shelf.specs.OneFile.{LosesNothing};
 ghost use Rattle.shelf.specs.OnTheirWay.{AreBegun, IsNew, IsOutputs, NothingWaits, names_of};
 ghost use Rattle.shelf.specs.OnTheirWay.{outputs_with, waiting_with};
 
@@ -82,9 +83,10 @@ impl<'a> Outputs<'a> {
     /// Adds bytes to the file at a place, counted from 0. Once 64 KiB or more wait for it, all of
     /// them go to the file in one call.
     ///
-    /// At an error each file is a front of all that was put into it, these bytes included. `Failed`
-    /// comes only where the faults of writing one of the names rose, `NoMemory` for want of memory.
-    /// The condition is that each file is begun, where the shelf tells what is written.
+    /// At an error each file is a front of all that was put into it, these bytes included, and none
+    /// has lost what was written to it. `Failed` comes only where the faults of writing one of the
+    /// names rose, `NoMemory` for want of memory. The condition is that each file is begun, where the
+    /// shelf tells what is written.
     #[inline]
     pub fn put<S: Shelf>(
         &mut self,
@@ -105,6 +107,7 @@ impl<'a> Outputs<'a> {
         ensures cut { IfErr result (λ error. (outputs : List Output) (before : Outside)
             → IsOutputs self.old outputs before (S.outside shelf.old)
             → AreCut (outputs_with outputs place bytes.now) before (S.outside shelf.new) error) }
+        ensures stays { LosesNothing (S.outside shelf.old) (S.outside shelf.new) }
         ensures tells { (S.outside shelf.new).held ≡ (S.outside shelf.old).held }
         ensures gives { (S.outside shelf.new).given ≡ (S.outside shelf.old).given }
     {
@@ -115,9 +118,10 @@ impl<'a> Outputs<'a> {
     /// Appends what still waits to the files, in their order: each is then all that was put into
     /// it. More may be put afterwards.
     ///
-    /// At an error each file is a front of all that was put into it. `Failed` comes only where the
-    /// faults of writing one of the names rose, `NoMemory` for want of memory. The condition is
-    /// that each file is begun, where the shelf tells what is written.
+    /// At an error each file is a front of all that was put into it, and none has lost what was
+    /// written to it. `Failed` comes only where the faults of writing one of the names rose,
+    /// `NoMemory` for want of memory. The condition is that each file is begun, where the shelf tells
+    /// what is written.
     pub fn finish<S: Shelf>(&mut self, shelf: &mut S) -> Result<(), ShelfError>
         requires { AreBegun (names_of self.old) (S.outside shelf.old) }
         ensures count { OnOk result (length self.new ≡ length self.old) }
@@ -133,6 +137,7 @@ impl<'a> Outputs<'a> {
         ensures cut { IfErr result (λ error. (outputs : List Output) (before : Outside)
             → IsOutputs self.old outputs before (S.outside shelf.old)
             → AreCut outputs before (S.outside shelf.new) error) }
+        ensures stays { LosesNothing (S.outside shelf.old) (S.outside shelf.new) }
         ensures tells { (S.outside shelf.new).held ≡ (S.outside shelf.old).held }
         ensures gives { (S.outside shelf.new).given ≡ (S.outside shelf.old).given }
     {

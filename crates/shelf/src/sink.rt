@@ -2,7 +2,7 @@
 ghost use Rattle.std.specs.Prelude.{◌≡◌, ◌<◌, ◌++◌, List, ℕ, [], length, IfOk, OnOk, OnErr, IsOk};
 ghost use Rattle.shelf.specs.Shelf.{Goes, ChangesAt, Begins, HasCauseAt, OnlyWrites};
 ghost use Rattle.shelf.specs.OneFile.{kept_of, IsBegun, Sunk, Holds, HoldsFront, OthersStay};
-ghost use Rattle.shelf.specs.OneFile.{OthersStand};
+ghost use Rattle.shelf.specs.OneFile.{LosesNothing, OthersStand};
 
 use crate::{Shelf, ShelfError};
 use std::alloc::Global;
@@ -72,6 +72,8 @@ impl<'a> Sink<'a> {
         // The sink's name stays, and stays begun.
         ensures name { self.new.name ≡ self.old.name }
         ensures begun { IsBegun self.old.name (S.outside shelf.new) }
+        // What the file has stays, at an error too.
+        ensures stays { LosesNothing (S.outside shelf.old) (S.outside shelf.new) }
         ensures others { OthersStay self.old.name (S.outside shelf.old) (S.outside shelf.new) }
         ensures others_stand { OthersStand self.old.name (S.outside shelf.old)
             (S.outside shelf.new) }
@@ -103,6 +105,8 @@ impl<'a> Sink<'a> {
         // The sink's name stays, and stays begun.
         ensures name { self.new.name ≡ self.old.name }
         ensures begun { IsBegun self.old.name (S.outside shelf.new) }
+        // What the file has stays, at an error too.
+        ensures stays { LosesNothing (S.outside shelf.old) (S.outside shelf.new) }
         ensures others { OthersStay self.old.name (S.outside shelf.old) (S.outside shelf.new) }
         ensures others_stand { OthersStand self.old.name (S.outside shelf.old)
             (S.outside shelf.new) }

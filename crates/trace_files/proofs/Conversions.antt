@@ -1,5 +1,5 @@
 -- A conversion on its way to the file that it would be.
-use Rattle.std.proofs.Common.{◌≡◌, ℕ, List, [], ◌∷◌, ◌++◌, length, Option, Some, refl, sym, ap, ◌∙◌}
+use Rattle.std.proofs.Common.{None, ◌≡◌, ℕ, List, [], ◌∷◌, ◌++◌, length, Option, Some, refl, sym, ap, ◌∙◌}
 use Rattle.std.proofs.Common.{subst}
 use Rattle.shelf.specs.Shelf.{Files, Narrows, Outside, Told, content}
 use Rattle.shelf.specs.declared.shelf.ShelfError.{ShelfError}
@@ -11,10 +11,11 @@ use Rattle.trace_format.specs.declared.record.TraceRecord.{TraceRecord}
 use Rattle.trace_format.specs.Rules.{touches_in}
 use Rattle.trace_format.specs.Laws.Writing.{begun-all, begun_on}
 use Rattle.trace_passes.specs.declared.passes.Passed.{Passed}
-use Rattle.trace_passes.specs.Passes.{Trace, all_records, trace_of, trace_with}
+use Rattle.trace_format.specs.declared.record.Header.{Header}
+use Rattle.trace_passes.specs.Passes.{near_refusal, Trace, all_records, trace_of, trace_with}
 use Rattle.trace_passes.specs.Laws.Passes.{trace-parts, trace-records}
 use Rattle.trace_files.specs.declared.copy_fault.CopyFault.{CopyFault}
-use Rattle.trace_files.specs.Copies.{HasCopied, HasStopped, conversion, other_version}
+use Rattle.trace_files.specs.Copies.{IsUnfiltered, HasCopied, HasStopped, conversion, other_version}
 use Rattle.trace_files.specs.Copying.{AreAlike, AreFirst, IsAccepted, IsCopied, IsCutShort}
 use Rattle.trace_files.specs.Copying.{write_fault}
 use Rattle.trace_files.specs.OneTrace.{trace_so_far}
@@ -95,7 +96,7 @@ module _ (held : Option Files) (name output : List ℕ) (first : Passed)
           pub copied_whole : AreWritten (files (all_records trace)) before now
               → HasCopied held name (conversion output)
               (λ t. (v ≡ other_version t.version)
-              × (second.ending.accesses ≡ length (touches_in t.items))) before now
+              × (second.ending.accesses ≡ length (touches_in t.items)) × IsUnfiltered t) before now
           copied_whole written = record {
             bytes = copied.bytes;
             whole = told;
@@ -104,6 +105,7 @@ module _ (held : Option Files) (name output : List ℕ) (first : Passed)
             told = (
               is ∙ ap other_version (sym alike.version),
               (trace-parts copied.bytes trace copied.is).counted,
+              ap (λ (h : Header). near_refusal None h.near) alike.header ∙ accepted.plain,
             );
             written = subst (λ (l : List Output). AreWritten l before now)
                 (ap (λ (f : List TraceRecord → List Output). f (all_records trace)) so_named

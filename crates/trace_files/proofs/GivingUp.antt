@@ -1,15 +1,16 @@
 -- What stands where a moved trace gives up, and that it is whole where it doesn't.
-use Rattle.std.proofs.Common.{◌≡◌, ◌≢◌, ◌≤◌, ℕ, false, List, [], ◌∷◌, ◌++◌, length, drop}
+use Rattle.std.proofs.Common.{◌≡◌, ◌≢◌, ◌≤◌, ℕ, false, List, [], ◌∷◌, ◌++◌}
+use Rattle.std.proofs.Common.{length}
 use Rattle.std.specs.Prelude.{IfOk, OnOk}
 use Rattle.std.proofs.Common.{Option, Some, None, Result, Ok, Err, inl, inr, refl, sym, ap}
-use Rattle.std.proofs.Common.{◌∙◌, subst, arith, append-nil, append_assoc, option_map}
+use Rattle.std.proofs.Common.{◌∙◌, subst, arith, append-nil, option_map}
 use Rattle.std.specs.List.{list_any}
 use Rattle.std.specs.Option.{option_map_or, option_or}
-use Rattle.std.proofs.lemmas.List.{map-append, take-append-drop, take_all}
+use Rattle.std.proofs.lemmas.List.{map-append, take_all}
 use Rattle.std.proofs.lemmas.List.Elements.{All-cons, All-nil, filter_map-append}
 use Rattle.std.proofs.lemmas.List.Folds.{list_any-append}
 use Rattle.base.specs.Touch.{Touch}
-use Rattle.base.specs.declared.ending.Ending.{Ending}
+use Rattle.trace_format.specs.declared.record.TraceEnd.{TraceEnd}
 use Rattle.shelf.specs.Shelf.{Files, Goes, Narrows, OnlyReads, Outside, Rose, Told, content}
 use Rattle.shelf.specs.Fetch.{IsFront}
 use Rattle.shelf.specs.declared.shelf.ShelfError.{ShelfError}
@@ -25,11 +26,10 @@ use Rattle.trace_format.specs.declared.record.Header.{Header}
 use Rattle.trace_format.specs.declared.record.TraceRecord.{TraceRecord}
 use Rattle.trace_format.specs.declared.record.TraceRecord.TheVariants as records
 use Rattle.trace_format.specs.declared.record.Version.{Version}
-use Rattle.trace_format.specs.Laws.Writing.{begun-all, begun-append}
+use Rattle.trace_format.specs.Laws.Writing.{begun-all}
 use Rattle.trace_format.specs.Reading.{ending_of, reading_of}
 use Rattle.trace_format.specs.Rules.{touch_in, touches_in}
-use Rattle.trace_format.specs.Spelling.{nothing_before, spell_records}
-use Rattle.trace_format.specs.Writing.{before_behind, begun_with}
+use Rattle.trace_format.specs.Writing.{begun_with}
 use Rattle.trace_passes.specs.declared.passes.PassFault.{PassFault}
 use Rattle.trace_passes.specs.declared.passes.PassFault.TheVariants as passes
 use Rattle.trace_passes.specs.declared.passes.Passed.{Passed}
@@ -47,14 +47,20 @@ use Rattle.trace_files.specs.declared.mover.Mover.{Mover}
 use Rattle.trace_files.specs.declared.relocation.Moved.{Moved}
 use Rattle.trace_files.specs.Copies.{HasCopied, any}
 use Rattle.trace_files.specs.Movers.{EndsAt, HasMoved, IsAllWritten, IsCutAt, IsOccupied, StopsAt}
+use Rattle.trace_files.specs.Movers.{IsTurnedAway}
+use Rattle.trace_files.specs.Laws.Copies.{any_header}
 use Rattle.trace_files.specs.Moves.{IsFree, count_moved, is_taken}
+use Rattle.trace_files.specs.Moving.{head_refusal, narrowed}
 use Rattle.trace_files.specs.Moving.{HasGivenUp, HasMoveCause, IsCounted, IsRefused}
 use Rattle.trace_files.specs.Moving.{before_the_first, first_in_the_way, is_in_the_way}
 use Rattle.trace_files.specs.Moving.{moved_item, moved_items, moved_so_far, moving, written_of}
+use Rattle.trace_files.proofs.Headed.{away_fault, away_head, away_written, go_all, head_in, head_kept}
+use Rattle.trace_files.proofs.Headed.{known_or_not, new_name, only_filtered, plain_fault}
+use Rattle.trace_files.proofs.Headed.{plain_written}
 use Rattle.trace_files.proofs.Readings.{front_first, same_at}
-use Rattle.trace_files.proofs.Relocations.{header_stays, none_read}
+use Rattle.trace_files.proofs.Relocations.{none_read}
 use Rattle.trace_files.proofs.Stopped.{others_stay}
-use Rattle.trace_files.proofs.Takings.{all_free, first_stays, front_free, front_same, neither_passes}
+use Rattle.trace_files.proofs.Takings.{all_free, first_stays, front_same, neither_passes}
 use Rattle.trace_files.proofs.Takings.{none_in_the_way}
 
 -- ---- who is the cause
@@ -127,75 +133,7 @@ reading_cause trace file before mid now passes.ReadFault cause reads writes = re
   write_quiet = λ e. writes;
 }
 
--- ---- what is written goes on to what is written of the bytes
-
-go_head : (table : List Move) (file : List ℕ) (known now : Option (Version × Header))
-    (put more all : List TraceRecord)
-    → ((h : Version × Header) → known ≡ Some h → now ≡ Some h) → all ≡ put ++ more
-    → list_any (is_in_the_way table) put ≡ false
-    → GoOn (moved_so_far table file known put)
-    (moved_so_far table file now (before_the_first table all))
-go_head table file None now put more all stays is free = tt
-go_head table file (Some h) now put more all stays is free =
-    let rest = before_the_first table more in
-    let first : before_the_first table all ≡ put ++ rest =
-    ap (before_the_first table) is ∙ front_free (is_in_the_way table) put more free in
-    let split : begun_with h.0 h.1 (moved_items table (put ++ rest))
-    ≡ begun_with h.0 h.1 (moved_items table put)
-    ++ spell_records h.0 (before_behind nothing_before (moved_items table put))
-    (moved_items table rest) =
-    ap (begun_with h.0 h.1) (map-append (moved_item table) put rest)
-    ∙ begun-append h.0 h.1 (moved_items table put) (moved_items table rest) in
-    let longer : GoOn (one_file file (begun_with h.0 h.1 (moved_items table put)))
-    (one_file file (begun_with h.0 h.1 (moved_items table (put ++ rest)))) = (
-      refl,
-      (
-        spell_records h.0 (before_behind nothing_before (moved_items table put))
-            (moved_items table rest),
-        split,
-      ),
-      tt,
-    ) in
-    subst (λ (k : Option (Version × Header)). GoOn (moved_so_far table file (Some h) put)
-    (moved_so_far table file k (before_the_first table all))) (sym (stays h refl))
-    (subst (λ (l : List TraceRecord). GoOn (moved_so_far table file (Some h) put)
-    (moved_so_far table file (Some h) l)) (sym first) longer)
-
--- bytes that some begin with
-front_whole : (all bytes : List ℕ) → IsFront all bytes → all ≡ bytes ++ drop (length bytes) all
-front_whole all bytes front =
-    let rest = drop (length bytes) all in
-    sym (ap (λ (xs : List ℕ). xs ++ rest) front.same ∙ take-append-drop (length bytes) all)
-
-head_kept : (all bytes : List ℕ) → IsFront all bytes → (h : Version × Header)
-    → version_and_header (reading_of bytes).1.progress ≡ Some h
-    → version_and_header (reading_of all).1.progress ≡ Some h
-head_kept all bytes front h is =
-    ap (λ (l : List ℕ). version_and_header (reading_of l).1.progress) (front_whole all bytes front)
-    ∙ header_stays bytes (drop (length bytes) all) h is
-
-go_all : (table : List Move) (file all bytes : List ℕ) (put more : List TraceRecord)
-    → IsFront all bytes → (reading_of bytes).0 ≡ put ++ more
-    → list_any (is_in_the_way table) put ≡ false
-    → GoOn (moved_so_far table file (version_and_header (reading_of bytes).1.progress) put)
-    (written_of table file all)
-go_all table file all bytes put more front is free =
-    let first = front_first all bytes front in
-    go_head table file (version_and_header (reading_of bytes).1.progress)
-    (version_and_header (reading_of all).1.progress) put (more ++ first.0) (reading_of all).0
-    (head_kept all bytes front)
-    (first.1 ∙ ap (λ (l : List TraceRecord). l ++ first.0) is ∙ append_assoc put more first.0) free
-
-new_name : (table : List Move) (file : List ℕ) (head : Option (Version × Header))
-    (put : List TraceRecord) (n : List ℕ) → n ≢ file
-    → IsNew n (output_names (moved_so_far table file head put))
-new_name table file None put n other = tt
-new_name table file (Some h) put n other = (λ e. other (sym e), tt)
-
-known_or_not : (k : Option (Version × Header)) (P : Type 0) → (k ≡ None → P)
-    → ((h : Version × Header) → k ≡ Some h → P) → P
-known_or_not None P none some = none refl
-known_or_not (Some h) P none some = some h refl
+-- ---- the bytes where it gives up
 
 none_occupied : (table : List Move) (seen : List TraceRecord) (addr : ℕ) → seen ≡ []
     → first_in_the_way table seen ≡ Some addr → ⊥
@@ -211,9 +149,11 @@ occupied_by : (held : Option Files) (trace file : List ℕ) (table : List Move) 
 occupied_by None trace file table bytes front before now addr occupied = record {
   bytes = bytes;
   whole = tt;
-  refused = ap (λ (o : Option ℕ). option_map_or (λ n. Some (faults.Occupied n)) o
+  refused = plain_fault table bytes occupied.cut.plain
+      ∙ ap (λ (o : Option ℕ). option_map_or (λ n. Some (faults.Occupied n)) o
       (option_map faults.Refused (refusal_of any bytes))) occupied.first;
-  written = occupied.written;
+  written = subst (λ (l : List Output). AreWritten l before now)
+      (sym (plain_written table file bytes occupied.cut.plain)) occupied.written;
 }
 occupied_by (Some files) trace file table bytes front before now addr occupied =
     let all = content files trace in
@@ -228,16 +168,44 @@ occupied_by (Some files) trace file table bytes front before now addr occupied =
     known_or_not head (version_and_header (reading_of all).1.progress ≡ head)
     (λ none. absurd (none_occupied table seen addr (none_read bytes none) occupied.first))
     (λ h is. head_kept all bytes front h is ∙ sym is) in
+    let plain : head_refusal (head_in all) ≡ None = ap head_refusal known ∙ occupied.cut.plain in
     record {
       bytes = all;
       whole = refl;
-      refused = ap (λ (o : Option ℕ). option_map_or (λ n. Some (faults.Occupied n)) o
+      refused = plain_fault table all plain
+          ∙ ap (λ (o : Option ℕ). option_map_or (λ n. Some (faults.Occupied n)) o
           (option_map faults.Refused (refusal_of any all))) first;
-      written = subst (λ (k : Option (Version × Header)). AreWritten
+      written = subst (λ (l : List Output). AreWritten l before now)
+          (sym (plain_written table file all plain))
+          (subst (λ (k : Option (Version × Header)). AreWritten
           (moved_so_far table file k (before_the_first table (reading_of all).0)) before now)
           (sym known)
           (subst (λ (l : List TraceRecord). AreWritten (moved_so_far table file head l) before now)
-          (sym same) occupied.written);
+          (sym same) occupied.written));
+    }
+
+-- the bytes whose header is refused, or all that are told behind them
+away_by : (held : Option Files) (trace file : List ℕ) (table : List Move) (bytes : List ℕ)
+    → Told held (λ fs. IsFront (content fs trace) bytes) → (before now : Outside)
+    (refusal : Refusal) → IsTurnedAway (head_in bytes) before now refusal
+    → IsRefused held trace file table before now (faults.Refused refusal)
+away_by None trace file table bytes front before now refusal away = record {
+  bytes = bytes;
+  whole = tt;
+  refused = away_fault table bytes refusal away.refused;
+  written = subst (λ (l : List Output). AreWritten l before now)
+      (sym (away_written table file bytes refusal away.refused)) away.written;
+}
+away_by (Some files) trace file table bytes front before now refusal away =
+    let all = content files trace in
+    let is : head_refusal (head_in all) ≡ Some refusal =
+    ap head_refusal (away_head all bytes refusal front away.refused) ∙ away.refused in
+    record {
+      bytes = all;
+      whole = refl;
+      refused = away_fault table all refusal is;
+      written = subst (λ (l : List Output). AreWritten l before now)
+          (sym (away_written table file all refusal is)) away.written;
     }
 
 module _ (held : Option Files) (trace file : List ℕ) (table : List Move) (bytes : List ℕ)
@@ -246,17 +214,17 @@ module _ (held : Option Files) (trace file : List ℕ) (table : List Move) (byte
     abbrev pub head : Option (Version × Header)
     head = version_and_header (reading_of bytes).1.progress
 
-    -- some records were put, the file was cut, and only reads came then
-    pub gives_up : (put more : List TraceRecord) (before last now : Outside) (error : ShelfError)
-        (fault : MoveFault) → (reading_of bytes).0 ≡ put ++ more
-        → list_any (is_in_the_way table) put ≡ false
-        → AreCut (moved_so_far table file head put) before last error
+    -- the file was cut, which goes on to what is written of the bytes, and only reads came then
+    gives_up_at : (outs : List Output)
+        → ((all : List ℕ) → IsFront all bytes → GoOn outs (written_of table file all))
+        → ((n : List ℕ) → n ≢ file → IsNew n (output_names outs))
+        → (before last now : Outside) (error : ShelfError) (fault : MoveFault)
+        → AreCut outs before last error
         → now.written ≡ last.written → HasMoveCause trace file before now fault
         → Narrows before.held now.held → now.printed ≡ before.printed
         → now.print_faults ≡ before.print_faults
         → HasGivenUp held trace file table before now fault
-    gives_up put more before last now error fault is free cut written cause narrow printed prints =
-        let outs = moved_so_far table file head put in
+    gives_up_at outs goes_on new before last now error fault cut written cause narrow printed prints =
         let later : (P : Files → Files → Type 0) → Goes before.written last.written P
         → Goes before.written now.written P =
         λ P goes. subst (λ (w : Option Files). Goes before.written w P) (sym written) goes in
@@ -265,10 +233,10 @@ module _ (held : Option Files) (trace file : List ℕ) (table : List Move) (byte
               let longer = written_of table file (content fs trace) in
               later (BegunInOrder longer)
               (AreCut-longer outs longer before last error
-              (go_all table file (content fs trace) bytes put more f is free) cut).begun) front;
+              (goes_on (content fs trace) f) cut).begun) front;
           others = later (λ old new. (n : List ℕ) → n ≢ file → new n ≡ old n)
               (goes_map before.written last.written
-              (λ old new same n other. same n (new_name table file head put n other))
+              (λ old after same n other. same n (new n other))
               (others_stay outs before last cut.begun));
           cause = cause;
           held_stay = narrow;
@@ -276,29 +244,55 @@ module _ (held : Option Files) (trace file : List ℕ) (table : List Move) (byte
           print_faults = prints;
         }
 
+    -- some records were put, the file was cut, and only reads came then
+    pub gives_up : (put more : List TraceRecord) (before last now : Outside) (error : ShelfError)
+        (fault : MoveFault) → head_refusal head ≡ None → (reading_of bytes).0 ≡ put ++ more
+        → list_any (is_in_the_way table) put ≡ false
+        → AreCut (moved_so_far table file head put) before last error
+        → now.written ≡ last.written → HasMoveCause trace file before now fault
+        → Narrows before.held now.held → now.printed ≡ before.printed
+        → now.print_faults ≡ before.print_faults
+        → HasGivenUp held trace file table before now fault
+    gives_up put more before last now error fault plain is free =
+        gives_up_at (moved_so_far table file head put)
+        (λ all f. go_all table file all bytes put more f plain is free)
+        (new_name table file head put) before last now error fault
+
     cut_up : (before now : Outside) (error : ShelfError) (fault : MoveFault)
         → (cut : IsCutAt table file head (reading_of bytes).0 before now error)
         → HasMoveCause trace file before now fault → HasGivenUp held trace file table before now fault
     cut_up before now error fault cut cause =
-        gives_up cut.put cut.more before now now error fault cut.first cut.free cut.cut refl cause
+        gives_up cut.put cut.more before now now error fault cut.plain cut.first cut.free cut.cut
+        refl cause
         cut.cut.only.held cut.cut.only.printed cut.cut.only.print_faults
 
-    pub gave_up : (before now : Outside) (fault : MoveFault)
-        → EndsAt table file head (reading_of bytes).0 before now fault
+    -- its header is refused
+    away_up : (before now : Outside) (refusal : Refusal) → IsTurnedAway head before now refusal
+        → HasGivenUp held trace file table before now (faults.Refused refusal)
+    away_up before now refusal away =
+        gives_up_at [] (λ all f. tt) (λ n other. tt) before now now errors.NoMemory
+        (faults.Refused refusal) away.cut refl
+        (other_cause trace file table None [] before now (faults.Refused refusal)
+        (λ e. cc) (λ e. cc) away.cut)
+        away.cut.only.held away.cut.only.printed away.cut.only.print_faults
+
+    pub gave_up : (before now : Outside) (why : Refusal) (fault : MoveFault)
+        → EndsAt table file head (reading_of bytes).0 before now why fault
         → HasGivenUp held trace file table before now fault
-    gave_up before now (faults.Refused refusal) ends =
-        cut_up before now errors.NoMemory (faults.Refused refusal) ends.cut
-        (other_cause trace file table head ends.cut.put before now (faults.Refused refusal)
-        (λ e. cc) (λ e. cc) ends.cut.cut)
-    gave_up before now (faults.Occupied addr) ends =
+    gave_up before now why (faults.Refused refusal) (inr away) = away_up before now refusal away
+    gave_up before now why (faults.Refused refusal) (inl ends) =
+        cut_up before now errors.NoMemory (faults.Refused refusal) ends.1.cut
+        (other_cause trace file table head ends.1.cut.put before now (faults.Refused refusal)
+        (λ e. cc) (λ e. cc) ends.1.cut.cut)
+    gave_up before now why (faults.Occupied addr) ends =
         cut_up before now errors.NoMemory (faults.Occupied addr) ends.cut
         (other_cause trace file table head ends.cut.put before now (faults.Occupied addr)
         (λ e. cc) (λ e. cc) ends.cut.cut)
-    gave_up before now faults.ReadFault ends = absurd ends
-    gave_up before now faults.WriteFault ends =
+    gave_up before now why faults.ReadFault ends = absurd ends
+    gave_up before now why faults.WriteFault ends =
         cut_up before now errors.Failed faults.WriteFault ends
         (write_cause trace file table head ends.put before now ends.cut)
-    gave_up before now faults.NoMemory ends =
+    gave_up before now why faults.NoMemory ends =
         cut_up before now errors.NoMemory faults.NoMemory ends
         (other_cause trace file table head ends.put before now faults.NoMemory
         (λ e. cc) (λ e. cc) ends.cut)
@@ -311,7 +305,7 @@ module _ (held : Option Files) (trace file : List ℕ) (table : List Move) (byte
     gave_up_reading {T} m before mid now fault has only cause =
         let on = has.outputs in
         let seen = (reading_of bytes).0 in
-        gives_up seen [] before mid now errors.NoMemory (read_fault fault)
+        gives_up seen [] before mid now errors.NoMemory (read_fault fault) has.plain
         (sym (append-nil seen)) has.free
         (IsOutputs-cut m.files (moved_so_far table file head seen) before mid errors.NoMemory
         (λ e. cc) on)
@@ -327,6 +321,12 @@ module _ (held : Option Files) (trace file : List ℕ) (table : List Move) (byte
     refused_occupied before now addr occupied =
         occupied_by held trace file table bytes front before now addr occupied
 
+    refused_away : (before now : Outside) (refusal : Refusal)
+        → IsTurnedAway head before now refusal
+        → IsRefused held trace file table before now (faults.Refused refusal)
+    refused_away before now refusal away =
+        away_by held trace file table bytes front before now refusal away
+
 -- a trace that is refused, all of whose records were put
 pub refused_whole : (held : Option Files) (trace file : List ℕ) (table : List Move)
     (all : List ℕ) (refusal : Refusal) (before now : Outside)
@@ -337,23 +337,32 @@ pub refused_whole : (held : Option Files) (trace file : List ℕ) (table : List 
 refused_whole held trace file table all refusal before now whole is written = record {
   bytes = all;
   whole = whole;
-  refused = ap (λ (o : Option ℕ). option_map_or (λ addr. Some (faults.Occupied addr)) o
+  refused = plain_fault table all written.cut.plain
+      ∙ ap (λ (o : Option ℕ). option_map_or (λ addr. Some (faults.Occupied addr)) o
       (option_map faults.Refused (refusal_of any all)))
       (none_in_the_way table (reading_of all).0 written.free)
       ∙ ap (option_map faults.Refused) is;
-  written = subst (λ (l : List TraceRecord). AreWritten
+  written = subst (λ (l : List Output). AreWritten l before now)
+      (sym (plain_written table file all written.cut.plain))
+      (subst (λ (l : List TraceRecord). AreWritten
       (moved_so_far table file (version_and_header (reading_of all).1.progress) l) before now)
-      (sym (all_free (is_in_the_way table) (reading_of all).0 written.free)) written.written;
+      (sym (all_free (is_in_the_way table) (reading_of all).0 written.free)) written.written);
 }
 
 -- ---- a whole trace
 
-trace_head : (all : List TraceRecord) (p : Option ReadSoFar) (r : Result Ending TraceFault)
+trace_head : (all : List TraceRecord) (p : Option ReadSoFar) (r : Result TraceEnd TraceFault)
     (t : Trace) → trace_at all p r ≡ Some t → version_and_header p ≡ Some (t.version, t.header)
 trace_head all None (Ok e) t is = absurd cc
 trace_head all None (Err fault) t is = absurd cc
 trace_head all (Some p) (Err fault) t is = absurd cc
 trace_head all (Some p) (Ok e) t is = cc
+
+pub head_of_trace : (bytes : List ℕ) (t : Trace) → trace_of bytes ≡ Some t
+    → version_and_header (reading_of bytes).1.progress ≡ Some (t.version, t.header)
+head_of_trace bytes t is =
+    trace_head (reading_of bytes).0 (reading_of bytes).1.progress (ending_of (reading_of bytes).1) t
+    is
 
 one_touch : (table : List Move) (item : TraceRecord) (items : List TraceRecord)
     → is_in_the_way table item ≡ false → IsFree table (touches_in items)
@@ -374,7 +383,7 @@ free_touches table (item ∷ items) none =
     in
     one_touch table item items parts.0 (free_touches table items parts.1)
 
-touches_ended : (items : List TraceRecord) (e : Ending)
+touches_ended : (items : List TraceRecord) (e : TraceEnd)
     → touches_in (items ++ records.End e ∷ []) ≡ touches_in items
 touches_ended items e =
     filter_map-append touch_in items (records.End e ∷ []) ∙ append-nil (touches_in items)
@@ -386,13 +395,12 @@ pub file_of_whole : (table : List Move) (file bytes : List ℕ) (t : Trace)
     (reading_of bytes).0 ≡ moving table file t
 file_of_whole table file bytes t is =
     let all = trace-records bytes t is in
-    let head = trace_head (reading_of bytes).0 (reading_of bytes).1.progress
-    (ending_of (reading_of bytes).1) t is in
+    let head = head_of_trace bytes t is in
     (λ i. moved_so_far table file (head i) (all i))
-    ∙ ap (λ (l : List TraceRecord). one_file file (begun_with t.version t.header l))
+    ∙ ap (λ (l : List TraceRecord). one_file file (begun_with t.version (narrowed t.header) l))
     (map-append (moved_item table) t.items (records.End t.ending ∷ []))
     ∙ ap (one_file file)
-    (begun-all t.version t.header (moved_items table t.items) t.ending)
+    (begun-all t.version (narrowed t.header) (moved_items table t.items) t.ending)
 
 pub whole_copied : (held : Option Files) (trace file : List ℕ) (table : List Move) (m : Mover)
     (passed : Passed) (bytes : List ℕ) (items : List TraceRecord) (made : Moved)
@@ -418,6 +426,7 @@ whole_copied held trace file table m passed bytes items made before mid now whol
       trace = t;
       is = is;
       told = record {
+        unfiltered = sym (ap head_refusal (head_of_trace bytes t is)) ∙ has.plain;
         free = free_touches table items parts.0;
         accesses = accesses ∙ (trace-parts bytes t is).counted;
         moved = count ∙ has.moved
@@ -447,7 +456,16 @@ module _ (held : Option Files) (trace file : List ℕ) (table : List Move) (byte
         → StopsAt table file (version_and_header (reading_of bytes).1.progress)
         (reading_of bytes).0 before now fault
         → Gave held trace file table before now fault
-    gave_stopped (faults.Refused refusal) stops = absurd stops
+    gave_stopped (faults.Refused refusal) stops = record {
+      refused = λ other e.
+          let same : refusal ≡ other = cc in
+          subst (λ (r : Refusal). IsRefused held trace file table before now (faults.Refused r)) same
+          (refused_away held trace file table bytes front before now refusal stops);
+      occupied = λ addr e. absurd cc;
+      memory = λ e. let filtered = only_filtered
+          (version_and_header (reading_of bytes).1.progress) refusal stops.refused in cc;
+      given_up = away_up held trace file table bytes front before now refusal stops;
+    }
     gave_stopped faults.ReadFault stops = absurd stops
     gave_stopped (faults.Occupied addr) stops = record {
       refused = λ refusal e. absurd cc;
@@ -456,19 +474,22 @@ module _ (held : Option Files) (trace file : List ℕ) (table : List Move) (byte
           subst (λ (n : ℕ). IsRefused held trace file table before now (faults.Occupied n)) same
           (refused_occupied held trace file table bytes front before now addr stops);
       memory = λ e. cc;
-      given_up = gave_up held trace file table bytes front before now (faults.Occupied addr) stops;
+      given_up = gave_up held trace file table bytes front before now refusals.Filtered
+          (faults.Occupied addr) stops;
     }
     gave_stopped faults.WriteFault stops = record {
       refused = λ refusal e. absurd cc;
       occupied = λ addr e. absurd cc;
       memory = λ e. cc;
-      given_up = gave_up held trace file table bytes front before now faults.WriteFault stops;
+      given_up = gave_up held trace file table bytes front before now refusals.Filtered
+          faults.WriteFault stops;
     }
     gave_stopped faults.NoMemory stops = record {
       refused = λ refusal e. absurd cc;
       occupied = λ addr e. absurd cc;
       memory = λ e. cc;
-      given_up = gave_up held trace file table bytes front before now faults.NoMemory stops;
+      given_up = gave_up held trace file table bytes front before now refusals.Filtered
+          faults.NoMemory stops;
     }
 
     -- within one that reads
@@ -506,41 +527,43 @@ module _ (held : Option Files) (trace file : List ℕ) (table : List Move) (all 
         (record { within = omega arith; same = sym (take_all (length all) all (omega arith)) })) whole
 
     pub gave_refused : (fault : MoveFault)
-        → ((r : Refusal) → fault ≡ faults.Refused r → r ≡ refusal)
         → EndsAt table file (version_and_header (reading_of all).1.progress) (reading_of all).0
-        before now fault
+        before now refusal fault
         → Gave held trace file table before now fault
-    gave_refused (faults.Refused r) same ends =
-        let so : r ≡ refusal = same r refl in
+    gave_refused (faults.Refused r) (inr away) =
+        gave_stopped held trace file table all front_of_all before now (faults.Refused r) away
+    gave_refused (faults.Refused r) (inl ends) =
         record {
           refused = λ r' e.
-              let also : r' ≡ refusal = same r' e in
+              let also : r' ≡ r = cc in
               subst (λ (x : Refusal). IsRefused held trace file table before now (faults.Refused x))
-              (sym also)
-              (refused_whole held trace file table all refusal before now whole is ends);
+              (sym (also ∙ ends.0))
+              (refused_whole held trace file table all refusal before now whole is ends.1);
           occupied = λ addr e. absurd cc;
-          memory = λ e. other (sym (same (refusals.Trace trace_faults.NoMemory) e));
-          given_up = gave_up held trace file table all front_of_all before now (faults.Refused r)
-              ends;
+          memory = λ e.
+              let also : r ≡ refusals.Trace trace_faults.NoMemory = cc in other (sym ends.0 ∙ also);
+          given_up = gave_up held trace file table all front_of_all before now refusal
+              (faults.Refused r) (inl ends);
         }
-    gave_refused (faults.Occupied addr) same ends =
+    gave_refused (faults.Occupied addr) ends =
         gave_stopped held trace file table all front_of_all before now (faults.Occupied addr) ends
-    gave_refused faults.ReadFault same ends = absurd ends
-    gave_refused faults.WriteFault same ends =
+    gave_refused faults.ReadFault ends = absurd ends
+    gave_refused faults.WriteFault ends =
         gave_stopped held trace file table all front_of_all before now faults.WriteFault ends
-    gave_refused faults.NoMemory same ends =
+    gave_refused faults.NoMemory ends =
         gave_stopped held trace file table all front_of_all before now faults.NoMemory ends
 
-of_ending : (r : Result Ending TraceFault) (refusal : Refusal)
+of_ending : (r : Result TraceEnd TraceFault) (refusal : Refusal)
     → trace_refusal r ≡ Some refusal → (fault : TraceFault) × (refusal ≡ refusals.Trace fault)
 of_ending (Ok e) refusal is = absurd cc
 of_ending (Err fault) refusal is = (fault, cc)
 
-fault_in : (p : Option ReadSoFar) (r : Result Ending TraceFault) (refusal : Refusal)
+fault_in : (p : Option ReadSoFar) (r : Result TraceEnd TraceFault) (refusal : Refusal)
     → option_or (header_refusal any (head_of p)) (trace_refusal r) ≡ Some refusal
     → (fault : TraceFault) × (refusal ≡ refusals.Trace fault)
-fault_in None r refusal is = of_ending r refusal is
-fault_in (Some p) r refusal is = of_ending r refusal is
+fault_in p r refusal is =
+    of_ending r refusal
+    (sym (ap (λ (o : Option Refusal). option_or o (trace_refusal r)) (any_header (head_of p))) ∙ is)
 
 -- any trace that is refused has a fault
 pub is_trace_fault : (bytes : List ℕ) (refusal : Refusal) → refusal_of any bytes ≡ Some refusal

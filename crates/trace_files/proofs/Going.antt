@@ -13,7 +13,7 @@ use Rattle.shelf.specs.Laws.Told.{narrows_same, narrows_then, told_still}
 use Rattle.trace_format.specs.declared.record.TraceRecord.{TraceRecord}
 use Rattle.trace_format.specs.Reading.{read_on, reading_of}
 use Rattle.trace_passes.specs.Cursors.{GoesOn, HasCome, Reached}
-use Rattle.trace_files.specs.Copies.{any}
+use Rattle.trace_files.specs.Copies.{unfiltered}
 use Rattle.trace_files.specs.Copying.{IsUnderWay}
 
 -- The first so many of some records came behind those before.
@@ -60,7 +60,7 @@ module _ {A : Type 0} (waiting : A → List Waiting) (files : A → List TraceRe
 
 -- What was read stands as long as its file is told.
 come_still : (o n : Option Files) (name bytes : List ℕ) (cursor : Reached) → Narrows o n
-    → HasCome o name any bytes cursor → HasCome n name any bytes cursor
+    → HasCome o name unfiltered bytes cursor → HasCome n name unfiltered bytes cursor
 come_still o n name bytes cursor narrow come = record {
   size = come.size;
   room = come.room;
@@ -75,7 +75,7 @@ pub record IsAt {A : Type 0} (waiting : A → List Waiting)
     (cursor : Reached)
     (old new : Outside) : Type 0 where
   pub bytes : List ℕ
-  pub come : HasCome new.held name any bytes cursor
+  pub come : HasCome new.held name unfiltered bytes cursor
   pub front : HasReadFront name bytes old.given new.given
   pub narrow : Narrows old.held new.held
   pub files_stay : files now ≡ files first
@@ -92,7 +92,7 @@ module _ {A : Type 0} (waiting : A → List Waiting) (files : A → List TraceRe
     nothing_read = refl
 
     pub at_first : (target : A) (cursor : Reached) (old : Outside)
-        → HasCome old.held name any [] cursor → has target []
+        → HasCome old.held name unfiltered [] cursor → has target []
         → IsAt waiting files has name target target cursor old old
     at_first target cursor old come none = record {
       bytes = [];
@@ -126,7 +126,7 @@ module _ {A : Type 0} (waiting : A → List Waiting) (files : A → List TraceRe
     pub at_next : (first now later : A) (cursor next : Reached) (old mid read new : Outside)
         → (at : IsAt waiting files has name first now cursor old mid)
         → HasRead mid read
-        → (on : GoesOn mid read name any at.bytes next)
+        → (on : GoesOn mid read name unfiltered at.bytes next)
         → files later ≡ files now
         → ((seen : List TraceRecord) → has now seen → has later (seen ++ next.items))
         → ((seen : List TraceRecord) (b : Outside) → has now seen

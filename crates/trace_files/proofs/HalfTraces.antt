@@ -1,14 +1,18 @@
 -- The halves of a trace are traces.
-use Rattle.std.proofs.Common.{◌≡◌, ℕ, ◌+◌, ◌-◌, ◌≤◌, List, ◌++◌, length, refl, sym, ap}
+use Rattle.std.proofs.Common.{◌≡◌, ◌≢◌, ℕ, ◌+◌, ◌-◌, ◌≤◌, None, List, ◌++◌, length, refl, sym, ap}
 use Rattle.std.proofs.Common.{◌∙◌, arith, subst}
 use Rattle.std.proofs.Math.Seq.{drop-append_seam, take-append_seam}
 use Rattle.std.proofs.lemmas.List.{length-drop, length-take-le}
 use Rattle.std.proofs.lemmas.List.Elements.{All-drop, All-same, All-take}
 use Rattle.std.specs.List.{All}
 use Rattle.std.specs.Prelude.{min}
-use Rattle.base.specs.declared.ending.Ending.{Ending}
+use Rattle.trace_format.specs.declared.record.TraceEnd.{TraceEnd}
 use Rattle.base.specs.declared.ending.Outcome.TheVariants.{Part}
-use Rattle.trace_format.specs.Rules.{IsGoodRecord, IsGoodTrace, IsInner, IsTrace, longest_trace}
+use Rattle.trace_format.specs.Rules.{HasRegions, IsGoodRecord, IsGoodTrace, IsGoodWhole, IsInner}
+use Rattle.trace_format.specs.Rules.{IsTrace, longest_trace}
+use Rattle.trace_format.specs.declared.record.Header.{Header}
+use Rattle.trace_format.specs.declared.record.Version.{Version}
+use Rattle.trace_format.specs.declared.record.Version.TheVariants.{One, Two, Three, Four}
 use Rattle.trace_format.specs.Rules.{touches_in}
 use Rattle.trace_format.specs.Spelling.{spell}
 use Rattle.trace_format.specs.Splits.{IsCutInTwo, begin_split, halves_of}
@@ -27,6 +31,20 @@ all_of_second : {X : Type 0} (P : X → Type 0) (xs ys : List X) → All P (xs +
 all_of_second P xs ys all =
     subst (All P) (drop-append_seam xs ys) (All-drop P (length xs) (xs ++ ys) all)
 
+-- a trace that isn't filtered doesn't say how many accesses there were before
+no_whole : (v : Version) (accesses : ℕ) → v ≢ Four → IsGoodWhole v accesses None
+no_whole One accesses plain = refl
+no_whole Two accesses plain = refl
+no_whole Three accesses plain = refl
+no_whole Four accesses plain = absurd (plain refl)
+
+same_regions : (v : Version) (h other : Header) → v ≢ Four → other.near ≡ h.near → HasRegions v h
+    → HasRegions v other
+same_regions One h other plain same regions = same ∙ regions
+same_regions Two h other plain same regions = same ∙ regions
+same_regions Three h other plain same regions = same ∙ regions
+same_regions Four h other plain same regions = absurd (plain refl)
+
 -- good parts are a trace
 pub is_whole : (t : Trace) → IsGoodTrace t.version t.header t.items t.ending → IsWhole t
 is_whole t good =
@@ -37,7 +55,8 @@ is_whole t good =
       read = trace-spelled (spell_trace t) t.version t.header t.items t.ending is;
     }
 
-module _ (at : ℕ) (t : Trace) (good : IsGoodTrace t.version t.header t.items t.ending)
+module _ (at : ℕ) (t : Trace) (plain : t.version ≢ Four)
+    (good : IsGoodTrace t.version t.header t.items t.ending)
     (two : IsCutInTwo (begin_split t.header t.ending.accesses at).cut t.items
     (halves_of (begin_split t.header t.ending.accesses at).cut (all_records t)))
   where
@@ -80,6 +99,7 @@ module _ (at : ℕ) (t : Trace) (good : IsGoodTrace t.version t.header t.items t
         (first_half at t).ending t.ending in
         record {
           header = good.header;
+          regions = good.regions;
           records = all_of_first (IsGoodRecord t.version t.header.harts) before behind whole_good;
           inner = all_of_first IsInner before behind whole_inner;
           ending = record {
@@ -87,6 +107,7 @@ module _ (at : ℕ) (t : Trace) (good : IsGoodTrace t.version t.header t.items t
             outcome = tt;
             steps = omega arith;
             accesses = omega (arith, good.ending.accesses);
+            whole = no_whole t.version _ plain;
           };
           positions = omega (arith, good.positions, first_count, cut_within);
           counted = sym first_count;
@@ -106,6 +127,7 @@ module _ (at : ℕ) (t : Trace) (good : IsGoodTrace t.version t.header t.items t
             some = good.header.some;
             few = good.header.few;
           };
+          regions = same_regions t.version t.header _ plain refl good.regions;
           records = goods;
           inner = all_of_second IsInner before behind whole_inner;
           ending = record {
@@ -113,6 +135,7 @@ module _ (at : ℕ) (t : Trace) (good : IsGoodTrace t.version t.header t.items t
             outcome = good.ending.outcome;
             steps = good.ending.steps;
             accesses = omega (arith, good.ending.accesses);
+            whole = no_whole t.version _ plain;
           };
           positions = omega (arith, good.positions, good.counted, second_count, cut_within);
           counted = sym second_count;
@@ -129,7 +152,12 @@ module _ (at : ℕ) (t : Trace) (good : IsGoodTrace t.version t.header t.items t
       begins = refl;
       goes_on = ap (λ (n : ℕ). t.header.first + n) (sym first_count);
       part =
-          ap (λ (n : ℕ). let e : Ending = record { outcome = Part; steps = 0; accesses = n } in e)
+          ap (λ (n : ℕ). let e : TraceEnd = record {
+            outcome = Part;
+            steps = 0;
+            accesses = n;
+            whole = None;
+          } in e)
           (sym first_count);
-      ending = ap (λ (n : ℕ). record t.ending { accesses = n }) (sym second_count);
+      ending = ap (λ (n : ℕ). record t.ending { accesses = n; whole = None }) (sym second_count);
     }

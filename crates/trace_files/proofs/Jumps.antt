@@ -17,7 +17,7 @@ use Rattle.trace_format.specs.declared.before.Before.{Before}
 use Rattle.trace_format.specs.declared.record.TraceRecord.{TraceRecord}
 use Rattle.trace_format.specs.declared.record.TraceRecord.TheVariants as records
 use Rattle.trace_format.specs.declared.record.Version.{Version}
-use Rattle.trace_format.specs.declared.record.Version.TheVariants.{One, Two, Three}
+use Rattle.trace_format.specs.declared.record.Version.TheVariants.{One, Two, Three, Four}
 use Rattle.trace_files.proofs.Distances.{groups_through}
 
 -- how many bytes records take behind others
@@ -37,18 +37,21 @@ abbrev pub address_cost : Version → ℕ → ℕ → ℕ
 address_cost One a b = 0
 address_cost Two a b = 1 + length (groups (distance a b))
 address_cost Three a b = 1 + length (groups (distance a b))
+address_cost Four a b = 1 + length (groups (distance a b))
 
 -- and its pc, by that of the hart's access before
 abbrev pub pc_cost : Version → ℕ → ℕ → ℕ
 pc_cost One a b = 0
 pc_cost Two a b = 0
 pc_cost Three a b = 1 + length (groups (distance a b))
+pc_cost Four a b = 1 + length (groups (distance a b))
 
 -- what is left of it
 abbrev pub rest_size : Version → ℕ
 rest_size One = 8
 rest_size Two = 1
 rest_size Three = 0
+rest_size Four = 0
 
 pub touch_size : (v : Version) (before : Before) (t : Touch) (pc : Option ℕ)
     → length (spell_touch v before t pc)
@@ -61,6 +64,10 @@ touch_size Three before t pc =
     let all = length-append (spell_short_touch before.last t)
     (groups (distance (pc_before before t.hart) (pc_or_zero pc))) in
     omega (arith, all)
+touch_size Four before t pc =
+    let all = length-append (spell_short_touch before.last t)
+    (groups (distance (pc_before before t.hart) (pc_or_zero pc))) in
+    omega (arith, all)
 
 address_through : (v : Version) (a b c : ℕ) → a < 2 ^ 32 → b < 2 ^ 32 → c < 2 ^ 32
     → address_cost v a c ≤ address_cost v a b + address_cost v b c
@@ -69,12 +76,15 @@ address_through Two a b c low_a low_b low_c =
     omega (arith, groups_through a b c low_a low_b low_c)
 address_through Three a b c low_a low_b low_c =
     omega (arith, groups_through a b c low_a low_b low_c)
+address_through Four a b c low_a low_b low_c =
+    omega (arith, groups_through a b c low_a low_b low_c)
 
 pc_through : (v : Version) (a b c : ℕ) → a < 2 ^ 32 → b < 2 ^ 32 → c < 2 ^ 32
     → pc_cost v a c ≤ pc_cost v a b + pc_cost v b c
 pc_through One a b c low_a low_b low_c = omega arith
 pc_through Two a b c low_a low_b low_c = omega arith
 pc_through Three a b c low_a low_b low_c = omega (arith, groups_through a b c low_a low_b low_c)
+pc_through Four a b c low_a low_b low_c = omega (arith, groups_through a b c low_a low_b low_c)
 
 -- ---- behind another address
 

@@ -28,7 +28,7 @@ header_long : length (spell_header One made_header) ≡ 20
 unfolding spell_header
 header_long = refl
 
-ending_long : (count : ℕ) → length (spell_ending (made count).ending) ≡ 25
+ending_long : (count : ℕ) → length (spell_ending One (made count).ending) ≡ 25
 unfolding spell_ending
 ending_long count = refl
 
@@ -60,7 +60,7 @@ items_long count =
 whole_long : (count : ℕ) → length (spell_trace (made count)) ≡ 45 + 8 * count
 whole_long count =
     let head = spell_header One made_header in
-    let end = spell_ending (made count).ending in
+    let end = spell_ending One (made count).ending in
     let items = spell_records One nothing_before (made_items count) in
     let all : length (spell_trace (made count)) ≡ length ((head ++ items) ++ end) =
     ap length (sym (begun-ended One made_header (made_items count) (made count).ending)) in
@@ -70,18 +70,20 @@ whole_long count =
 
 -- ---- the rules
 
-ending_good : (count : ℕ) → count ≤ 10 ^ 9 → IsGoodEnding 8 (made count).ending
+ending_good : (count : ℕ) → count ≤ 10 ^ 9 → IsGoodEnding One 8 (made count).ending
 ending_good count few = record {
   allowed = tt;
   outcome = omega arith;
   steps = omega (arith, few);
   accesses = omega (arith, few);
+  whole = refl;
 }
 
 pub made_good : (count : ℕ) → count ≤ 10 ^ 9 → IsGoodTrace (made count).version (made count).header
     (made count).items (made count).ending
 made_good count few = record {
   header = record { position = omega arith; some = omega arith; few = omega arith };
+  regions = refl;
   records = items_good count;
   inner = items_inner count;
   ending = ending_good count few;

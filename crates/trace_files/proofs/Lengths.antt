@@ -4,10 +4,7 @@ use Rattle.std.proofs.Common.{◌∙◌, arith, append_assoc}
 use Rattle.std.proofs.lemmas.List.{length-append}
 use Rattle.std.proofs.lemmas.List.Elements.{All-head, All-tail}
 use Rattle.std.specs.List.{All}
-use Rattle.base.specs.declared.ending.Ending.{Ending}
-use Rattle.base.specs.declared.ending.Outcome.{Outcome}
-use Rattle.base.specs.declared.ending.Outcome.TheVariants.{Exit, Budget, Deadlock, Trap}
-use Rattle.base.specs.declared.ending.Outcome.TheVariants.{Part}
+use Rattle.trace_format.specs.declared.record.TraceEnd.{TraceEnd}
 use Rattle.trace_format.specs.Laws.Before.{after_good, nothing_good, pc_low}
 use Rattle.trace_format.specs.Rules.{IsGoodBefore, IsGoodRecord}
 use Rattle.trace_format.specs.Spelling.{before_after, nothing_before, pc_or_zero, spell}
@@ -18,7 +15,9 @@ use Rattle.trace_format.specs.declared.record.Header.{Header}
 use Rattle.trace_format.specs.declared.record.TraceRecord.{TraceRecord}
 use Rattle.trace_format.specs.declared.record.TraceRecord.TheVariants as records
 use Rattle.trace_format.specs.declared.record.Version.{Version}
-use Rattle.trace_format.specs.declared.record.Version.TheVariants.{One, Two, Three}
+use Rattle.trace_format.specs.declared.record.Version.TheVariants.{One, Two, Three, Four}
+use Rattle.trace_format.specs.Judging.{end_extent}
+use Rattle.trace_format.specs.Laws.Ends.{ending_length}
 use Rattle.trace_files.proofs.Jumps.{jump, one_more, size, touch_size, turn}
 
 -- ---- how long a trace is
@@ -28,25 +27,17 @@ unfolding spell_header
 header_length One h = refl
 header_length Two h = refl
 header_length Three h = refl
+header_length Four h = refl
 
-outcome_length : (o : Outcome) (steps accesses : ℕ)
-    → length (spell_ending (record { outcome = o; steps = steps; accesses = accesses })) ≡ 25
-unfolding spell_ending
-outcome_length (Exit code) steps accesses = refl
-outcome_length Budget steps accesses = refl
-outcome_length Deadlock steps accesses = refl
-outcome_length (Trap hart pc cause) steps accesses = refl
-outcome_length Part steps accesses = refl
-
-spelled_size : (v : Version) (h : Header) (items : List TraceRecord) (e : Ending)
-    → length (spell v h items e) ≡ size v nothing_before items + 45
+spelled_size : (v : Version) (h : Header) (items : List TraceRecord) (e : TraceEnd)
+    → length (spell v h items e) ≡ size v nothing_before items + (20 + end_extent v)
 unfolding spell
 spelled_size v h items e =
     let head = header_length v h in
-    let end : length (spell_ending e) ≡ 25 = outcome_length e.outcome e.steps e.accesses in
+    let end = ending_length v e.outcome e.steps e.accesses e.whole in
     let records = spell_records v nothing_before items in
-    let tail = length-append records (spell_ending e) in
-    let all = length-append (spell_header v h) (records ++ spell_ending e) in
+    let tail = length-append records (spell_ending v e) in
+    let all = length-append (spell_header v h) (records ++ spell_ending v e) in
     omega (arith, head, end, tail, all)
 
 -- ---- two lists of records
@@ -113,7 +104,7 @@ alone v harts before (records.End e ∷ xs) ys low good goods =
 
 -- ---- the halves
 
-pub first_short : (v : Version) (h g : Header) (xs ys : List TraceRecord) (e f : Ending)
+pub first_short : (v : Version) (h g : Header) (xs ys : List TraceRecord) (e f : TraceEnd)
     → length (spell v h xs e) ≤ length (spell v g (xs ++ ys) f)
 first_short v h g xs ys e f =
     let one = spelled_size v h xs e in
@@ -122,7 +113,7 @@ first_short v h g xs ys e f =
     omega arith
 
 pub second_short : (v : Version) (harts : ℕ) (h g : Header) (xs ys : List TraceRecord)
-    (e f : Ending) → All (IsGoodRecord v harts) xs → All (IsGoodRecord v harts) ys
+    (e f : TraceEnd) → All (IsGoodRecord v harts) xs → All (IsGoodRecord v harts) ys
     → length (spell v h ys e) ≤ length (spell v g (xs ++ ys) f)
 second_short v harts h g xs ys e f good goods =
     let one = spelled_size v h ys e in

@@ -9,6 +9,7 @@ pub mod Endings
 pub mod GivingUp
 pub mod Going
 pub mod HalfTraces
+pub mod Headed
 pub mod Items
 pub mod Jumps
 pub mod Kept

@@ -1,5 +1,5 @@
 -- A trace is moved whole where its list is free, and is a trace then.
-use Rattle.std.proofs.Common.{◌≡◌, ℕ, Bool, false, List, [], ◌∷◌, Option, Some, None}
+use Rattle.std.proofs.Common.{arith, ◌≡◌, ℕ, Bool, false, List, [], ◌∷◌, Option, Some, None}
 use Rattle.std.proofs.Common.{refl, sym, ap, ◌∙◌, option_map, find}
 use Rattle.std.specs.Prelude.{◌||◌, is_some}
 use Rattle.std.specs.List.{All, list_any}
@@ -11,20 +11,26 @@ use Rattle.trace_format.specs.declared.record.TraceRecord.{TraceRecord}
 use Rattle.trace_format.specs.declared.record.TraceRecord.TheVariants as records
 use Rattle.trace_format.specs.declared.record.Version.{Version}
 use Rattle.trace_format.specs.Reading.{reading_of}
+use Rattle.trace_format.specs.declared.record.Version.TheVariants.{One, Two, Three, Four}
+use Rattle.trace_format.specs.declared.record.Header.{Header}
+use Rattle.trace_format.specs.Rules.{HasRegions}
 use Rattle.trace_format.specs.Rules.{IsGoodRecord, IsInner, touches_in}
 use Rattle.trace_passes.specs.Cursors.{version_and_header}
 use Rattle.trace_passes.specs.Laws.Passes.{trace-records}
 use Rattle.trace_passes.specs.Passes.{Trace, refusal_of, trace_of}
 use Rattle.trace_passes.specs.declared.wanted.Refusal.{Refusal}
+use Rattle.trace_files.specs.declared.move_fault.MoveFault.{MoveFault}
 use Rattle.trace_files.specs.declared.move_fault.MoveFault.TheVariants as faults
 use Rattle.trace_files.specs.declared.move_row.Move.{Move}
-use Rattle.trace_files.specs.Copies.{any}
+use Rattle.trace_files.specs.Copies.{IsUnfiltered, any}
 use Rattle.trace_files.specs.Laws.Copies.{trace_found, trace_unrefused}
 use Rattle.trace_files.specs.Moves.{IsFree, is_taken, moved_in, moved_list}
+use Rattle.trace_files.specs.Moving.{fault_behind, head_refusal, narrowed}
 use Rattle.trace_files.specs.Moving.{addr_of, fault_of, first_in_the_way, is_in_the_way}
 use Rattle.trace_files.specs.Moving.{moved_item, moved_items, moved_so_far, moving, written_of}
 use Rattle.trace_files.specs.Tables.{IsTable}
-use Rattle.trace_files.proofs.GivingUp.{file_of_whole, free_touches}
+use Rattle.trace_files.proofs.GivingUp.{file_of_whole, free_touches, head_of_trace}
+use Rattle.trace_files.proofs.Headed.{plain_fault, plain_written}
 use Rattle.trace_files.proofs.Lookups.{any_find}
 use Rattle.trace_files.proofs.MovedWords.{allowed_in}
 use Rattle.trace_files.proofs.Takings.{all_free, neither_passes, none_in_the_way}
@@ -66,9 +72,10 @@ none_in_trace table bytes t is free =
 
 -- a trace with a free list isn't refused,
 pub free_unrefused : (table : List Move) (bytes : List ℕ) (t : Trace) → trace_of bytes ≡ Some t
-    → IsFree table (touches_in t.items) → fault_of table bytes ≡ None
-free_unrefused table bytes t is free =
-    ap (λ (o : Option ℕ). option_map_or (λ addr. Some (faults.Occupied addr)) o
+    → IsUnfiltered t → IsFree table (touches_in t.items) → fault_of table bytes ≡ None
+free_unrefused table bytes t is unfiltered free =
+    plain_fault table bytes (ap head_refusal (head_of_trace bytes t is) ∙ unfiltered)
+    ∙ ap (λ (o : Option ℕ). option_map_or (λ addr. Some (faults.Occupied addr)) o
     (option_map faults.Refused (refusal_of any bytes)))
     (none_in_the_way table (reading_of bytes).0 (none_in_trace table bytes t is free))
     ∙ ap (option_map faults.Refused) (trace_unrefused bytes t is)
@@ -80,12 +87,34 @@ neither_fault None None is = (refl, refl)
 neither_fault None (Some r) is = absurd cc
 neither_fault (Some n) r is = absurd cc
 
+no_head : (head : Option Refusal) (behind : Option MoveFault)
+    → option_map_or (λ r. Some (faults.Refused r)) head behind ≡ None
+    → (head ≡ None) × (behind ≡ None)
+no_head None behind is = (refl, is)
+no_head (Some r) behind is = absurd cc
+
+-- its header isn't refused, and its records aren't
+unrefused_parts : (table : List Move) (bytes : List ℕ) → fault_of table bytes ≡ None
+    → (head_refusal (version_and_header (reading_of bytes).1.progress) ≡ None)
+    × ((first_in_the_way table (reading_of bytes).0 ≡ None) × (refusal_of any bytes ≡ None))
+unrefused_parts table bytes none =
+    let both = no_head (head_refusal (version_and_header (reading_of bytes).1.progress))
+    (fault_behind table bytes) none in (
+      both.0,
+      neither_fault (first_in_the_way table (reading_of bytes).0) (refusal_of any bytes) both.1,
+    )
+
+-- so that it isn't filtered,
+pub unrefused_plain : (table : List Move) (bytes : List ℕ) (t : Trace) → trace_of bytes ≡ Some t
+    → fault_of table bytes ≡ None → IsUnfiltered t
+unrefused_plain table bytes t is none =
+    sym (ap head_refusal (head_of_trace bytes t is)) ∙ (unrefused_parts table bytes none).0
+
 -- and what isn't refused is a trace,
 pub unrefused_found : (table : List Move) (bytes : List ℕ) → fault_of table bytes ≡ None
     → (t : Trace) × (trace_of bytes ≡ Some t)
 unrefused_found table bytes none =
-    trace_found bytes
-    (neither_fault (first_in_the_way table (reading_of bytes).0) (refusal_of any bytes) none).1
+    trace_found bytes (unrefused_parts table bytes none).1.1
 
 none_some : (o : Option TraceRecord) → option_map addr_of o ≡ None → is_some o ≡ false
 none_some None is = refl
@@ -102,8 +131,7 @@ pub unrefused_free : (table : List Move) (bytes : List ℕ) (t : Trace) → trac
 unrefused_free table bytes t is none =
     let all = (reading_of bytes).0 in
     let passes = is_in_the_way table in
-    let free = none_any table all
-    (neither_fault (first_in_the_way table all) (refusal_of any bytes) none).0 in
+    let free = none_any table all (unrefused_parts table bytes none).1.0 in
     let split = sym (list_any-append passes t.items (records.End t.ending ∷ []))
     ∙ sym (ap (list_any passes) (trace-records bytes t is)) ∙ free in
     free_touches table t.items
@@ -116,9 +144,9 @@ pub unrefused_whole : (table : List Move) (file bytes : List ℕ) (t : Trace)
 unrefused_whole table file bytes t is none =
     let all = (reading_of bytes).0 in
     let head = version_and_header (reading_of bytes).1.progress in
-    let free = none_any table all
-    (neither_fault (first_in_the_way table all) (refusal_of any bytes) none).0 in
-    ap (moved_so_far table file head) (all_free (is_in_the_way table) all free)
+    let free = none_any table all (unrefused_parts table bytes none).1.0 in
+    plain_written table file bytes (unrefused_parts table bytes none).0
+    ∙ ap (moved_so_far table file head) (all_free (is_in_the_way table) all free)
     ∙ file_of_whole table file bytes t is
 
 -- ---- the moved trace
@@ -155,6 +183,15 @@ pub all_inner_moved : (table : List Move) (items : List TraceRecord) → All IsI
 all_inner_moved table items inner =
     All-map IsInner (moved_item table) items
     (All-weaker IsInner (λ item. IsInner (moved_item table item)) (inner_moved table) items inner)
+
+pub narrowed_regions : (v : Version) (h : Header) → HasRegions v h → HasRegions v (narrowed h)
+narrowed_regions One h regions = omega (arith, regions)
+narrowed_regions Two h regions = omega (arith, regions)
+narrowed_regions Three h regions = omega (arith, regions)
+narrowed_regions Four h regions = (
+  regions.0,
+  (omega (arith, regions.1.0), omega (arith, regions.1.1)),
+)
 
 -- its accesses are the moved ones
 pub moved_touches : (table : List Move) (items : List TraceRecord)

@@ -22,10 +22,12 @@ use Rattle.trace_format.specs.Spelling.{before_after, nothing_before, spell_reco
 use Rattle.trace_format.specs.Writing.{Writing, before_behind, begin_writing, begun_with}
 use Rattle.trace_format.specs.Laws.Touches.{touches-push}
 use Rattle.trace_format.specs.Laws.Writing.{begun-more, writer-more}
+use Rattle.trace_passes.specs.Passes.{near_refusal}
 use Rattle.trace_files.specs.declared.move_row.Move.{Move}
 use Rattle.trace_files.specs.declared.mover.Mover.{Mover}
 use Rattle.trace_files.specs.Movers.{HasMoved, MayPut}
 use Rattle.trace_files.specs.Moves.{count_moved, is_moved}
+use Rattle.trace_files.specs.Moving.{narrowed}
 use Rattle.trace_files.specs.Moving.{is_in_the_way, moved_item, moved_items, moved_so_far}
 use Rattle.trace_files.proofs.Begun.{as_many}
 
@@ -65,9 +67,9 @@ module _ (table : List Move) (name : List ℕ) (m : Mover) (head : Version × He
     put_on item =
         (λ i. outputs_with (moved_so_far table name (Some head) seen) 0
         (spell_record (has.writer i).version (has.writer i).before (moved_item table item)))
-        ∙ ap (one_file name) (begun-more head.0 head.1 (moved_items table seen)
+        ∙ ap (one_file name) (begun-more head.0 (narrowed head.1) (moved_items table seen)
         (moved_item table item)
-        ∙ ap (begun_with head.0 head.1) (sym (moved_more table seen item)))
+        ∙ ap (begun_with head.0 (narrowed head.1)) (sym (moved_more table seen item)))
 
     pub one_file_there : length m.files ≡ 1
     one_file_there =
@@ -90,6 +92,7 @@ module _ (table : List Move) (name : List ℕ) (m : Mover) (head : Version × He
       named = ap (λ v. v.now) named ∙ has.named;
       outputs = subst (λ (l : List Output). IsOutputs n.files l before new) (put_on item) outputs;
       begun = begun ∙ has.begun;
+      plain = has.plain;
       writer = next
           ∙ writer-more head.0 m.writer (moved_items table seen) (moved_item table item) has.writer
           ∙ ap (λ (l : List TraceRecord). let w : Writing = record
@@ -131,6 +134,7 @@ nothing_moved table m outside begun moved outputs = record {
   named = refl;
   outputs = outputs;
   begun = begun;
+  plain = refl;
   writer = tt;
   free = refl;
   moved = moved;
@@ -154,12 +158,14 @@ module _ (table : List Move) (name : List ℕ) (m : Mover) (before old : Outside
 
     pub has_begun : (v : Version) (h : Header) (n : Mover) (new : Outside) → n.name ≡ m.name
         → n.begun ≡ true → n.moved ≡ m.moved → n.writer ≡ begin_writing v
-        → IsOutputs n.files (one_file name (begun_with v h [])) before new
+        → IsOutputs n.files (one_file name (begun_with v (narrowed h) [])) before new
+        → near_refusal None h.near ≡ None
         → HasMoved table name n (Some (v, h)) [] before new
-    has_begun v h n new named begun moved writer outputs = record {
+    has_begun v h n new named begun moved writer outputs plain = record {
       named = ap (λ x. x.now) named ∙ has.named;
       outputs = outputs;
       begun = begun;
+      plain = plain;
       writer = writer;
       free = refl;
       moved = moved ∙ has.moved;

@@ -11,7 +11,7 @@ use Rattle.shelf.specs.OnTheirWay.{IsOutputs}
 use Rattle.shelf.specs.Laws.Agreeing.{shown_then}
 use Rattle.shelf.specs.Laws.Files.{IsOutputs-read}
 use Rattle.shelf.specs.Laws.Told.{only_none}
-use Rattle.base.specs.declared.ending.Ending.{Ending}
+use Rattle.trace_format.specs.declared.record.TraceEnd.{TraceEnd}
 use Rattle.trace_format.specs.declared.read_so_far.ReadSoFar.{ReadSoFar}
 use Rattle.trace_format.specs.declared.record.TraceRecord.{TraceRecord}
 use Rattle.trace_format.specs.Reading.{reading_of}
@@ -28,7 +28,7 @@ use Rattle.trace_passes.specs.Laws.Passes.{trace-records}
 use Rattle.trace_files.specs.declared.copy_fault.CopyFault.{CopyFault}
 use Rattle.trace_files.specs.declared.copy_fault.CopyFault.TheVariants.{Changed, ReadFault}
 use Rattle.trace_files.specs.declared.copy_fault.CopyFault.TheVariants.{NoMemory, Refused}
-use Rattle.trace_files.specs.Copies.{any}
+use Rattle.trace_files.specs.Copies.{unfiltered}
 use Rattle.trace_files.specs.Copying.{AreFirst, IsCopied, IsCutShort, first_fault, second_fault}
 use Rattle.trace_files.specs.Copying.{write_fault}
 use Rattle.trace_files.proofs.Going.{IsAt, at_next}
@@ -41,14 +41,14 @@ pub all_behind : {A : Type 0} (P : A → Type 0) (xs ys : List A) → All P (xs 
 all_behind P [] ys is = is
 all_behind P (x ∷ xs) ys is = all_behind P xs ys (All-tail P x (xs ++ ys) is)
 
-pub writable_in : (p : Option ReadSoFar) (e : Option Ending) (items : List TraceRecord)
+pub writable_in : (p : Option ReadSoFar) (e : Option TraceEnd) (items : List TraceRecord)
     → IsSoFar p e items → All IsWritable items
 writable_in None e items is = subst (All IsWritable) (sym is.0) (All-nil IsWritable)
 writable_in (Some p) None items is = is.0.writable
 writable_in (Some p) (Some e) items is = is.0.writable
 
 pub piece_writable : (old new : Outside) (name bytes : List ℕ) (next : Reached)
-    → GoesOn old new name any bytes next
+    → GoesOn old new name unfiltered bytes next
     → All IsWritable next.items
 piece_writable old new name bytes next on =
     let whole = reading_of (bytes ++ on.more) in
@@ -59,9 +59,9 @@ piece_writable old new name bytes next on =
 -- ---- what stands where it gives up, and at its end
 
 -- how the name's bytes are refused, by a call that reads
-pub refused_at : (held : Option Files) (name : List ℕ) (w : Wanted) → w ≡ any → (refusal : Refusal)
+pub refused_at : (held : Option Files) (name : List ℕ) (w : Wanted) → w ≡ unfiltered → (refusal : Refusal)
     → Told held (λ fs. refusal_of w (content fs name) ≡ Some refusal)
-    → Told held (λ fs. refusal_of any (content fs name) ≡ Some refusal)
+    → Told held (λ fs. refusal_of unfiltered (content fs name) ≡ Some refusal)
 refused_at held name w is refusal told =
     subst (λ (x : Wanted). Told held (λ fs. refusal_of x (content fs name) ≡ Some refusal)) is told
 
@@ -71,28 +71,28 @@ module _ {A : Type 0} (waiting : A → List Waiting) (files : A → List TraceRe
     (at : IsAt waiting files has name first now cursor old mid)
   where
     -- the cursor reads on from there
-    pub come_at : (w : Wanted) → w ≡ any → HasCome mid.held name w at.bytes cursor
+    pub come_at : (w : Wanted) → w ≡ unfiltered → HasCome mid.held name w at.bytes cursor
     come_at w is = subst (λ (x : Wanted). HasCome mid.held name x at.bytes cursor) (sym is) at.come
 
-    pub on_at : (w : Wanted) → w ≡ any → (next : Reached) (read : Outside)
+    pub on_at : (w : Wanted) → w ≡ unfiltered → (next : Reached) (read : Outside)
         → ((bytes : List ℕ) → HasCome mid.held name w bytes cursor
         → GoesOn mid read name w bytes next)
-        → GoesOn mid read name any at.bytes next
+        → GoesOn mid read name unfiltered at.bytes next
     on_at w is next read goes =
         subst (λ (x : Wanted). GoesOn mid read name x at.bytes next) is
         (goes at.bytes (come_at w is))
 
-    pub end_at : (w : Wanted) → w ≡ any → (passed : Passed) (read : Option Files)
+    pub end_at : (w : Wanted) → w ≡ unfiltered → (passed : Passed) (read : Option Files)
         → ((bytes : List ℕ) → HasCome mid.held name w bytes cursor
         → HasEnded read name w bytes passed)
-        → HasEnded read name any at.bytes passed
+        → HasEnded read name unfiltered at.bytes passed
     end_at w is passed read ends =
         subst (λ (x : Wanted). HasEnded read name x at.bytes passed) is
         (ends at.bytes (come_at w is))
 
     -- what the reads since then have given is such a trace
     pub shown_at : (passed : Passed) (read : Option Files) (given : List Given)
-        → HasEnded read name any at.bytes passed
+        → HasEnded read name unfiltered at.bytes passed
         → HasShown name (λ file. at.bytes ≡ file) old.given given
         → HasShown name (HasParts passed) old.given given
     shown_at passed read given ended shown =
@@ -100,7 +100,7 @@ module _ {A : Type 0} (waiting : A → List Waiting) (files : A → List TraceRe
         (λ file same. (ended.items, ap trace_of (sym same) ∙ ended.is)) shown
 
     pub ended_at : (passed : Passed) (new : Outside) → HasRead mid new
-        → HasEnded new.held name any at.bytes passed → (before : Outside)
+        → HasEnded new.held name unfiltered at.bytes passed → (before : Outside)
         → IsOutputs (waiting first) (files first []) before old
         → IsCopied new.held name passed (files first) (has now) (waiting now) before new
     ended_at passed new reads ended before began =
@@ -130,7 +130,7 @@ module _ {A : Type 0} (waiting : A → List Waiting) (files : A → List TraceRe
 
     -- after a piece was read, its records are put
     module _ (next : Reached) (read : Outside) (reads : HasRead mid read)
-        (on : GoesOn mid read name any at.bytes next)
+        (on : GoesOn mid read name unfiltered at.bytes next)
       where
         pub next_at : (later : A) (new : Outside) → files later ≡ files now
             → ((seen : List TraceRecord) → has now seen → has later (seen ++ next.items))

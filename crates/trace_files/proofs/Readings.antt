@@ -22,7 +22,7 @@ use Rattle.trace_passes.specs.Passes.{HasPassCause}
 use Rattle.trace_files.specs.declared.copy_fault.CopyFault.{CopyFault}
 use Rattle.trace_files.specs.declared.copy_fault.CopyFault.TheVariants.{Changed, ReadFault}
 use Rattle.trace_files.specs.declared.copy_fault.CopyFault.TheVariants.{WriteFault, NoMemory}
-use Rattle.trace_files.specs.Copies.{HasCopyCause, RoseAt, any}
+use Rattle.trace_files.specs.Copies.{HasCopyCause, RoseAt, unfiltered}
 use Rattle.trace_files.specs.Copying.{AreFirst, IsCutShort, second_fault, write_fault}
 
 -- ---- lists
@@ -61,7 +61,7 @@ front_first file bytes front =
     )
 
 pub first_read : (held : Option Files) (name bytes : List ℕ) (now : Reached)
-    → HasCome held name any bytes now
+    → HasCome held name unfiltered bytes now
     → AreFirst held name (reading_of bytes).0
 first_read held name bytes now come = told_map held
     (λ files front. front_first (content files name) bytes front) come.front

@@ -1,10 +1,10 @@
 -- A moved trace on its way, piece after piece, and what stands where it gives up.
 use Rattle.std.proofs.Common.{◌≡◌, ◌<◌, ◌^◌, ℕ, List, [], ◌∷◌, ◌++◌}
 use Rattle.std.proofs.Common.{length, Option, Some, None}
-use Rattle.std.proofs.Common.{refl, sym, ap, ◌∙◌, subst, arith, append-nil}
+use Rattle.std.proofs.Common.{refl, sym, ap, ◌∙◌, subst, arith, append-nil, inr}
 use Rattle.std.specs.List.{All}
 use Rattle.std.specs.Option.{IfSome}
-use Rattle.base.specs.declared.ending.Ending.{Ending}
+use Rattle.trace_format.specs.declared.record.TraceEnd.{TraceEnd}
 use Rattle.shelf.specs.Shelf.{Files, HasRead, Outside, Told, content}
 use Rattle.shelf.specs.Fetch.{IsFront}
 use Rattle.shelf.specs.declared.shelf.ShelfError.{ShelfError}
@@ -19,6 +19,7 @@ use Rattle.trace_format.specs.declared.record.Version.{Version}
 use Rattle.trace_format.specs.Laws.Counts.{IsSoFar, counted_so_far, few_accesses, so_far}
 use Rattle.trace_format.specs.Reading.{Reading, begin, read_on, reading_of}
 use Rattle.trace_format.specs.Rules.{IsGoodHeader, IsWritable, touches_in}
+use Rattle.trace_passes.specs.declared.wanted.Refusal.{Refusal}
 use Rattle.trace_passes.specs.Cursors.{HasCome, Reached}
 use Rattle.trace_passes.specs.Cursors.{version_and_header}
 use Rattle.trace_passes.specs.Laws.Passes.{HeadStays, head_of_front}
@@ -36,13 +37,13 @@ use Rattle.trace_files.proofs.Pieces.{all_behind, writable_in}
 
 pub ends_by : (table : List Move) (name : List ℕ) (head : Option (Version × Header))
     (all : List TraceRecord) (before now : Outside) (fault : MoveFault)
-    → StopsAt table name head all before now fault
-    → EndsAt table name head all before now fault
-ends_by table name head all before now (faults.Refused refusal) stops = absurd stops
-ends_by table name head all before now (faults.Occupied addr) stops = stops
-ends_by table name head all before now faults.ReadFault stops = stops
-ends_by table name head all before now faults.WriteFault stops = stops
-ends_by table name head all before now faults.NoMemory stops = stops
+    (why : Refusal) → StopsAt table name head all before now fault
+    → EndsAt table name head all before now why fault
+ends_by table name head all before now (faults.Refused refusal) why stops = inr stops
+ends_by table name head all before now (faults.Occupied addr) why stops = stops
+ends_by table name head all before now faults.ReadFault why stops = stops
+ends_by table name head all before now faults.WriteFault why stops = stops
+ends_by table name head all before now faults.NoMemory why stops = stops
 
 -- all that was put is cut, or written
 pub all_cut : (table : List Move) (name : List ℕ) (m : Mover) (head : Option (Version × Header))
@@ -51,6 +52,7 @@ pub all_cut : (table : List Move) (name : List ℕ) (m : Mover) (head : Option (
     → AreCut (moved_so_far table name head seen) before now error
     → IsCutAt table name head seen before now error
 all_cut table name m head seen before old now error has cut = record {
+  plain = has.plain;
   put = seen;
   more = [];
   free = has.free;
@@ -91,7 +93,7 @@ header_stays bytes more h is =
     (head_of_front bytes more)
 
 -- before a header is known there is no record
-no_record : (p : Option ReadSoFar) (e : Option Ending) (items : List TraceRecord)
+no_record : (p : Option ReadSoFar) (e : Option TraceEnd) (items : List TraceRecord)
     → IsSoFar p e items → version_and_header p ≡ None → items ≡ []
 no_record None e items is none = is.0
 no_record (Some p) e items is none = absurd cc
@@ -164,6 +166,7 @@ has_read table name m head seen before mid now read has = record {
   outputs = IsOutputs-read m.files (moved_so_far table name head seen) before mid now read
       has.outputs;
   begun = has.begun;
+  plain = has.plain;
   writer = has.writer;
   free = has.free;
   moved = has.moved;

@@ -1,5 +1,5 @@
 -- The halves of a trace on their way to the files that they would be.
-use Rattle.std.proofs.Common.{◌≡◌, ℕ, ◌+◌, ◌-◌, ◌≤◌, List, [], ◌∷◌, ◌++◌, length, Option, Some}
+use Rattle.std.proofs.Common.{None, ◌≡◌, ℕ, ◌+◌, ◌-◌, ◌≤◌, List, [], ◌∷◌, ◌++◌, length, Option, Some}
 use Rattle.std.proofs.Common.{refl, sym, ap, ◌∙◌, subst}
 use Rattle.std.proofs.Common.{append_assoc, arith}
 use Rattle.std.specs.Prelude.{min}
@@ -12,7 +12,7 @@ use Rattle.shelf.specs.OneFile.{Waiting}
 use Rattle.shelf.specs.OnTheirWay.{outputs_with}
 use Rattle.shelf.specs.Laws.Files.{GoOn-same}
 use Rattle.shelf.specs.Laws.Told.{told_both, told_map, told_still}
-use Rattle.base.specs.declared.ending.Ending.{Ending}
+use Rattle.trace_format.specs.declared.record.TraceEnd.{TraceEnd}
 use Rattle.trace_format.specs.declared.record.Header.{Header}
 use Rattle.trace_format.specs.declared.record.Version.{Version}
 use Rattle.trace_format.specs.declared.record.TraceRecord.{TraceRecord}
@@ -22,7 +22,7 @@ use Rattle.trace_format.specs.Rules.{touches_in}
 use Rattle.trace_format.specs.Spelling.{before_after, nothing_before, spell, spell_ending}
 use Rattle.trace_format.specs.Spelling.{spell_record}
 use Rattle.trace_passes.specs.declared.passes.Passed.{Passed}
-use Rattle.trace_passes.specs.Passes.{Trace, all_records, trace_of, trace_with}
+use Rattle.trace_passes.specs.Passes.{near_refusal, Trace, all_records, trace_of, trace_with}
 use Rattle.trace_passes.specs.Laws.Passes.{trace-parts, trace-records}
 use Rattle.trace_format.specs.declared.splitter.Side.{Side}
 use Rattle.trace_format.specs.declared.splitter.Side.TheVariants.{First, Second, Neither}
@@ -31,7 +31,7 @@ use Rattle.trace_format.specs.Splits.{headers_of, put_behind, side_after}
 use Rattle.trace_format.specs.Writing.{Writing, begun_with, before_behind}
 use Rattle.trace_format.specs.Laws.Writing.{begun-ended, begun-more, begun_on, writer-more}
 use Rattle.trace_files.specs.declared.copy_fault.CopyFault.{CopyFault}
-use Rattle.trace_files.specs.Copies.{HasCopied, HasStopped, halves}
+use Rattle.trace_files.specs.Copies.{IsUnfiltered, HasCopied, HasStopped, halves}
 use Rattle.trace_files.specs.Copying.{AreAlike, AreFirst, IsAccepted, IsCopied, IsCutShort}
 use Rattle.trace_files.specs.Copying.{halves_so_far, halves_with}
 use Rattle.trace_files.specs.Copying.{write_fault}
@@ -165,7 +165,7 @@ go_on_to grows cut seen (item ∷ more) =
     (append_assoc seen (item ∷ []) more) (go_on_to grows cut (seen ++ item ∷ []) more)))
 
 -- so do the bytes of each half, to those of the whole half
-half_on : (v : Version) (h : Header) (all seen : List TraceRecord) (e : Ending)
+half_on : (v : Version) (h : Header) (all seen : List TraceRecord) (e : TraceEnd)
     → (more : List TraceRecord) × (all ≡ seen ++ more)
     → (rest : List ℕ) × (spell v h all e ≡ begun_with v h seen ++ rest)
 half_on v h all seen e on =
@@ -196,13 +196,14 @@ halves_on grows at first second t seen more is =
 -- ---- their ends
 
 -- the files, once each half has its end
-abbrev pub with_ends : List Output → Ending × Ending → List Output
-with_ends outputs ends = outputs_with (outputs_with outputs 0 (spell_ending ends.0)) 1
-    (spell_ending ends.1)
+abbrev pub with_ends : Version → List Output → TraceEnd × TraceEnd → List Output
+with_ends v outputs ends = outputs_with (outputs_with outputs 0 (spell_ending v ends.0)) 1
+    (spell_ending v ends.1)
 
 whole_halves : (at : ℕ) (first second : List ℕ) (t : Trace)
     → (let s = begin_split t.header t.ending.accesses at in
-    with_ends (halves_so_far first second t.version s (all_records t)) (endings_of s t.ending))
+    with_ends t.version (halves_so_far first second t.version s (all_records t))
+    (endings_of s t.ending))
     ≡ halves at first second t
 whole_halves at first second t =
     let s = begin_split t.header t.ending.accesses at in
@@ -287,7 +288,7 @@ module _ (grows : Grows) (held : Option Files) (name : List ℕ) (at : ℕ) (fir
             (waiting : List Waiting)
             (mid : Outside) (narrow : Narrows mid.held held)
             (copied : IsCopied mid.held name again files has waiting before mid)
-            (ends : Ending × Ending) (are : ends ≡ endings_of s again.ending) (now : Outside)
+            (ends : TraceEnd × TraceEnd) (are : ends ≡ endings_of s again.ending) (now : Outside)
           where
             abbrev trace : Trace
             trace = trace_with again copied.items
@@ -299,10 +300,11 @@ module _ (grows : Grows) (held : Option Files) (name : List ℕ) (at : ℕ) (fir
             so_cut : s ≡ begin_split again.header again.ending.accesses at
             so_cut = cut ∙ (λ i. begin_split (sym alike.header i) (sym alike.accesses i) at)
 
-            whole : with_ends (files (all_records trace)) ends ≡ halves at first second trace
+            whole : with_ends passed.version (files (all_records trace)) ends
+                ≡ halves at first second trace
             whole =
-                (λ i. with_ends (named i (all_records trace)) (are i))
-                ∙ (λ i. with_ends (halves_so_far first second (sym alike.version i) (so_cut i)
+                (λ i. with_ends passed.version (named i (all_records trace)) (are i))
+                ∙ (λ i. with_ends (sym alike.version i) (halves_so_far first second (sym alike.version i) (so_cut i)
                 (all_records trace))
                 (endings_of (so_cut i) again.ending))
                 ∙ whole_halves at first second trace
@@ -310,13 +312,15 @@ module _ (grows : Grows) (held : Option Files) (name : List ℕ) (at : ℕ) (fir
             counted : again.ending.accesses ≡ length (touches_in copied.items)
             counted = (trace-parts copied.bytes trace copied.is).counted
 
-            pub split_whole : AreWritten (with_ends (files (all_records trace)) ends) before now
+            pub split_whole : AreWritten (with_ends passed.version (files (all_records trace)) ends)
+                before now
                 → HasCopied held name (halves at first second)
                 (λ t. (ends.0.accesses ≡ min at (length (touches_in t.items)))
-                × (ends.1.accesses ≡ length (touches_in t.items) - ends.0.accesses)) before now
+                × (ends.1.accesses ≡ length (touches_in t.items) - ends.0.accesses)
+                × IsUnfiltered t) before now
             split_whole written =
                 let cut_at : ends.0.accesses
-                ≡ s.cut = ap (λ (e : Ending × Ending). e.0.accesses) are in
+                ≡ s.cut = ap (λ (e : TraceEnd × TraceEnd). e.0.accesses) are in
                 record {
                   bytes = copied.bytes;
                   whole = told;
@@ -324,10 +328,11 @@ module _ (grows : Grows) (held : Option Files) (name : List ℕ) (at : ℕ) (fir
                   is = copied.is;
                   told = (
                     cut_at ∙ ap (λ (x : Split). x.cut) so_cut ∙ ap (min at) counted,
-                    ap (λ (e : Ending × Ending). e.1.accesses) are
+                    ap (λ (e : TraceEnd × TraceEnd). e.1.accesses) are
                         ∙ ap (λ (x : Split). x.total - s.cut) so_cut
                         ∙ ap (λ (n : ℕ). n - s.cut) counted
                         ∙ ap (λ (n : ℕ). length (touches_in copied.items) - n) (sym cut_at),
+                    ap (λ (h : Header). near_refusal None h.near) alike.header ∙ accepted.plain,
                   );
                   written = subst (λ (l : List Output). AreWritten l before now) whole written;
                 }
@@ -345,7 +350,7 @@ module _ (grows : Grows) (held : Option Files) (name : List ℕ) (at : ℕ) (fir
                 (GoOn-same (halves at first second trace))) told
 
             pub stopped_ending : (error : ShelfError)
-                → AreCut (with_ends (files (all_records trace)) ends) before now error
+                → AreCut (with_ends passed.version (files (all_records trace)) ends) before now error
                 → HasStopped held name names (halves at first second) before now (write_fault error)
             stopped_ending error short =
                 stopped_writing held name names (halves at first second)

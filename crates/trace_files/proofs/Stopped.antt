@@ -27,9 +27,9 @@ use Rattle.trace_files.specs.declared.copy_fault.CopyFault.{CopyFault}
 use Rattle.trace_files.specs.declared.copy_fault.CopyFault.TheVariants.{Refused, Changed, ReadFault}
 use Rattle.trace_files.specs.declared.copy_fault.CopyFault.TheVariants.{WriteFault, NoMemory}
 use Rattle.trace_files.specs.Copies.{HasCopied, HasCopyCause, HasStopped, RoseAt, StaysWhereRefused}
-use Rattle.trace_files.specs.Copies.{any}
+use Rattle.trace_files.specs.Copies.{unfiltered}
 use Rattle.trace_files.specs.Copying.{AreFirst, IsAccepted, IsCutShort, first_fault}
-use Rattle.trace_files.specs.Laws.Copies.{trace_unrefused}
+use Rattle.trace_files.specs.Laws.Copies.{plain_unrefused}
 use Rattle.trace_files.proofs.Readings.{same_at, short_read}
 
 -- ---- each other file
@@ -272,21 +272,22 @@ accepted_still o n name first narrow accepted = record {
   whole = told_still (λ files. accepted.bytes ≡ content files name) o n narrow accepted.whole;
   items = accepted.items;
   is = accepted.is;
+  plain = accepted.plain;
 }
 
 pub told_accepted : (held : Option Files) (name : List ℕ) (first : Passed)
     → IsAccepted held name first
-    → Told held (λ files. refusal_of any (content files name) ≡ None)
+    → Told held (λ files. refusal_of unfiltered (content files name) ≡ None)
 told_accepted held name first accepted =
     told_map held
-    (λ files same. ap (refusal_of any) (sym same) ∙ trace_unrefused accepted.bytes
-    (trace_with first accepted.items) accepted.is)
+    (λ files same. ap (refusal_of unfiltered) (sym same) ∙ plain_unrefused accepted.bytes
+    (trace_with first accepted.items) accepted.is accepted.plain)
     accepted.whole
 
 -- it isn't refused where its bytes are told
 pub never_refused : (held : Option Files) (name : List ℕ) (first : Passed)
     → IsAccepted held name first → (refusal : Refusal)
-    → Told held (λ files. refusal_of any (content files name) ≡ Some refusal) → held ≡ None
+    → Told held (λ files. refusal_of unfiltered (content files name) ≡ Some refusal) → held ≡ None
 never_refused held name first accepted refusal told =
     untold held ⊥ (told_both held (λ files a b. let no : None ≡ Some refusal = sym a
     ∙ b in absurd cc)

@@ -13,21 +13,25 @@ use Rattle.shelf.specs.Shelf.{Outside}
 use Rattle.shelf.specs.declared.shelf.ShelfError.{ShelfError}
 use Rattle.shelf.specs.declared.shelf.ShelfError.TheVariants as errors
 use Rattle.shelf.specs.Files.{AreCut, AreWritten}
+use Rattle.shelf.specs.Laws.Files.{IsOutputs-cut}
+use Rattle.shelf.specs.Laws.Told.{goes_map}
 use Rattle.trace_format.specs.declared.record.Header.{Header}
 use Rattle.trace_format.specs.declared.record.TraceRecord.{TraceRecord}
 use Rattle.trace_format.specs.declared.record.Version.{Version}
 use Rattle.trace_format.specs.Laws.Counts.{touches_in-front}
 use Rattle.trace_format.specs.Rules.{touches_in}
+use Rattle.trace_passes.specs.declared.wanted.Refusal.{Refusal}
+use Rattle.trace_passes.specs.Passes.{near_refusal}
 use Rattle.trace_files.specs.declared.move_fault.MoveFault.{MoveFault}
 use Rattle.trace_files.specs.declared.move_fault.MoveFault.TheVariants as faults
 use Rattle.trace_files.specs.declared.move_row.Move.{Move}
 use Rattle.trace_files.specs.declared.mover.Mover.{Mover}
 use Rattle.trace_files.specs.Movers.{Follows, HasMoved, IsCutAt, IsOccupied, MayPut, StopsAt}
-use Rattle.trace_files.specs.Movers.{MayTake, write_fault}
+use Rattle.trace_files.specs.Movers.{IsTurnedAway, MayTake, write_fault}
 use Rattle.trace_files.specs.Moving.{addr_of, before_the_first, first_in_the_way, is_in_the_way}
 use Rattle.trace_files.specs.Moving.{moved_so_far}
 use Rattle.trace_files.proofs.Lookups.{any_find}
-use Rattle.trace_files.proofs.Movings.{free_more}
+use Rattle.trace_files.proofs.Movings.{free_more, none_new}
 use Rattle.trace_files.proofs.Readings.{seen_more}
 
 -- ---- the first that is in the way
@@ -126,6 +130,7 @@ cut_on : (table : List Move) (name : List ℕ) (head : Option (Version × Header
     → IsCutAt table name head all before now error
     → IsCutAt table name head (all ++ more) before now error
 cut_on table name head all more before now error cut = record {
+  plain = cut.plain;
   put = cut.put;
   more = cut.more ++ more;
   free = cut.free;
@@ -139,7 +144,7 @@ pub stops_on : (table : List Move) (name : List ℕ) (head : Option (Version × 
     (all more : List TraceRecord) (before now : Outside) (fault : MoveFault)
     → StopsAt table name head all before now fault
     → StopsAt table name head (all ++ more) before now fault
-stops_on table name head all more before now (faults.Refused refusal) stops = absurd stops
+stops_on table name head all more before now (faults.Refused refusal) stops = stops
 stops_on table name head all more before now faults.ReadFault stops = absurd stops
 stops_on table name head all more before now faults.WriteFault stops =
     cut_on table name head all more before now errors.Failed stops
@@ -176,6 +181,7 @@ module _ (table : List Move) (name : List ℕ) (m : Mover) (head : Version × He
           (stops_first (is_in_the_way table) item [] here)
           ∙ append-nil seen)) written;
       cut = record {
+        plain = has.plain;
         put = seen;
         more = item ∷ [];
         free = has.free;
@@ -188,6 +194,7 @@ module _ (table : List Move) (name : List ℕ) (m : Mover) (head : Version × He
         → AreCut (moved_so_far table name (Some head) seen) before now error
         → IsCutAt table name (Some head) (seen ++ item ∷ []) before now error
     cut_before now error cut = record {
+      plain = has.plain;
       put = seen;
       more = item ∷ [];
       free = has.free;
@@ -199,6 +206,7 @@ module _ (table : List Move) (name : List ℕ) (m : Mover) (head : Version × He
         → AreCut (moved_so_far table name (Some head) (seen ++ item ∷ [])) before now error
         → IsCutAt table name (Some head) (seen ++ item ∷ []) before now error
     cut_behind now error free cut = record {
+      plain = has.plain;
       put = seen ++ item ∷ [];
       more = [];
       free = free_more table seen item has.free free;
@@ -359,14 +367,33 @@ is_begun table name m (Some g) seen before now head has follows on =
 -- the file was cut as its header was put
 pub cut_header : (table : List Move) (name : List ℕ) (head : Version × Header)
     (seen : List TraceRecord) (before now : Outside) (error : ShelfError) → seen ≡ []
+    → near_refusal None head.1.near ≡ None
     → AreCut (moved_so_far table name (Some head) []) before now error
     → IsCutAt table name (Some head) seen before now error
-cut_header table name head seen before now error none cut = record {
+cut_header table name head seen before now error none plain cut = record {
+  plain = plain;
   put = [];
   more = [];
   free = refl;
   first = none;
   cut = cut;
+}
+
+-- a header that is refused begins nothing
+pub turned_away : (table : List Move) (name : List ℕ) (m : Mover) (before now : Outside)
+    (head : Version × Header) (refusal : Refusal) → HasMoved table name m None [] before now
+    → near_refusal None head.1.near ≡ Some refusal
+    → IsTurnedAway (Some head) before now refusal
+turned_away table name m before now head refusal has refused = record {
+  refused = refused;
+  written = record {
+    whole = goes_map before.written now.written
+        (λ b n same other. same other (none_new table name m before now has other))
+        has.outputs.others;
+    faults = has.outputs.faults;
+    only = has.outputs.only;
+  };
+  cut = IsOutputs-cut m.files [] before now errors.NoMemory (λ e. cc) has.outputs;
 }
 
 -- without a header no record came

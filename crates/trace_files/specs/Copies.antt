@@ -8,29 +8,40 @@ use Rattle.shelf.specs.Files.{Output, AreWritten, BegunInOrder, one_file}
 use Rattle.shelf.specs.OnTheirWay.{IsNew}
 use Rattle.trace_format.specs.declared.fault.TraceFault.TheVariants as faults
 use Rattle.trace_format.specs.declared.record.Version.{Version}
-use Rattle.trace_format.specs.declared.record.Version.TheVariants.{One, Two, Three}
+use Rattle.trace_format.specs.declared.record.Version.TheVariants.{One, Two, Three, Four}
 use Rattle.trace_format.specs.declared.record.TraceRecord.{TraceRecord}
 use Rattle.trace_format.specs.Pcs.{without_pcs}
 use Rattle.trace_passes.specs.declared.wanted.Wanted.{Wanted}
 use Rattle.trace_passes.specs.declared.passes.Passed.{Passed}
 use Rattle.trace_passes.specs.declared.wanted.Refusal.{Refusal}
 use Rattle.trace_passes.specs.declared.wanted.Refusal.TheVariants as refusals
-use Rattle.trace_passes.specs.Passes.{Trace, all_records, header_refusal, refusal_of, spell_trace}
+use Rattle.trace_passes.specs.Passes.{Trace, all_records, header_refusal, near_refusal, refusal_of}
+use Rattle.trace_passes.specs.Passes.{spell_trace}
 use Rattle.trace_passes.specs.Passes.{trace_of}
 use Rattle.trace_format.specs.Splits.{begin_split, endings_of, halves_of, headers_of}
 use Rattle.trace_files.specs.declared.copy_fault.CopyFault.{CopyFault}
 use Rattle.trace_files.specs.declared.copy_fault.CopyFault.TheVariants.{ReadFault, WriteFault}
 
--- any trace will do
+-- any trace will do, and no line is too wide for its regions
 abbrev pub any : Wanted
-any = record { harts = None; first = None; pcs = false }
+any = record { harts = None; first = None; pcs = false; lines = Some 0 }
+
+-- any will do that isn't filtered
+abbrev pub unfiltered : Wanted
+unfiltered = record any { lines = None }
+
+-- it isn't filtered
+abbrev pub IsUnfiltered : Trace → Type 0
+IsUnfiltered t = near_refusal None t.header.near ≡ None
 
 -- ---- the copies
 
+-- a filtered trace has no other version
 abbrev pub other_version : Version → Version
 other_version One = Two
 other_version Two = One
 other_version Three = Two
+other_version Four = Four
 
 -- the records in the other version, which has no place for the pcs of version 3
 abbrev pub other_items : Version → List TraceRecord → List TraceRecord
@@ -81,6 +92,7 @@ abbrev pub version_difference : Version → Version → Option Refusal
 version_difference One One = None
 version_difference Two Two = None
 version_difference Three Three = None
+version_difference Four Four = None
 version_difference _ _ = Some (refusals.Trace faults.BadMagic)
 
 abbrev pub count_difference : ℕ → ℕ → Option Refusal
@@ -94,7 +106,7 @@ abbrev pub difference : Passed → Passed → Option Refusal
 difference first second =
     option_or (version_difference first.version second.version)
     (option_or (header_refusal
-    (record { harts = Some first.header.harts; first = Some first.header.first; pcs = false })
+    (record any { harts = Some first.header.harts; first = Some first.header.first })
     (Some second.header))
     (count_difference first.ending.accesses second.ending.accesses))
 
@@ -106,7 +118,7 @@ told_of t = record { version = t.version; header = t.header; ending = t.ending }
 -- first reading
 abbrev pub refusal_again : Passed → List ℕ → Option Refusal
 refusal_again first bytes =
-    option_or (refusal_of any bytes)
+    option_or (refusal_of unfiltered bytes)
     (option_and_then (λ t. difference first (told_of t)) (trace_of bytes))
 
 -- what the reads since then have given of the name is refused so behind such a first reading
@@ -131,12 +143,12 @@ pub record HasCopied (held : Option Files) (name : List ℕ) (outputs : Trace �
 -- how the name's bytes are refused as a trace, if they are
 abbrev pub IsJudged : Option Files → List ℕ → Option Refusal → Type 0
 IsJudged held name judged =
-    Told held (λ files. refusal_of any (content files name) ≡ judged)
+    Told held (λ files. refusal_of unfiltered (content files name) ≡ judged)
 
 -- where they are, each file is as it was
 abbrev pub StaysWhereRefused : Option Files → List ℕ → Outside → Outside → Type 0
 StaysWhereRefused held name before now = Told held (λ files. (refusal : Refusal)
-    → refusal_of any (content files name) ≡ Some refusal
+    → refusal_of unfiltered (content files name) ≡ Some refusal
     → Goes before.written now.written (λ old new. (n : List ℕ) → new n ≡ old n))
 
 -- one of the numbers of faults rose that these names have

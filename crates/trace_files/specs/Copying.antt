@@ -1,5 +1,5 @@
 -- How far a copy is, in the clauses of this crate's own functions.
-use Rattle.std.specs.Prelude.{◌≡◌, ℕ, List, [], ◌∷◌, ◌++◌, length, Option, Some}
+use Rattle.std.specs.Prelude.{None, ◌≡◌, ℕ, List, [], ◌∷◌, ◌++◌, length, Option, Some}
 use Rattle.shelf.specs.Agreeing.{HasShown}
 use Rattle.shelf.specs.Shelf.{Files, Given, Narrows, Outside, Told, content}
 use Rattle.shelf.specs.declared.shelf.ShelfError.{ShelfError}
@@ -17,6 +17,7 @@ use Rattle.trace_passes.specs.declared.passes.PassFault.{PassFault}
 use Rattle.trace_passes.specs.declared.passes.PassFault.TheVariants as passes
 use Rattle.trace_passes.specs.declared.passes.Passed.{Passed}
 use Rattle.trace_passes.specs.declared.wanted.Refusal.{Refusal}
+use Rattle.trace_passes.specs.Passes.{near_refusal}
 use Rattle.trace_passes.specs.Passes.{HasParts, all_records, trace_of, trace_with}
 use Rattle.trace_format.specs.Splits.{HasSeen, Split, halves_of, headers_of}
 use Rattle.trace_files.specs.declared.split.Splitting.{Splitting}
@@ -71,12 +72,14 @@ pub record HasSplit (s : Splitting) (seen : List TraceRecord) : Type 0 where
 
 -- ---- two readings
 
--- There are bytes, the held ones where these are told, that are a trace of these parts.
+-- There are bytes, the held ones where these are told, that are a trace of these parts, which isn't
+-- filtered.
 pub record IsAccepted (held : Option Files) (name : List ℕ) (passed : Passed) : Type 0 where
   pub bytes : List ℕ
   pub whole : Told held (λ files. bytes ≡ content files name)
   pub items : List TraceRecord
   pub is : trace_of bytes ≡ Some (trace_with passed items)
+  pub plain : near_refusal None passed.header.near ≡ None
 
 -- The reads since then are two readings of the name, one after the other. What the first gave is a
 -- trace of these parts, and what the second gave is refused so beside it.

@@ -1,5 +1,5 @@
 -- What two traces are to each other that are the halves of a third one.
-use Rattle.std.specs.Prelude.{◌≡◌, ◌+◌, ◌++◌, length, Some}
+use Rattle.std.specs.Prelude.{◌≡◌, ◌+◌, ◌++◌, length, None, Some}
 use Rattle.base.specs.declared.ending.Outcome.TheVariants.{Part}
 use Rattle.trace_format.specs.Rules.{IsTrace, touches_in}
 use Rattle.trace_passes.specs.Passes.{Trace, spell_trace, trace_of}
@@ -21,6 +21,11 @@ pub record AreHalves (whole first second : Trace) : Type 0 where
   pub begins : first.header.first ≡ whole.header.first
   pub goes_on : second.header.first ≡ first.header.first + length (touches_in first.items)
   pub part : first.ending
-      ≡ record { outcome = Part; steps = 0; accesses = length (touches_in first.items) }
+      ≡ record {
+        outcome = Part;
+        steps = 0;
+        accesses = length (touches_in first.items);
+        whole = None;
+      }
   pub ending : second.ending
-      ≡ record whole.ending { accesses = length (touches_in second.items) }
+      ≡ record whole.ending { accesses = length (touches_in second.items); whole = None }

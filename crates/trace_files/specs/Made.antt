@@ -62,7 +62,7 @@ abbrev pub made_items : ℕ → List TraceRecord
 made_items count = map made_item (range_with_len 0 count)
 
 abbrev pub made_header : Header
-made_header = record { first = 0; harts = 8 }
+made_header = record { first = 0; harts = 8; near = 0 }
 
 -- the trace of so many accesses: each took a step, and the exit is 0
 abbrev pub made : ℕ → Trace
@@ -70,7 +70,7 @@ made count = record {
   version = One;
   header = made_header;
   items = made_items count;
-  ending = record { outcome = Exit 0; steps = count; accesses = count };
+  ending = record { outcome = Exit 0; steps = count; accesses = count; whole = None };
 }
 
 -- ---- its file

@@ -1,5 +1,5 @@
 -- How far a trace is moved, in the clauses of this crate's own functions.
-use Rattle.std.specs.Prelude.{◌≡◌, ℕ, ◌<◌, ◌^◌, false, List, [], ◌++◌, length, Option, Some, None}
+use Rattle.std.specs.Prelude.{◌≡◌, ◌⊎◌, ℕ, ◌<◌, ◌^◌, false, List, [], ◌++◌, length, Option, Some, None}
 use Rattle.std.specs.Prelude.{is_some}
 use Rattle.std.specs.List.{list_any}
 use Rattle.std.specs.Option.{IfSome}
@@ -14,22 +14,24 @@ use Rattle.trace_format.specs.declared.record.Version.{Version}
 use Rattle.trace_format.specs.Rules.{IsGoodHeader, touches_in}
 use Rattle.trace_format.specs.Spelling.{nothing_before}
 use Rattle.trace_format.specs.Writing.{before_behind}
+use Rattle.trace_passes.specs.declared.wanted.Refusal.{Refusal}
 use Rattle.trace_files.specs.declared.move_fault.MoveFault.{MoveFault}
 use Rattle.trace_files.specs.declared.move_fault.MoveFault.TheVariants as faults
 use Rattle.trace_files.specs.declared.move_row.Move.{Move}
 use Rattle.trace_files.specs.declared.mover.Mover.{Mover}
 use Rattle.trace_files.specs.Moves.{count_moved}
-use Rattle.trace_files.specs.Moving.{before_the_first, first_in_the_way, is_in_the_way}
-use Rattle.trace_files.specs.Moving.{moved_items, moved_so_far}
+use Rattle.trace_files.specs.Moving.{before_the_first, first_in_the_way, head_refusal}
+use Rattle.trace_files.specs.Moving.{is_in_the_way, moved_items, moved_so_far}
 
 -- These records were put with their accesses moved, none of which is in the way, into the file that
--- the header began; without a header nothing is begun.
+-- the header began, which isn't refused; without a header nothing is begun.
 pub record HasMoved (table : List Move) (name : List ℕ) (m : Mover)
     (head : Option (Version × Header)) (seen : List TraceRecord) (before now : Outside) : Type 0
   where
     pub named : m.name.now ≡ name
     pub outputs : IsOutputs m.files (moved_so_far table name head seen) before now
     pub begun : m.begun ≡ is_some head
+    pub plain : head_refusal head ≡ None
     pub writer : IfSome head (λ h. m.writer
         ≡ record { version = h.0; before = before_behind nothing_before (moved_items table seen) })
     pub free : list_any (is_in_the_way table) seen ≡ false
@@ -47,9 +49,11 @@ pub record MayPut (table : List Move) (m : Mover) (more : List TraceRecord) (now
 
 -- ---- where it gives up
 
--- The file was cut as these records were put, which are the first of all and free.
+-- The file was cut as these records were put, which are the first of all and free, behind a header
+-- that isn't refused.
 pub record IsCutAt (table : List Move) (name : List ℕ) (head : Option (Version × Header))
     (all : List TraceRecord) (before now : Outside) (error : ShelfError) : Type 0 where
+  pub plain : head_refusal head ≡ None
   pub put : List TraceRecord
   pub more : List TraceRecord
   pub free : list_any (is_in_the_way table) put ≡ false
@@ -63,6 +67,13 @@ pub record IsOccupied (table : List Move) (name : List ℕ) (head : Option (Vers
   pub written : AreWritten (moved_so_far table name head (before_the_first table all)) before now
   pub cut : IsCutAt table name head all before now errors.NoMemory
 
+-- The header is refused so, and nothing is written.
+pub record IsTurnedAway (head : Option (Version × Header)) (before now : Outside)
+    (refusal : Refusal) : Type 0 where
+  pub refused : head_refusal head ≡ Some refusal
+  pub written : AreWritten [] before now
+  pub cut : AreCut [] before now errors.NoMemory
+
 -- what is known where these records were to be put, and a fault came
 abbrev pub StopsAt : List Move → List ℕ → Option (Version × Header) → List TraceRecord → Outside
     → Outside → MoveFault → Type 0
@@ -73,7 +84,8 @@ StopsAt table name head all before now faults.WriteFault =
 StopsAt table name head all before now faults.NoMemory =
     IsCutAt table name head all before now errors.NoMemory
 StopsAt table name head all before now faults.ReadFault = ⊥
-StopsAt table name head all before now (faults.Refused refusal) = ⊥
+StopsAt table name head all before now (faults.Refused refusal) =
+    IsTurnedAway head before now refusal
 
 abbrev pub write_fault : ShelfError → MoveFault
 write_fault errors.Failed = faults.WriteFault
@@ -109,15 +121,16 @@ pub record IsAllWritten (table : List Move) (name : List ℕ) (head : Option (Ve
   pub written : AreWritten (moved_so_far table name head all) before now
   pub cut : IsCutAt table name head all before now errors.NoMemory
 
--- the same where a trace ends that is refused, once its records were put
+-- the same where a trace ends that is refused so, once its records were put
 abbrev pub EndsAt : List Move → List ℕ → Option (Version × Header) → List TraceRecord → Outside
-    → Outside → MoveFault → Type 0
-EndsAt table name head all before now (faults.Refused refusal) =
-    IsAllWritten table name head all before now
-EndsAt table name head all before now (faults.Occupied addr) =
+    → Outside → Refusal → MoveFault → Type 0
+EndsAt table name head all before now why (faults.Refused refusal) =
+    ((refusal ≡ why) × IsAllWritten table name head all before now)
+    ⊎ IsTurnedAway head before now refusal
+EndsAt table name head all before now why (faults.Occupied addr) =
     IsOccupied table name head all before now addr
-EndsAt table name head all before now faults.WriteFault =
+EndsAt table name head all before now why faults.WriteFault =
     IsCutAt table name head all before now errors.Failed
-EndsAt table name head all before now faults.NoMemory =
+EndsAt table name head all before now why faults.NoMemory =
     IsCutAt table name head all before now errors.NoMemory
-EndsAt table name head all before now faults.ReadFault = ⊥
+EndsAt table name head all before now why faults.ReadFault = ⊥

@@ -1,5 +1,5 @@
 -- Which trace a table makes of another one, and what is written where it gives up.
-use Rattle.std.specs.Prelude.{◌≡◌, ◌≢◌, ℕ, ◌≤◌, List, [], map, Bool, false, not, length}
+use Rattle.std.specs.Prelude.{min, ◌≡◌, ◌≢◌, ℕ, ◌≤◌, List, [], map, Bool, false, not, length}
 use Rattle.std.specs.Prelude.{find, Option, Some, None, option_map}
 use Rattle.std.specs.Option.{option_map_or}
 use Rattle.std.specs.List.{take_while}
@@ -13,12 +13,13 @@ use Rattle.trace_format.specs.Reading.{reading_of}
 use Rattle.trace_format.specs.Rules.{touches_in}
 use Rattle.trace_format.specs.Writing.{begun_with}
 use Rattle.trace_passes.specs.Cursors.{version_and_header}
-use Rattle.trace_passes.specs.Passes.{Trace, refusal_of, spell_trace}
+use Rattle.trace_passes.specs.Passes.{Trace, near_refusal, refusal_of, spell_trace}
+use Rattle.trace_passes.specs.declared.wanted.Refusal.{Refusal}
 use Rattle.trace_files.specs.declared.move_fault.MoveFault.{MoveFault}
 use Rattle.trace_files.specs.declared.move_fault.MoveFault.TheVariants.{Refused, Occupied}
 use Rattle.trace_files.specs.declared.move_fault.MoveFault.TheVariants.{ReadFault, WriteFault}
 use Rattle.trace_files.specs.declared.relocation.Moved.{Moved}
-use Rattle.trace_files.specs.Copies.{any}
+use Rattle.trace_files.specs.Copies.{IsUnfiltered, any}
 use Rattle.trace_files.specs.Moves.{IsFree, count_moved, is_taken, moved_in}
 use Rattle.trace_files.specs.declared.move_row.Move.{Move}
 
@@ -32,9 +33,14 @@ moved_item table item = item
 abbrev pub moved_items : List Move → List TraceRecord → List TraceRecord
 moved_items table items = map (moved_item table) items
 
+-- The regions of a moved trace have at most 256 bytes. A trace that is moved isn't filtered, and
+-- has none, so that its header stays.
+abbrev pub narrowed : Header → Header
+narrowed h = record h { near = min h.near 8 }
+
 -- the trace with its accesses moved
 abbrev pub moved : List Move → Trace → Trace
-moved table t = record t { items = moved_items table t.items }
+moved table t = record t { header = narrowed t.header; items = moved_items table t.items }
 
 -- an access that stays, where one may go
 abbrev pub is_in_the_way : List Move → TraceRecord → Bool
@@ -61,21 +67,34 @@ abbrev pub moved_so_far : List Move → List ℕ → Option (Version × Header) 
     → List Output
 moved_so_far table name None seen = []
 moved_so_far table name (Some head) seen =
-    one_file name (begun_with head.0 head.1 (moved_items table seen))
+    one_file name (begun_with head.0 (narrowed head.1) (moved_items table seen))
 
--- What is written of bytes: their header, once it is accepted, and the records that are read before
--- an access is in the way.
+-- how an accepted header is refused: a filtered trace isn't moved
+abbrev pub head_refusal : Option (Version × Header) → Option Refusal
+head_refusal None = None
+head_refusal (Some head) = near_refusal None head.1.near
+
+-- What is written of bytes: nothing where their header is refused, else that header, once it is
+-- accepted, and the records that are read before an access is in the way.
 abbrev pub written_of : List Move → List ℕ → List ℕ → List Output
 written_of table name bytes =
     let now = reading_of bytes in
-    moved_so_far table name (version_and_header now.1.progress) (before_the_first table now.0)
+    let head = version_and_header now.1.progress in
+    option_map_or (λ refusal. []) (head_refusal head)
+    (moved_so_far table name head (before_the_first table now.0))
 
--- how they are refused: for the first access in the way among the records that are read, else as
--- they are no trace
-abbrev pub fault_of : List Move → List ℕ → Option MoveFault
-fault_of table bytes =
+-- how the records of bytes are refused: for the first access in the way among those that are read,
+-- else as the bytes are no trace
+abbrev pub fault_behind : List Move → List ℕ → Option MoveFault
+fault_behind table bytes =
     option_map_or (λ addr. Some (Occupied addr)) (first_in_the_way table (reading_of bytes).0)
     (option_map Refused (refusal_of any bytes))
+
+-- how the bytes are refused: for their header, once it is accepted, else for their records
+abbrev pub fault_of : List Move → List ℕ → Option MoveFault
+fault_of table bytes =
+    option_map_or (λ refusal. Some (Refused refusal))
+    (head_refusal (version_and_header (reading_of bytes).1.progress)) (fault_behind table bytes)
 
 -- ---- what the call says
 
@@ -83,8 +102,9 @@ fault_of table bytes =
 abbrev pub moving : List Move → List ℕ → Trace → List Output
 moving table name t = one_file name (spell_trace (moved table t))
 
--- no access of the trace is in the way, and so many there are, and are moved
+-- the trace isn't filtered, no access of it is in the way, and so many there are, and are moved
 pub record IsCounted (table : List Move) (made : Moved) (t : Trace) : Type 0 where
+  pub unfiltered : IsUnfiltered t
   pub free : IsFree table (touches_in t.items)
   pub accesses : made.accesses ≡ length (touches_in t.items)
   pub moved : made.moved ≡ count_moved table (touches_in t.items)

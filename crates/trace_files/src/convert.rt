@@ -7,7 +7,7 @@ ghost use Rattle.trace_format.specs.Rules.{touches_in};
 ghost use Rattle.trace_passes.specs.declared.wanted.Refusal.{Refusal as Refused};
 ghost use Rattle.trace_passes.specs.declared.wanted.Refusal.TheVariants as refusals;
 ghost use Rattle.trace_files.specs.Copies.{HasCopied, HasStopped, IsJudged, StaysWhereRefused};
-ghost use Rattle.trace_files.specs.Copies.{IsOther, conversion, other_version};
+ghost use Rattle.trace_files.specs.Copies.{IsOther, IsUnfiltered, conversion, other_version};
 ghost use Rattle.trace_files.specs.Copying.{HasChanged, IsAccepted};
 
 use crate::CopyFault;
@@ -35,6 +35,7 @@ fn other_version(version: Version) -> Version
         Version::One => Version::Two,
         Version::Two => Version::One,
         Version::Three => Version::Two,
+        Version::Four => Version::Four,
     }
 }
 
@@ -50,7 +51,7 @@ fn convert_accepted<S: Shelf>(
     ensures copied { IfOk result (λ made. HasCopied (S.outside shelf.new).held name.now
         (conversion output.now)
         (λ t. (made.version ≡ other_version t.version)
-        × (made.accesses ≡ length (touches_in t.items)))
+        × (made.accesses ≡ length (touches_in t.items)) × IsUnfiltered t)
         (S.outside shelf.old) (S.outside shelf.new)) }
     ensures unrefused { (refusal : Refused) → result ≢ Err (CopyFault.Refused refusal) }
     ensures changed { (refusal : Refused) → result ≡ Err (CopyFault.Changed refusal)
@@ -98,7 +99,7 @@ pub fn convert_trace<S: Shelf>(
     ensures copied { IfOk result (λ made. HasCopied (S.outside shelf.new).held name.now
         (conversion output.now)
         (λ t. (made.version ≡ other_version t.version)
-        × (made.accesses ≡ length (touches_in t.items)))
+        × (made.accesses ≡ length (touches_in t.items)) × IsUnfiltered t)
         (S.outside shelf.old) (S.outside shelf.new)) }
     // At a refusal the trace was read, and nothing else is done.
     ensures refused { (refusal : Refused) → result ≡ Err (CopyFault.Refused refusal)

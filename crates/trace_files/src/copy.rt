@@ -11,8 +11,9 @@ ghost use Rattle.trace_format.specs.declared.record.TraceRecord.{TraceRecord as 
 ghost use Rattle.trace_format.specs.Rules.{IsWritable};
 ghost use Rattle.trace_passes.specs.declared.wanted.Refusal.{Refusal as Refused};
 ghost use Rattle.trace_passes.specs.declared.wanted.Refusal.TheVariants as refusals;
-ghost use Rattle.trace_passes.specs.Passes.{HasParts, Trace, refusal_of};
+ghost use Rattle.trace_passes.specs.Passes.{HasParts, Trace, near_refusal, refusal_of};
 ghost use Rattle.trace_files.specs.Copies.{HasStopped, IsJudged, IsOther, any, difference};
+ghost use Rattle.trace_files.specs.Copies.{unfiltered};
 ghost use Rattle.trace_files.specs.Copying.{AreAlike, IsAccepted, IsCopied, IsCutShort};
 ghost use Rattle.trace_files.specs.Copying.{IsUnderWay};
 
@@ -25,7 +26,7 @@ use std::alloc::Global;
 use trace_format::{TraceFault, TraceRecord};
 use trace_passes::{Cursor, Observer, Passed, Refusal, Wanted, pass};
 
-// Any trace will do.
+// Any trace will do, and no line is too wide for its regions.
 pub(crate) fn any() -> Wanted
     ensures { result ≡ any }
 {
@@ -33,6 +34,17 @@ pub(crate) fn any() -> Wanted
         harts: None,
         first: None,
         pcs: false,
+        lines: Some(0),
+    }
+}
+
+// Any will do that isn't filtered.
+fn unfiltered() -> Wanted
+    ensures { result ≡ unfiltered }
+{
+    Wanted {
+        lines: None,
+        ..any()
     }
 }
 
@@ -73,7 +85,7 @@ pub(crate) fn accept<S: Shelf>(
         → HasStopped (S.outside shelf.new).held name.now names outputs
         (S.outside shelf.old) (S.outside shelf.new) fault) }
 {
-    match pass(alloc, shelf, name, &any(), &mut Unseeing) {
+    match pass(alloc, shelf, name, &unfiltered(), &mut Unseeing) {
         Ok(passed) => Ok(passed),
         Err(fault) => Err(first_fault(fault)),
     }
@@ -132,13 +144,14 @@ pub(crate) fn copy_records<S: Shelf, T: Target>(
         → IsOutputs (T.waiting target.old) (T.files target.old []) before (S.outside shelf.old)
         → IsCutShort (S.outside shelf.new).held name.now (T.files target.old)
         before (S.outside shelf.new) fault) }
+    ensures plain { IfOk result (λ passed. near_refusal None passed.header.near ≡ None) }
     ensures unrefused { (refusal : Refused) → result ≢ Err (CopyFault.Refused refusal) }
     ensures changed { (refusal : Refused) → result ≡ Err (CopyFault.Changed refusal)
         → IsJudged (S.outside shelf.new).held name.now (Some refusal) }
     ensures shown { IfOk result (λ passed. HasShown name.now (HasParts passed)
         (S.outside shelf.old).given (S.outside shelf.new).given) }
     ensures found { (refusal : Refused) → result ≡ Err (CopyFault.Changed refusal)
-        → HasShown name.now (λ file. refusal_of any file ≡ Some refusal)
+        → HasShown name.now (λ file. refusal_of unfiltered file ≡ Some refusal)
         (S.outside shelf.old).given (S.outside shelf.new).given }
     ensures tells { Narrows (S.outside shelf.old).held (S.outside shelf.new).held }
 {
@@ -147,7 +160,7 @@ pub(crate) fn copy_records<S: Shelf, T: Target>(
         Err(fault) => return Err(second_fault(fault)),
     };
     'pieces: loop {
-        match cursor.advance(shelf, name, &any()) {
+        match cursor.advance(shelf, name, &unfiltered()) {
             Ok(Some(passed)) => return Ok(passed),
             Ok(None) => match put_all(shelf, target, cursor.items()) {
                 Ok(()) => {}
@@ -158,9 +171,11 @@ pub(crate) fn copy_records<S: Shelf, T: Target>(
     }
 }
 
-// How a second reading is refused beside the first: for another version, header, or number of
-// accesses.
+// How a second reading is refused beside the first, of which neither is filtered: for another
+// version, header, or number of accesses.
 pub(crate) fn differs(first: &Passed, second: &Passed) -> Option<Refusal>
+    requires first { first.now.header.near ≡ 0 }
+    requires second { second.now.header.near ≡ 0 }
     ensures value { result ≡ difference first.now second.now }
     ensures alike { result ≡ None → AreAlike first.now second.now }
     ensures other { first.now ≡ second.now → result ≡ None }

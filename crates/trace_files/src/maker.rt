@@ -14,10 +14,10 @@ ghost use Rattle.trace_files.specs.OneTrace.{HasPut, IsOnItsWay, so_far};
 use crate::numbers::{FIRST_STATE, access_at, next_state};
 use crate::target::Target;
 use crate::trace_file::TraceFile;
-use base::{Ending, Outcome};
+use base::Outcome;
 use shelf::{Shelf, ShelfError};
 use std::alloc::Global;
-use trace_format::{Header, TraceRecord, Version};
+use trace_format::{Header, TraceEnd, TraceRecord, Version};
 use trace_passes::Observer;
 
 // After how many accesses what waits is appended: with the header and the end it is less than
@@ -137,10 +137,11 @@ fn end<S: Shelf, O: Observer>(
         → AreCut (so_far file.old (all_records (made count))) before
         (S.outside shelf.new) error) }
 {
-    let ending = Ending {
+    let ending = TraceEnd {
         outcome: Outcome::Exit(0),
         steps: count,
         accesses: count,
+        whole: None,
     };
     match note_record(shelf, file, observer, &TraceRecord::End(ending)) {
         Ok(()) => file.finish(shelf),
@@ -173,7 +174,11 @@ pub fn make_trace<S: Shelf, O: Observer>(
     ensures cut { IfErr result (λ error. AreCut (made_file name.now count)
         (S.outside shelf.old) (S.outside shelf.new) error) }
 {
-    let header = Header { first: 0, harts: 8 };
+    let header = Header {
+        first: 0,
+        harts: 8,
+        near: 0,
+    };
     let mut file = match TraceFile::begin(alloc, shelf, name, Version::One, header) {
         Ok(file) => file,
         Err(error) => return Err(error),

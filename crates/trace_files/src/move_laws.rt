@@ -5,6 +5,7 @@ ghost use Rattle.base.specs.Touch.{IsAllowed, Touch};
 ghost use Rattle.trace_format.specs.Rules.{longest_trace, touches_in};
 ghost use Rattle.trace_passes.specs.Passes.{Trace, spell_trace, trace_of};
 ghost use Rattle.trace_files.specs.declared.move_row.Move.{Move};
+ghost use Rattle.trace_files.specs.Copies.{IsUnfiltered};
 ghost use Rattle.trace_files.specs.Moves.{IsFree, KeepsAccesses, KeepsBytes, KeepsWords, moved_list};
 ghost use Rattle.trace_files.specs.Moving.{fault_of, moved, moving, written_of};
 ghost use Rattle.trace_files.specs.Tables.{IsTable};
@@ -27,12 +28,15 @@ pub fn a_free_list_keeps_its_words()
     ensures none { (accesses : List Touch) → moved_list [] accesses ≡ accesses }
 {}
 
-/// A trace isn't refused exactly where its list is free. Bytes that aren't refused are a trace, and all
-/// of the moved trace is written of these. By a table that keeps its rules, a moved trace of at most
-/// 2^44 bytes is a trace, whose accesses are the moved list. Nothing is done.
+/// A trace isn't refused exactly where it isn't filtered and its list is free. Bytes that aren't
+/// refused are a trace, and all of the moved trace is written of these. By a table that keeps its
+/// rules, a moved trace of at most 2^44 bytes is a trace, whose accesses are the moved list. Nothing
+/// is done.
 pub fn a_moved_trace_is_a_trace()
     ensures accepted { (table : List Move) (bytes : List ℕ) (t : Trace) → trace_of bytes ≡ Some t
-        → IsFree table (touches_in t.items) → fault_of table bytes ≡ None }
+        → IsUnfiltered t → IsFree table (touches_in t.items) → fault_of table bytes ≡ None }
+    ensures unfiltered { (table : List Move) (bytes : List ℕ) (t : Trace)
+        → trace_of bytes ≡ Some t → fault_of table bytes ≡ None → IsUnfiltered t }
     ensures free { (table : List Move) (bytes : List ℕ) (t : Trace) → trace_of bytes ≡ Some t
         → fault_of table bytes ≡ None → IsFree table (touches_in t.items) }
     ensures found { (table : List Move) (bytes : List ℕ) → fault_of table bytes ≡ None

@@ -8,10 +8,11 @@ ghost use Rattle.trace_format.specs.declared.record.TraceRecord.{TraceRecord as 
 ghost use Rattle.trace_format.specs.declared.record.TraceRecord.TheVariants as records;
 ghost use Rattle.trace_format.specs.declared.record.Version.{Version as AVersion};
 ghost use Rattle.trace_format.specs.Rules.{IsGoodHeader, IsWritable};
+ghost use Rattle.trace_passes.specs.Passes.{near_refusal};
 ghost use Rattle.trace_files.specs.declared.move_row.Move.{Move};
 ghost use Rattle.trace_files.specs.Movers.{HasMoved, MayPut};
 ghost use Rattle.trace_files.specs.Moves.{is_moved, is_taken, moved_in};
-ghost use Rattle.trace_files.specs.Moving.{is_in_the_way, moved_so_far};
+ghost use Rattle.trace_files.specs.Moving.{is_in_the_way, moved_so_far, narrowed};
 
 use crate::MoveTable;
 use crate::trace_outputs::TraceOutputs;
@@ -62,6 +63,17 @@ fn counted(moved: u64, goes: bool) -> u64
     if goes { moved + 1 } else { moved }
 }
 
+// The header of the moved trace.
+fn narrowed(header: Header) -> Header
+    ensures value { result ≡ narrowed header }
+    ensures good { IsGoodHeader header → IsGoodHeader result }
+{
+    Header {
+        near: header.near.min(8),
+        ..header
+    }
+}
+
 impl<'a> Mover<'a> {
     // Nothing is begun.
     pub(crate) fn new(alloc: Global, name: &'a str) -> Mover<'a>
@@ -86,6 +98,7 @@ impl<'a> Mover<'a> {
         header: Header,
     ) -> Result<(), ShelfError>
         requires good { IsGoodHeader header }
+        requires plain { near_refusal None header.near ≡ None }
         requires way { (table : List Move) × (before : Outside)
             × HasMoved table self.old.name.now self.old None [] before (S.outside shelf.old) }
         ensures moved { OnOk result ((table : List Move) (before : Outside)
@@ -101,7 +114,7 @@ impl<'a> Mover<'a> {
     {
         match self
             .files
-            .begin_trace(alloc, shelf, 0, self.name, version, header)
+            .begin_trace(alloc, shelf, 0, self.name, version, narrowed(header))
         {
             Ok(writer) => {
                 self.writer = writer;

@@ -80,8 +80,7 @@ fn end_refused<S: Shelf>(
         → HasMoved table.now mover.old.name.now mover.old known seen before (S.outside shelf.old)
         → Follows known seen (version_and_header cursor.now.reading.progress) cursor.now.items
         → EndsAt table.now mover.old.name.now (version_and_header cursor.now.reading.progress)
-        (seen ++ cursor.now.items) before (S.outside shelf.new) result }
-    ensures refused { (other : Refused) → result ≡ MoveFault.Refused other → other ≡ refusal }
+        (seen ++ cursor.now.items) before (S.outside shelf.new) refusal result }
     ensures tells { (S.outside shelf.new).held ≡ (S.outside shelf.old).held }
 {
     match take(alloc, shelf, table, mover, cursor.head(), cursor.items()) {
@@ -99,11 +98,11 @@ fn end_refused<S: Shelf>(
 /// go to, and the same end. Blocks and symbols stay where they were.
 ///
 /// The trace is read once, in pieces, and no more of it is kept than a piece has. The file is begun
-/// once the header is accepted; where a fault comes before that, it is as it was. An access that is
-/// in no range and lies in a place is `Occupied`, where no fault of the trace comes before it; the
-/// file has all records before it then, as it has those before a fault of the trace. At any other
-/// fault it is a front of that. `ReadFault` comes only where the faults of reading the trace rose,
-/// and `WriteFault` only where those of writing the file rose.
+/// once the header is accepted; where a fault comes before that, it is as it was. A filtered trace is
+/// `Filtered` there. An access that is in no range and lies in a place is `Occupied`, where no fault
+/// of the trace comes before it; the file has all records before it then, as it has those before a
+/// fault of the trace. At any other fault it is a front of that. `ReadFault` comes only where the
+/// faults of reading the trace rose, and `WriteFault` only where those of writing the file rose.
 pub fn move_trace<S: Shelf>(
     alloc: Global,
     shelf: &mut S,
@@ -111,7 +110,8 @@ pub fn move_trace<S: Shelf>(
     table: &MoveTable,
     file: &str,
 ) -> Result<Moved, MoveFault>
-    // The file is the moved trace that the trace's bytes are, none of whose accesses is in the way.
+    // The file is the moved trace that the trace's bytes are, which isn't filtered and none of whose
+    // accesses is in the way.
     ensures moved { IfOk result (λ made. HasCopied (S.outside shelf.new).held trace.now
         (moving table.now file.now) (IsCounted table.now made)
         (S.outside shelf.old) (S.outside shelf.new)) }

@@ -10,7 +10,7 @@ ghost use Rattle.trace_format.specs.Spelling.{spell_ending};
 ghost use Rattle.trace_passes.specs.declared.wanted.Refusal.{Refusal as Refused};
 ghost use Rattle.trace_passes.specs.declared.wanted.Refusal.TheVariants as refusals;
 ghost use Rattle.trace_format.specs.Splits.{HasSeen, headers_of};
-ghost use Rattle.trace_files.specs.Copies.{HasCopied, HasStopped, IsJudged, StaysWhereRefused};
+ghost use Rattle.trace_files.specs.Copies.{IsUnfiltered, HasCopied, HasStopped, IsJudged, StaysWhereRefused};
 ghost use Rattle.trace_files.specs.Copies.{IsOther, halves};
 ghost use Rattle.trace_files.specs.Copying.{HasChanged, HasSplit, IsAccepted, halves_so_far};
 
@@ -19,10 +19,11 @@ use crate::copy::{accept, copy_again};
 use crate::copy_fault::write_fault;
 use crate::target::Target;
 use crate::trace_outputs::TraceOutputs;
-use base::Ending;
 use shelf::{Shelf, ShelfError};
 use std::alloc::Global;
-use trace_format::{Side, Splitter, TraceRecord, TraceWriter, Version, a_trace_is_cut_in_two};
+use trace_format::{
+    Side, Splitter, TraceEnd, TraceRecord, TraceWriter, Version, a_trace_is_cut_in_two,
+};
 use trace_passes::Passed;
 
 /// How many accesses each half of a trace has.
@@ -72,8 +73,9 @@ impl<'a> Splitting<'a> {
     fn finish<S: Shelf>(
         &mut self,
         shelf: &mut S,
-        first: Ending,
-        second: Ending,
+        version: Version,
+        first: TraceEnd,
+        second: TraceEnd,
     ) -> Result<(), ShelfError>
         requires count { length self.old.files ≡ 2 }
         requires begun { AreBegun (names_of self.old.files) (S.outside shelf.old) }
@@ -81,26 +83,23 @@ impl<'a> Splitting<'a> {
         requires second { IsAllowedEnd second.steps second.outcome }
         ensures written { OnOk result ((outputs : List Output) (before : Outside)
             → IsOutputs self.old.files outputs before (S.outside shelf.old)
-            → AreWritten (outputs_with (outputs_with outputs 0 (spell_ending first)) 1
-            (spell_ending second)) before (S.outside shelf.new)) }
+            → AreWritten (outputs_with (outputs_with outputs 0 (spell_ending version first)) 1
+            (spell_ending version second)) before (S.outside shelf.new)) }
         ensures cut { IfErr result (λ error. (outputs : List Output) (before : Outside)
             → IsOutputs self.old.files outputs before (S.outside shelf.old)
-            → AreCut (outputs_with (outputs_with outputs 0 (spell_ending first)) 1
-            (spell_ending second)) before (S.outside shelf.new) error) }
+            → AreCut (outputs_with (outputs_with outputs 0 (spell_ending version first)) 1
+            (spell_ending version second)) before (S.outside shelf.new) error) }
         ensures tells { (S.outside shelf.new).held ≡ (S.outside shelf.old).held }
     {
         let (first, second) = (TraceRecord::End(first), TraceRecord::End(second));
-        match self
-            .files
-            .put_record(shelf, 0, &mut self.first_writer, &first)
-        {
+        // No end is spelled against the records before it.
+        let mut first_writer = TraceWriter::new(version);
+        let mut second_writer = TraceWriter::new(version);
+        match self.files.put_record(shelf, 0, &mut first_writer, &first) {
             Ok(()) => {}
             Err(error) => return Err(error),
         }
-        match self
-            .files
-            .put_record(shelf, 1, &mut self.second_writer, &second)
-        {
+        match self.files.put_record(shelf, 1, &mut second_writer, &second) {
             Ok(()) => {}
             Err(error) => return Err(error),
         }
@@ -167,7 +166,7 @@ fn split_accepted<'a, S: Shelf>(
     ensures copied { IfOk result (λ made. HasCopied (S.outside shelf.new).held name.now
         (halves at first.now second.now)
         (λ t. (made.cut ≡ min at (length (touches_in t.items)))
-        × (made.rest ≡ length (touches_in t.items) - made.cut))
+        × (made.rest ≡ length (touches_in t.items) - made.cut) × IsUnfiltered t)
         (S.outside shelf.old) (S.outside shelf.new)) }
     ensures unrefused { (refusal : Refused) → result ≢ Err (CopyFault.Refused refusal) }
     ensures changed { (refusal : Refused) → result ≡ Err (CopyFault.Changed refusal)
@@ -191,7 +190,7 @@ fn split_accepted<'a, S: Shelf>(
     };
     let (before, after) = splitter.endings(again.ending);
     let (cut, rest) = (before.accesses, after.accesses);
-    match target.finish(shelf, before, after) {
+    match target.finish(shelf, passed.version, before, after) {
         Ok(()) => Ok(Halves { cut, rest }),
         Err(error) => Err(write_fault(error)),
     }
@@ -222,7 +221,7 @@ pub fn split_trace<S: Shelf>(
     ensures copied { IfOk result (λ made. HasCopied (S.outside shelf.new).held name.now
         (halves at first.now second.now)
         (λ t. (made.cut ≡ min at (length (touches_in t.items)))
-        × (made.rest ≡ length (touches_in t.items) - made.cut))
+        × (made.rest ≡ length (touches_in t.items) - made.cut) × IsUnfiltered t)
         (S.outside shelf.old) (S.outside shelf.new)) }
     ensures memory { result ≢ Err (CopyFault.Refused (refusals.Trace trace_faults.NoMemory)) }
     // At a refusal the trace was read, and neither half is begun.

@@ -10,6 +10,7 @@ ghost use Rattle.trace_format.specs.Rules.{IsGoodHeader, IsWritable};
 ghost use Rattle.trace_files.specs.declared.move_row.Move.{Move};
 ghost use Rattle.trace_files.specs.Movers.{Follows, HasMoved, MayPut, MayTake, StopsAt};
 ghost use Rattle.trace_files.specs.Moving.{addr_of, is_in_the_way};
+ghost use Rattle.trace_passes.specs.Passes.{near_refusal};
 
 use crate::move_fault::write_fault;
 use crate::mover::Mover;
@@ -17,6 +18,7 @@ use crate::{MoveFault, MoveTable};
 use shelf::Shelf;
 use std::alloc::Global;
 use trace_format::{Header, TraceRecord, Version};
+use trace_passes::Refusal;
 
 // The address of an access that stays where one may go.
 fn in_the_way(table: &MoveTable, item: &TraceRecord) -> Option<u32>
@@ -95,7 +97,18 @@ fn put_all<S: Shelf>(
     Ok(())
 }
 
-// Begins the file, unless it is.
+// How an accepted header is refused, if it is: that of a filtered trace.
+fn refusal_of_header(header: Header) -> Option<Refusal>
+    ensures { result ≡ near_refusal None header.near }
+{
+    if header.near == 0 {
+        None
+    } else {
+        Some(Refusal::Filtered)
+    }
+}
+
+// Begins the file, unless it is, or the header is refused.
 fn begin_once<S: Shelf>(
     alloc: Global,
     shelf: &mut S,
@@ -125,6 +138,9 @@ fn begin_once<S: Shelf>(
 {
     if mover.begun {
         return Ok(());
+    }
+    if let Some(refusal) = refusal_of_header(header) {
+        return Err(MoveFault::Refused(refusal));
     }
     match mover.begin(alloc, shelf, version, header) {
         Ok(()) => Ok(()),

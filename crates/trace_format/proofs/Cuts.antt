@@ -7,7 +7,7 @@ use Rattle.std.proofs.lemmas.Bool.Decides.{nat_tests}
 use Rattle.std.proofs.lemmas.List.{append-nil, length-append}
 use Rattle.std.proofs.lemmas.List.Elements.{All-head, All-tail, filter_map-append}
 use Rattle.std.proofs.Math.Seq.{take-nil, drop-nil}
-use Rattle.base.specs.declared.ending.Ending.{Ending}
+use Rattle.trace_format.specs.declared.record.TraceEnd.{TraceEnd}
 use Rattle.base.specs.Touch.{Touch}
 use Rattle.trace_format.specs.declared.record.TraceRecord.{TraceRecord}
 use Rattle.trace_format.specs.declared.record.TraceRecord.TheVariants as records
@@ -97,7 +97,7 @@ second_side cut seen (records.End e) inner high = absurd inner
 -- ---- whole traces
 
 -- once the access at the cut is met, all goes to the second half
-later_second : (cut : ℕ) (seen items : List TraceRecord) (e : Ending) → cut < touch_count seen
+later_second : (cut : ℕ) (seen items : List TraceRecord) (e : TraceEnd) → cut < touch_count seen
     → All IsInner items
     → halves_behind cut seen (items ++ records.End e ∷ []) ≡ ([], items)
 later_second cut seen [] e past inner = refl
@@ -152,7 +152,7 @@ quiet_count : (cut k : ℕ) (seen : List TraceRecord) (item : TraceRecord) → t
     → touches_in (item ∷ []) ≡ [] → touch_count (seen ++ item ∷ []) + k ≡ cut
 quiet_count cut k seen item is none = let same = quiet_more seen item none in omega arith
 
-cut_behind : (cut k : ℕ) (seen items : List TraceRecord) (e : Ending) → touch_count seen + k ≡ cut
+cut_behind : (cut k : ℕ) (seen items : List TraceRecord) (e : TraceEnd) → touch_count seen + k ≡ cut
     → All IsInner items
     → IsCutInTwo k items (halves_behind cut seen (items ++ records.End e ∷ []))
 cut_behind cut k seen [] e is inner =
@@ -196,7 +196,7 @@ cut_behind cut k seen (records.Symbol kind addr size name ∷ items) e is inner 
 cut_behind cut k seen (records.End end ∷ items) e is inner = absurd
     (All-head IsInner (records.End end) items inner)
 
-pub cut_in_two : (cut : ℕ) (items : List TraceRecord) (e : Ending) → All IsInner items
+pub cut_in_two : (cut : ℕ) (items : List TraceRecord) (e : TraceEnd) → All IsInner items
     → IsCutInTwo cut items (halves_behind cut [] (items ++ records.End e ∷ []))
 cut_in_two cut items e inner = cut_behind cut cut [] items e (omega arith) inner
 

@@ -1,6 +1,6 @@
 -- An end is given exactly where the bytes so far are a trace, and else their first fault.
 use Rattle.std.proofs.Common.{◌≡◌, ℕ, List, Ok, Err, sym, ap, ◌∙◌}
-use Rattle.base.specs.declared.ending.Ending.{Ending}
+use Rattle.trace_format.specs.declared.record.TraceEnd.{TraceEnd}
 use Rattle.trace_format.specs.declared.fault.TraceFault.{TraceFault}
 use Rattle.trace_format.specs.declared.record.TraceRecord.{TraceRecord}
 use Rattle.trace_format.specs.Faults.{HasFault}
@@ -9,7 +9,7 @@ use Rattle.trace_format.specs.Reading.{Reading, ending_of, reading_of}
 use Rattle.trace_format.specs.Laws.Traces.{trace_again}
 use Rattle.trace_format.specs.ReaderStates.{HasRead, ReadsFault, ReadsTrace}
 
-module _ (now : Reading) (bytes : List ℕ) (first items : List TraceRecord) (e : Ending)
+module _ (now : Reading) (bytes : List ℕ) (first items : List TraceRecord) (e : TraceEnd)
     (has : HasRead bytes first now items) where
   pub end_is_of_trace : (ending_of (reading_of bytes).1 ≡ Ok e
       → IsTraceOf bytes (reading_of bytes).0 e) → ending_of now ≡ Ok e

@@ -2,7 +2,7 @@
 use Rattle.std.proofs.Common.{◌≡◌, ℕ, ◌+◌, ◌≤◌, ◌<◌, inl, inr, List, [], ◌∷◌, ◌++◌, length}
 use Rattle.std.proofs.Common.{Option, Some, None, Err, refl, sym, ap, ◌∙◌, arith}
 use Rattle.std.proofs.lemmas.List.{append-nil, length-append}
-use Rattle.base.specs.declared.ending.Ending.{Ending}
+use Rattle.trace_format.specs.declared.record.TraceEnd.{TraceEnd}
 use Rattle.trace_format.specs.declared.fault.TraceFault.{TraceFault}
 use Rattle.trace_format.specs.declared.fault.TraceFault.TheVariants as faults
 use Rattle.trace_format.specs.declared.record.TraceRecord.{TraceRecord}
@@ -29,7 +29,7 @@ progress_of nothing = None
 progress_of (unended v h items) = Some (behind v h items)
 progress_of (ended v h items e) = Some (read_whole v h items e)
 
-end_of : Beginning → Option Ending
+end_of : Beginning → Option TraceEnd
 end_of (ended v h items e) = Some e
 end_of _ = None
 
@@ -49,7 +49,7 @@ unfolding progress_of after_one
 place_behind nothing = refl
 place_behind (unended v h items) = refl
 place_behind (ended v h items e) =
-    sym (length-append (begun_with v h items) (spell_ending e))
+    sym (length-append (begun_with v h items) (spell_ending v e))
     ∙ ap length (begun-ended v h items e)
 
 extent_behind : (before : Beginning) (unit : List ℕ)
@@ -93,7 +93,7 @@ module _ (before : Beginning) (unit rest : List ℕ) (f : TraceFault) where
   P : Option ReadSoFar
   P = progress_of before
 
-  E : Option Ending
+  E : Option TraceEnd
   E = end_of before
 
   size : place_reached P + length unit ≡ length (spell_beginning before ++ unit)

@@ -1,13 +1,13 @@
 -- What is judged good is good, and the bytes are its spelling: the end and the header.
 use Rattle.std.proofs.Common.{◌≡◌, ℕ, ◌%◌, ◌^◌, ◌<◌, inl, inr, Bool, true, false, cond, ◌&&◌, eqb}
-use Rattle.std.proofs.Common.{eqb-true, ltb, leb, List, [], ◌∷◌, ◌++◌}
+use Rattle.std.proofs.Common.{eqb-true, ltb, leb, List, [], ◌∷◌, ◌++◌, drop, ◌≤◌}
 use Rattle.std.proofs.Common.{length, get_or, Option, Some, None, Ok, refl, sym, ap, subst}
 use Rattle.std.proofs.Common.{◌∙◌, arith}
 use Rattle.std.specs.Prelude.{find}
 use Rattle.std.proofs.lemmas.Bool.{and_parts, leb-true}
 use Rattle.std.proofs.lemmas.Bool.Decides.{nat_tests}
 use Rattle.std.proofs.lemmas.Option.{same_Some, none-some}
-use Rattle.std.proofs.lemmas.List.{drop_more}
+use Rattle.std.proofs.lemmas.List.{drop_more, drop_all}
 use Rattle.std.specs.Int.{w16, w32, w64, to_le_bytes}
 use Rattle.base.specs.Levels.{is_from_to}
 use Rattle.base.specs.declared.ending.Cause.{Cause}
@@ -17,21 +17,27 @@ use Rattle.base.specs.declared.ending.Cause.TheVariants.{LoadOutside, StoreMisal
 use Rattle.base.specs.declared.ending.Outcome.{Outcome}
 use Rattle.base.specs.declared.ending.Outcome.TheVariants.{Exit, Budget, Deadlock, Trap, Part}
 use Rattle.trace_format.specs.declared.record.Version.{Version}
+use Rattle.trace_format.specs.declared.record.Version.TheVariants.{One, Two, Three, Four}
 use Rattle.trace_format.specs.declared.record.Header.{Header}
 use Rattle.trace_format.specs.declared.tag.Tag.TheVariants as tags
 use Rattle.trace_format.specs.declared.read_so_far.ReadSoFar.{ReadSoFar}
 use Rattle.trace_format.specs.Spelling.{cause_number, magic_of, outcome_fields, spell_ending}
-use Rattle.trace_format.specs.Spelling.{spell_header, spell_outcome}
+use Rattle.trace_format.specs.Spelling.{spell_header, spell_outcome, spell_whole}
 use Rattle.trace_format.specs.Tags.{number_of}
-use Rattle.trace_format.specs.Rules.{FitsFields, IsAllowedEnd, IsGoodEnding, IsGoodHeader}
+use Rattle.trace_format.specs.Rules.{FitsFields, HasRegions, IsAllowedEnd, IsGoodEnding}
+use Rattle.trace_format.specs.Rules.{IsGoodHeader}
 use Rattle.trace_format.specs.Rules.{last_position}
-use Rattle.trace_format.specs.Judging.{begun, cause_of, end_with, fields_judged, header_judged}
+use Rattle.trace_format.specs.Judging.{begun, cause_of, end_extent, end_with, fields_judged}
+use Rattle.trace_format.specs.Judging.{header_judged, highest_first, is_near, is_unused, is_whole}
+use Rattle.trace_format.specs.Judging.{whole_at}
 use Rattle.trace_format.specs.Judging.{outcome_judged, plain_judged}
 use Rattle.base.specs.Fields.{number_at}
 use Rattle.trace_format.specs.Judging.{plain_outcome_of, plain_with, trap_for, trap_judged}
 use Rattle.trace_format.specs.Judging.{version_at}
 use Rattle.trace_format.specs.Laws.Bytes.{IsBytes, below_32, below_64, from_part, last_part, part}
 use Rattle.trace_format.specs.Laws.Bytes.{spelled_16, spelled_32, spelled_64}
+use Rattle.trace_format.specs.Laws.Ends.{end_long, whole_found}
+use Rattle.trace_format.specs.Laws.Headers.{first_low, regions_found}
 use Rattle.trace_format.specs.Laws.Magic.{version_found}
 use Rattle.trace_format.proofs.FoundRecords.{chosen, granted, passed, same_Ok}
 
@@ -168,20 +174,33 @@ outcome_found harts place bytes o is e =
           (plain_outcome_of which value) refl h.1
     ]
 
-pub ending_found : (harts place : ℕ) (bytes : List ℕ) (o : Outcome) → length bytes ≡ 25
+-- what an end has behind the fields that all versions have
+rest_found : (v : Version) (bytes : List ℕ) (o : Outcome) → length bytes ≡ end_extent v
+    → IsBytes bytes → spell_whole v (end_with v bytes o) ≡ drop 25 bytes
+rest_found One bytes o len is = sym (drop_all 25 bytes (omega arith))
+rest_found Two bytes o len is = sym (drop_all 25 bytes (omega arith))
+rest_found Three bytes o len is = sym (drop_all 25 bytes (omega arith))
+rest_found Four bytes o len is = spelled_64 bytes 25 is (omega arith)
+    ∙ sym (last_part bytes 25 8 (omega arith))
+
+pub ending_found : (v : Version) (harts place : ℕ) (bytes : List ℕ) (o : Outcome)
+    → length bytes ≡ end_extent v
     → IsBytes bytes
     → number_of tags.End ≡ get_or bytes 0 0
-    → outcome_judged harts place bytes ≡ Ok o → IsGoodEnding harts (end_with bytes o)
-    × (bytes ≡ spell_ending (end_with bytes o))
+    → outcome_judged harts place bytes ≡ Ok o
+    → is_whole (number_at w64 17 bytes) (whole_at v bytes) ≡ true
+    → IsGoodEnding v harts (end_with v bytes o)
+    × (bytes ≡ spell_ending v (end_with v bytes o))
 unfolding spell_ending
-ending_found harts place bytes o len is tag found =
+ending_found v harts place bytes o len is tag found fits =
     let says = outcome_found harts place bytes o is found in
+    let long : 25 ≤ length bytes = omega (arith, len, end_long v) in
     let which = get_or bytes 1 0 in
     let cause = get_or bytes 2 0 in
-    let joined : ℕ → List ℕ → List ℕ → List ℕ → List ℕ
-    → List ℕ = λ t h v s a. t ∷ which ∷ cause ∷ (h ++ (v ++ (s ++ a))) in
+    let joined : ℕ → List ℕ → List ℕ → List ℕ → List ℕ → List ℕ
+    → List ℕ = λ t h v s a z. t ∷ which ∷ cause ∷ (h ++ (v ++ (s ++ (a ++ z)))) in
     let parts : bytes ≡ joined (get_or bytes 0 0) (part bytes 3 2) (part bytes 5 4) (part bytes 9 8)
-    (part bytes 17 8) =
+    (part bytes 17 8) (drop 25 bytes) =
     drop_more bytes 0 0 (omega arith) ∙ ap (λ (xs : List ℕ). get_or bytes 0 0 ∷ xs)
     (drop_more bytes 1 0 (omega arith)
     ∙ ap (λ (xs : List ℕ). which ∷ xs) (drop_more bytes 2 0 (omega arith)
@@ -190,24 +209,26 @@ ending_found harts place bytes o len is tag found =
     (from_part bytes 5 4 9 refl
     ∙ ap (λ (xs : List ℕ). part bytes 5 4 ++ xs)
     (from_part bytes 9 8 17 refl ∙ ap (λ (xs : List ℕ). part bytes 9 8 ++ xs)
-    (last_part bytes 17 8 (omega arith))))))) in
+    (from_part bytes 17 8 25 refl)))))) in
     let s1 = spelled_16 bytes 3 is (omega arith) in
     let s2 = spelled_32 bytes 5 is (omega arith) in
     let s3 = spelled_64 bytes 9 is (omega arith) in
     let s4 = spelled_64 bytes 17 is (omega arith) in
-    let spelled : spell_ending (end_with bytes o) ≡ joined (get_or bytes 0 0) (part bytes 3 2)
+    let s5 = rest_found v bytes o len is in
+    let spelled : spell_ending v (end_with v bytes o) ≡ joined (get_or bytes 0 0) (part bytes 3 2)
     (part bytes 5 4) (part bytes 9 8)
-    (part bytes 17 8) =
-    ap (λ (xs : List ℕ). 6 ∷ (xs ++ (to_le_bytes w64 (number_at w64 9 bytes) ++ to_le_bytes w64
-    (number_at w64 17 bytes)))) says.spelled
-    ∙ (λ i. joined (tag i) (s1 i) (s2 i) (s3 i) (s4 i)) in
-    let good : IsGoodEnding harts (end_with bytes o) =
+    (part bytes 17 8) (drop 25 bytes) =
+    ap (λ (xs : List ℕ). (6 ∷ (xs ++ (to_le_bytes w64 (number_at w64 9 bytes) ++ to_le_bytes w64
+    (number_at w64 17 bytes)))) ++ spell_whole v (end_with v bytes o)) says.spelled
+    ∙ (λ i. joined (tag i) (s1 i) (s2 i) (s3 i) (s4 i) (s5 i)) in
+    let good : IsGoodEnding v harts (end_with v bytes o) =
     record {
       allowed = says.allowed;
       outcome = says.fits;
       steps = below_64 bytes 9 is;
       accesses =
           below_64 bytes 17 is;
+      whole = whole_found v bytes (number_at w64 17 bytes) fits;
     } in
     (good, parts ∙ sym spelled)
 
@@ -216,6 +237,7 @@ ending_found harts place bytes o len is tag found =
 -- what 20 bytes that are accepted begin
 pub record BeginsWith (bytes : List ℕ) (p : ReadSoFar) : Type 0 where
   pub good : IsGoodHeader p.header
+  pub regions : HasRegions p.version p.header
   pub fresh : p ≡ begun p.version p.header
   pub spelled : bytes ≡ spell_header p.version p.header
 
@@ -228,15 +250,15 @@ fields_found bytes p len is None known e = absurd cc
 fields_found bytes p len is (Some v) known e =
     let first = number_at w64 8 bytes in
     let harts = number_at w16 16 bytes in
-    let two = number_at w16 18 bytes in
-    let made : Header = record { first = first; harts = harts } in
-    let one = passed (ltb last_position first) _ _ p e in
-    let other = granted (is_from_to 1 256 harts && eqb two 0) _ _ p one.1 in
-    let near : ltb last_position first ≡ false = one.0 in
-    let both = and_parts (is_from_to 1 256 harts) (eqb two 0) other.0 in
+    let last = number_at w16 18 bytes in
+    let made : Header = record { first = first; harts = harts; near = last } in
+    let one = passed (ltb (highest_first v) first) _ _ p e in
+    let other = granted (is_from_to 1 256 harts && is_unused v last) _ _ p one.1 in
+    let sized = granted (is_near v last) _ _ p other.1 in
+    let both = and_parts (is_from_to 1 256 harts) (is_unused v last) other.0 in
     let range = and_parts (leb 1 harts) (leb harts 256) both.0 in
     let good : IsGoodHeader made = record {
-      position = grind (arith, nat_tests);
+      position = first_low v first one.0;
       some = leb-true 1 harts range.0;
       few = leb-true harts 256 range.1;
     } in
@@ -248,13 +270,16 @@ fields_found bytes p len is (Some v) known e =
     ∙ ap (λ (xs : List ℕ). part bytes 16 2 ++ xs) (last_part bytes 18 2 (omega arith)))) in
     let s1 = spelled_64 bytes 8 is (omega arith) in
     let s2 = spelled_16 bytes 16 is (omega arith) in
-    let s3 : to_le_bytes w16 0 ≡ part bytes 18 2 = ap (to_le_bytes w16)
-    (sym (eqb-true two 0 both.1))
-    ∙ spelled_16 bytes 18 is (omega arith) in
+    let s3 = spelled_16 bytes 18 is (omega arith) in
     let spelled : spell_header v made ≡ joined (part bytes 8 8) (part bytes 16 2)
     (part bytes 18 2) = λ i. joined (s1 i) (s2 i) (s3 i) in
-    subst (λ (x : ReadSoFar). BeginsWith bytes x) (same_Ok (begun v made) p other.1)
-    (record { good = good; fresh = refl; spelled = parts ∙ sym spelled })
+    subst (λ (x : ReadSoFar). BeginsWith bytes x) (same_Ok (begun v made) p sized.1)
+    (record {
+      good = good;
+      regions = regions_found v first harts last one.0 both.1 sized.0;
+      fresh = refl;
+      spelled = parts ∙ sym spelled;
+    })
 
 pub header_found : (bytes : List ℕ) (p : ReadSoFar) → length bytes ≡ 20 → IsBytes bytes
     → header_judged bytes ≡ Ok p → BeginsWith bytes p

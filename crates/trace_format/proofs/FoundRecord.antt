@@ -9,7 +9,7 @@ use Rattle.base.specs.declared.ending.Outcome.{Outcome}
 use Rattle.trace_format.specs.declared.before.Before.{Before}
 use Rattle.trace_format.specs.declared.fault.TraceFault.{TraceFault}
 use Rattle.trace_format.specs.declared.record.Version.{Version}
-use Rattle.trace_format.specs.declared.record.Version.TheVariants.{One, Two, Three}
+use Rattle.trace_format.specs.declared.record.Version.TheVariants.{One, Two, Three, Four}
 use Rattle.trace_format.specs.declared.record.TraceRecord.{TraceRecord}
 use Rattle.trace_format.specs.declared.record.TraceRecord.TheVariants as records
 use Rattle.trace_format.specs.declared.tag.Tag.{Tag}
@@ -25,7 +25,7 @@ use Rattle.trace_format.specs.Judging.{outcome_judged, record_extent}
 use Rattle.trace_format.specs.Judging.{record_judged, short_touch_judged, sited_touch_judged}
 use Rattle.trace_format.specs.Judging.{symbol_judged, without_pc}
 use Rattle.trace_format.specs.Judging.{symbol_kind_of, tagged_if, tagged_judged, touch_counted}
-use Rattle.trace_format.specs.Judging.{touch_judged}
+use Rattle.trace_format.specs.Judging.{is_whole, touch_judged, whole_at}
 use Rattle.trace_format.specs.Laws.Bytes.{IsBytes}
 use Rattle.trace_format.proofs.FoundRecords.{IsTagAt, ShortTouchIn, SitedTouchIn, TouchIn}
 use Rattle.trace_format.proofs.FoundRecords.{alloc_found}
@@ -46,6 +46,7 @@ touch_in_its : (v : Version) (before : Before) (bytes : List ℕ) (a : Touch) �
 touch_in_its One before bytes a fits is = record { good = refl; spelled = is }
 touch_in_its Two before bytes a fits is = absurd fits
 touch_in_its Three before bytes a fits is = absurd fits
+touch_in_its Four before bytes a fits is = absurd fits
 
 short_touch_in_its : (v : Version) (size : ℕ) (before : Before) (bytes : List ℕ) (a : Touch)
     → ShortTouchIn size v → bytes ≡ spell_short_touch before.last a → IsIn v before bytes a None
@@ -53,13 +54,19 @@ unfolding spell_touch
 short_touch_in_its One size before bytes a fits is = absurd fits
 short_touch_in_its Two size before bytes a fits is = record { good = refl; spelled = is }
 short_touch_in_its Three size before bytes a fits is = absurd fits
+short_touch_in_its Four size before bytes a fits is = absurd fits
 
 sited_touch_in_its : (v : Version) (size : ℕ) (before : Before) (bytes : List ℕ) (a : Touch)
     (pc : ℕ) → SitedTouchIn size v → pc < 2 ^ 32
     → bytes ≡ spell_touch Three before a (Some pc) → IsIn v before bytes a (Some pc)
+unfolding spell_touch
 sited_touch_in_its One size before bytes a pc fits small is = absurd fits
 sited_touch_in_its Two size before bytes a pc fits small is = absurd fits
 sited_touch_in_its Three size before bytes a pc fits small is = record {
+  good = small;
+  spelled = is;
+}
+sited_touch_in_its Four size before bytes a pc fits small is = record {
   good = small;
   spelled = is;
 }
@@ -68,11 +75,13 @@ short_touch_size : (v : Version) (size : ℕ) → ShortTouchIn size v → is_acc
 short_touch_size One size fits = absurd fits
 short_touch_size Two size fits = fits
 short_touch_size Three size fits = absurd fits
+short_touch_size Four size fits = absurd fits
 
 sited_touch_size : (v : Version) (size : ℕ) → SitedTouchIn size v → is_access_size size ≡ true
 sited_touch_size One size fits = absurd fits
 sited_touch_size Two size fits = absurd fits
 sited_touch_size Three size fits = fits
+sited_touch_size Four size fits = fits
 
 -- what an access that is counted was
 record WasTouch (p : ReadSoFar) (j : Result (Touch × Option ℕ) TraceFault) (item : TraceRecord)
@@ -120,8 +129,9 @@ record WasEnd (p : ReadSoFar) (bytes : List ℕ) (j : Result Outcome TraceFault)
     (item : TraceRecord) : Type 0 where
   outcome : Outcome
   judged : j ≡ Ok outcome
-  is : records.End (end_with bytes outcome) ≡ item
+  is : records.End (end_with p.version bytes outcome) ≡ item
   there : number_at w64 17 bytes ≡ p.counted
+  fits : is_whole (number_at w64 17 bytes) (whole_at p.version bytes) ≡ true
 
 was_end : (p : ReadSoFar) (bytes : List ℕ) (j : Result Outcome TraceFault) (item : TraceRecord)
     → end_counted p bytes j ≡ Ok item
@@ -129,11 +139,13 @@ was_end : (p : ReadSoFar) (bytes : List ℕ) (j : Result Outcome TraceFault) (it
 was_end p bytes (Err fault) item e = absurd cc
 was_end p bytes (Ok o) item e =
     let g = granted (eqb (number_at w64 17 bytes) p.counted) _ _ item e in
+    let fits = granted (is_whole (number_at w64 17 bytes) (whole_at p.version bytes)) _ _ item g.1 in
     record {
       outcome = o;
       judged = refl;
-      is = same_Ok (records.End (end_with bytes o)) item g.1;
+      is = same_Ok (records.End (end_with p.version bytes o)) item fits.1;
       there = eqb-true (number_at w64 17 bytes) p.counted g.0;
+      fits = fits.0;
     }
 
 alloc_is : (p : ReadSoFar) (bytes : List ℕ)
@@ -147,7 +159,7 @@ module _ (p : ReadSoFar) (bytes : List ℕ) (item : TraceRecord) (few : p.header
     (low : IsGoodBefore p.before) (is : IsBytes bytes)
   where
     tagged_found : (tag : Tag) → IsTagAt p.version (get_or bytes 0 0) tag → length bytes
-        ≡ extent_of tag bytes
+        ≡ extent_of p.version tag bytes
         → tagged_judged p tag bytes ≡ Ok item
         → IsFound p bytes item
     unfolding symbol_judged
@@ -201,11 +213,12 @@ module _ (p : ReadSoFar) (bytes : List ℕ) (item : TraceRecord) (few : p.header
         record { good = f.0; there = f.2; spelled = f.1 }
     tagged_found tags.End at len e =
         let w = was_end p bytes (outcome_judged p.header.harts p.place bytes) item e in
-        let f = ending_found p.header.harts p.place bytes w.outcome len is at.number w.judged in
+        let f = ending_found p.version p.header.harts p.place bytes w.outcome len is at.number
+        w.judged w.fits in
         subst (IsFound p bytes) w.is (record { good = f.0; there = w.there; spelled = f.1 })
 
     found_if : (tag : Option Tag) → tag_of p.version (get_or bytes 0 0) ≡ tag → length bytes
-        ≡ extent_if tag bytes
+        ≡ extent_if p.version tag bytes
         → tagged_if p tag bytes ≡ Ok item
         → IsFound p bytes item
     found_if None known len e = absurd cc

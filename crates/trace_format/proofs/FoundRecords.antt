@@ -19,7 +19,7 @@ use Rattle.base.specs.declared.access.Kind.TheVariants.{Read, Write}
 use Rattle.trace_format.specs.declared.before.Before.{Before}
 use Rattle.trace_format.specs.declared.fault.TraceFault.{TraceFault}
 use Rattle.trace_format.specs.declared.record.Version.{Version}
-use Rattle.trace_format.specs.declared.record.Version.TheVariants.{One, Two, Three}
+use Rattle.trace_format.specs.declared.record.Version.TheVariants.{One, Two, Three, Four}
 use Rattle.trace_format.specs.declared.record.TraceRecord.{TraceRecord}
 use Rattle.trace_format.specs.declared.record.TraceRecord.TheVariants as records
 use Rattle.trace_format.specs.declared.tag.Tag.{Tag}
@@ -78,6 +78,7 @@ ShortTouchIn size _ = ⊥
 
 abbrev pub SitedTouchIn : ℕ → Version → Type 0
 SitedTouchIn size Three = is_access_size size ≡ true
+SitedTouchIn size Four = is_access_size size ≡ true
 SitedTouchIn size _ = ⊥
 
 -- which tags a version has
@@ -135,6 +136,14 @@ tag_found Three n tag =
     (tried Three n 34 (tags.SitedTouch Write 2) _ tag (record { number = refl; fits = refl })
     (tried Three n 36 (tags.SitedTouch Write 4) _ tag (record { number = refl; fits = refl })
     (other_found Three n tag))))))
+tag_found Four n tag =
+    tried Four n 17 (tags.SitedTouch Read 1) _ tag (record { number = refl; fits = refl })
+    (tried Four n 18 (tags.SitedTouch Read 2) _ tag (record { number = refl; fits = refl })
+    (tried Four n 20 (tags.SitedTouch Read 4) _ tag (record { number = refl; fits = refl })
+    (tried Four n 33 (tags.SitedTouch Write 1) _ tag (record { number = refl; fits = refl })
+    (tried Four n 34 (tags.SitedTouch Write 2) _ tag (record { number = refl; fits = refl })
+    (tried Four n 36 (tags.SitedTouch Write 4) _ tag (record { number = refl; fits = refl })
+    (other_found Four n tag))))))
 
 -- ---- accesses
 

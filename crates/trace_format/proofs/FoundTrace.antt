@@ -7,7 +7,7 @@ use Rattle.std.proofs.lemmas.Bool.Decides.{nat_tests}
 use Rattle.std.proofs.lemmas.Bool.{cases_lt}
 use Rattle.std.proofs.lemmas.List.{append-nil, length-append, take-append-le}
 use Rattle.std.proofs.lemmas.List.Elements.{All-append, All-cons, All-head, All-nil, All-tail}
-use Rattle.base.specs.declared.ending.Ending.{Ending}
+use Rattle.trace_format.specs.declared.record.TraceEnd.{TraceEnd}
 use Rattle.trace_format.specs.declared.fault.TraceFault.{TraceFault}
 use Rattle.trace_format.specs.declared.fault.TraceFault.TheVariants as faults
 use Rattle.trace_format.specs.declared.record.TraceRecord.{TraceRecord}
@@ -15,7 +15,7 @@ use Rattle.trace_format.specs.declared.record.TraceRecord.TheVariants as records
 use Rattle.trace_format.specs.declared.read_so_far.ReadSoFar.{ReadSoFar}
 use Rattle.trace_format.specs.Spelling.{before_after, nothing_before, spell, spell_header}
 use Rattle.trace_format.specs.Spelling.{spell_record}
-use Rattle.trace_format.specs.Rules.{IsGoodBefore, IsGoodHeader, IsGoodRecord, IsInner}
+use Rattle.trace_format.specs.Rules.{HasRegions, IsGoodBefore, IsGoodHeader, IsGoodRecord, IsInner}
 use Rattle.trace_format.specs.Rules.{last_position}
 use Rattle.trace_format.specs.Rules.{longest_trace, touches_in}
 use Rattle.trace_format.specs.Judging.{header_judged, record_extent, record_judged}
@@ -48,7 +48,7 @@ counted-more xs x =
 
 -- ---- what waits is judged as soon as its bytes are there
 
-grown : (p : Option ReadSoFar) (e : Option Ending) (xs : List ℕ) (b : ℕ)
+grown : (p : Option ReadSoFar) (e : Option TraceEnd) (xs : List ℕ) (b : ℕ)
     → length xs < extent_at p e xs
     → length xs < extent_at p e (xs ++ b ∷ [])
 grown p e xs b waits =
@@ -70,6 +70,7 @@ grown p e xs b waits =
 record IsOpen (bytes : List ℕ) (items : List TraceRecord) (pending : List ℕ)
     (p : ReadSoFar) : Type 0 where
   header : IsGoodHeader p.header
+  regions : HasRegions p.version p.header
   good : All (IsGoodRecord p.version p.header.harts) items
   inner : All IsInner items
   positions : p.header.first + p.counted ≤ last_position
@@ -83,7 +84,7 @@ record IsOpen (bytes : List ℕ) (items : List TraceRecord) (pending : List ℕ)
   fits : All (λ b. b < 256) pending
 
 record IsBefore (bytes : List ℕ) (items : List TraceRecord) (pending : List ℕ)
-    (e : Option Ending) : Type 0 where
+    (e : Option TraceEnd) : Type 0 where
   none : items ≡ []
   no_end : e ≡ None
   same : bytes ≡ pending
@@ -92,17 +93,17 @@ record IsBefore (bytes : List ℕ) (items : List TraceRecord) (pending : List �
 
 -- a whole trace, and nothing that waits
 record IsClosed (bytes : List ℕ) (items : List TraceRecord) (pending : List ℕ) (p : ReadSoFar)
-    (e : Ending) : Type 0 where
+    (e : TraceEnd) : Type 0 where
   trace : IsTraceOf bytes items e
   place : p.place ≡ length bytes
   alone : pending ≡ []
 
-abbrev Keeps : Option ReadSoFar → Option Ending → List ℕ → List TraceRecord → List ℕ → Type 0
+abbrev Keeps : Option ReadSoFar → Option TraceEnd → List ℕ → List TraceRecord → List ℕ → Type 0
 Keeps None e bytes items pending = IsBefore bytes items pending e
 Keeps (Some p) None bytes items pending = IsOpen bytes items pending p
 Keeps (Some p) (Some e) bytes items pending = IsClosed bytes items pending p e
 
-abbrev Stands : Option TraceFault → Option ReadSoFar → Option Ending → List ℕ → List TraceRecord
+abbrev Stands : Option TraceFault → Option ReadSoFar → Option TraceEnd → List ℕ → List TraceRecord
     → List ℕ → Type 0
 Stands (Some fault) p e bytes items pending = Stops bytes items fault
 Stands None p e bytes items pending = Keeps p e bytes items pending
@@ -117,6 +118,7 @@ open_parts bytes items pending p k =
     let counted = k.counted in
     record {
       header = k.header;
+      regions = k.regions;
       records = k.good;
       inner = k.inner;
       positions = omega arith;
@@ -155,7 +157,7 @@ module _ (before : List ℕ) (items : List TraceRecord) (pending : List ℕ) (b 
   unfolding more
   longer = length-append pending (b ∷ [])
 
-  waits_still : (p : Option ReadSoFar) (e : Option Ending) → Keeps p e before items pending
+  waits_still : (p : Option ReadSoFar) (e : Option TraceEnd) → Keeps p e before items pending
       → eqb (place_reached p + length pending) longest_trace ≡ false
       → ltb (length more) (extent_at p e more) ≡ true → Keeps p e bytes (items ++ []) more
   unfolding bytes more
@@ -174,6 +176,7 @@ module _ (before : List ℕ) (items : List TraceRecord) (pending : List ℕ) (b 
       let now : IsOpen bytes items more p =
       record {
         header = k.header;
+        regions = k.regions;
         good = k.good;
         inner = k.inner;
         positions = k.positions;
@@ -190,7 +193,7 @@ module _ (before : List ℕ) (items : List TraceRecord) (pending : List ℕ) (b 
       subst (λ (xs : List TraceRecord). IsOpen bytes xs more p) (sym (append-nil items)) now
   waits_still (Some p) (Some e) k room short = absurd (grind (arith, nat_tests, longer))
 
-  header_stands : (e : Option Ending) → IsBefore before items pending e → length more ≡ 20
+  header_stands : (e : Option TraceEnd) → IsBefore before items pending e → length more ≡ 20
       → (j : Result ReadSoFar TraceFault)
       → header_judged more ≡ j
       → (let now = header_read (waiting None e pending) j in StandsAt bytes (items ++ now.0) now.1)
@@ -223,6 +226,7 @@ module _ (before : List ℕ) (items : List TraceRecord) (pending : List ℕ) (b 
       let now : IsOpen bytes [] [] p =
       record {
         header = found.good;
+        regions = found.regions;
         good = All-nil (IsGoodRecord p.version p.header.harts);
         inner = All-nil IsInner;
         positions = omega arith;
@@ -235,7 +239,7 @@ module _ (before : List ℕ) (items : List TraceRecord) (pending : List ℕ) (b 
         waits = omega (arith, extent_is_some (Some p) None []);
         fits = All-nil (λ b. b < 256);
       } in
-      subst (λ (x : Option Ending). Keeps (Some p) x bytes (items ++ []) []) (sym k.no_end)
+      subst (λ (x : Option TraceEnd). Keeps (Some p) x bytes (items ++ []) []) (sym k.no_end)
       (subst (λ (xs : List TraceRecord). IsOpen bytes xs [] p) (sym (append-nil items ∙ k.none))
       now)
 
@@ -274,6 +278,7 @@ module _ (before : List ℕ) (items : List TraceRecord) (pending : List ℕ) (b 
         let all = begun_with p.version p.header (items ++ item ∷ []) in
         record {
           header = k.header;
+          regions = k.regions;
           good = All-append P items (item ∷ []) k.good (All-cons P item [] found.good (All-nil P));
           inner = All-append IsInner items (item ∷ []) k.inner
               (All-cons IsInner item [] inner (All-nil IsInner));
@@ -289,7 +294,7 @@ module _ (before : List ℕ) (items : List TraceRecord) (pending : List ℕ) (b 
           fits = All-nil (λ b. b < 256);
         }
 
-    closed_after : (e : Ending) → IsFound p more (records.End e)
+    closed_after : (e : TraceEnd) → IsFound p more (records.End e)
         → IsClosed bytes (items ++ records.End e ∷ []) [] (progress_after p (records.End e)
         (length more)) e
     unfolding front
@@ -307,6 +312,7 @@ module _ (before : List ℕ) (items : List TraceRecord) (pending : List ℕ) (b 
             trace = record {
               good = record {
                 header = k.header;
+                regions = k.regions;
                 records = k.good;
                 inner = k.inner;
                 ending = found.good;
@@ -362,7 +368,7 @@ module _ (before : List ℕ) (items : List TraceRecord) (pending : List ℕ) (b 
         (record_found p more item k.header.few k.low (bytes_of more more_fits) len known)
 
   -- a byte behind a whole trace
-  after_end : (p : ReadSoFar) (e : Ending) → IsClosed before items pending p e
+  after_end : (p : ReadSoFar) (e : TraceEnd) → IsClosed before items pending p e
       → eqb (p.place + length pending) longest_trace ≡ false
       → Stops bytes (items ++ []) (faults.AfterEnd p.place)
   unfolding bytes
@@ -390,7 +396,7 @@ module _ (before : List ℕ) (items : List TraceRecord) (pending : List ℕ) (b 
       }
 
   -- a byte that no trace has a place for
-  last_place : (p : Option ReadSoFar) (e : Option Ending) → Keeps p e before items pending
+  last_place : (p : Option ReadSoFar) (e : Option TraceEnd) → Keeps p e before items pending
       → place_reached p + length pending ≡ longest_trace
       → Stops bytes (items ++ []) faults.TooLong
   unfolding bytes
@@ -436,7 +442,7 @@ module _ (before : List ℕ) (items : List TraceRecord) (pending : List ℕ) (b 
         });
       }
 
-  part_stands : (p : Option ReadSoFar) (e : Option Ending) → Keeps p e before items pending
+  part_stands : (p : Option ReadSoFar) (e : Option TraceEnd) → Keeps p e before items pending
       → eqb (place_reached p + length pending) longest_trace ≡ false
       → ltb (length more) (extent_at p e more) ≡ false
       → (let now = part_at (waiting p e pending) p e more in StandsAt bytes (items ++ now.0) now.1)
@@ -453,7 +459,7 @@ module _ (before : List ℕ) (items : List TraceRecord) (pending : List ℕ) (b 
       (record_judged p more) refl
   part_stands (Some p) (Some e) k room long = after_end p e k room
 
-  byte_stands : (f : Option TraceFault) (p : Option ReadSoFar) (e : Option Ending)
+  byte_stands : (f : Option TraceFault) (p : Option ReadSoFar) (e : Option TraceEnd)
       → Stands f p e before items pending
       → (let now = byte_read (record { progress = p; pending = pending; ending = e; fault = f })
       b in StandsAt bytes (items ++ now.0) now.1)
@@ -490,8 +496,8 @@ stands_on (b ∷ bytes) before items r small stands =
     (append_assoc items now.0 all.0) later)
 
 ends : (bytes : List ℕ) (items : List TraceRecord) (f : Option TraceFault) (p : Option ReadSoFar)
-    (ending : Option Ending) (pending : List ℕ)
-    (e : Ending)
+    (ending : Option TraceEnd) (pending : List ℕ)
+    (e : TraceEnd)
     → Stands f p ending bytes items pending
     → ending_of (record { progress = p; pending = pending; ending = ending; fault = f }) ≡ Ok e
     → IsTraceOf bytes items e
@@ -501,11 +507,11 @@ ends bytes items None (Some p) None pending e stands is = absurd cc
 ends bytes items None (Some p) (Some e') pending e stands is = subst (IsTraceOf bytes items)
     (let same : e' ≡ e = cc in same) stands.trace
 
-same_fault : (a b : TraceFault) → (let r : Result Ending TraceFault = Err a in r ≡ Err b) → a ≡ b
+same_fault : (a b : TraceFault) → (let r : Result TraceEnd TraceFault = Err a in r ≡ Err b) → a ≡ b
 same_fault a b is = cc
 
 fault_in : (bytes : List ℕ) (items : List TraceRecord) (f : Option TraceFault)
-    (p : Option ReadSoFar) (ending : Option Ending) (pending : List ℕ) (fault : TraceFault)
+    (p : Option ReadSoFar) (ending : Option TraceEnd) (pending : List ℕ) (fault : TraceFault)
     → Stands f p ending bytes items pending
     → ending_of (record { progress = p; pending = pending; ending = ending; fault = f })
     ≡ Err fault
@@ -569,7 +575,7 @@ stands_from_the_first bytes small =
     } in
     stands_on bytes [] [] begin small first
 
-pub trace_found : (bytes : List ℕ) (e : Ending) → All (λ b. b < 256) bytes
+pub trace_found : (bytes : List ℕ) (e : TraceEnd) → All (λ b. b < 256) bytes
     → ending_of (reading_of bytes).1 ≡ Ok e
     → IsTraceOf bytes (reading_of bytes).0 e
 trace_found bytes e small is =

@@ -15,5 +15,6 @@ pub mod Runs
 pub mod ShortTouches
 pub mod Stops
 pub mod Worked
+mod WorkedFiltered
 pub mod WorkedPcs
 pub mod WriteParts

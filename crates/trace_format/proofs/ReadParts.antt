@@ -5,7 +5,7 @@ use Rattle.std.proofs.Common.{IsSome, refl, sym, ap, subst, ◌∙◌, append_as
 use Rattle.std.proofs.lemmas.List.{append-nil, length-take-le, take_all}
 use Rattle.std.specs.Prelude.{is_some}
 use Rattle.std.proofs.Math.Seq.{take-append_seam}
-use Rattle.base.specs.declared.ending.Ending.{Ending}
+use Rattle.trace_format.specs.declared.record.TraceEnd.{TraceEnd}
 use Rattle.trace_format.specs.declared.fault.TraceFault.{TraceFault}
 use Rattle.trace_format.specs.declared.fault.TraceFault.TheVariants as faults
 use Rattle.trace_format.specs.declared.record.TraceRecord.{TraceRecord}
@@ -25,7 +25,7 @@ abbrev pub WantsMemory : State → Type 0
 WantsMemory s = s.fault ≡ Some faults.NoMemory
 
 -- the bytes of a part are all that it has
-pub front_extent : (p : Option ReadSoFar) (e : Option Ending) (rest front : List ℕ) (n : ℕ) → front
+pub front_extent : (p : Option ReadSoFar) (e : Option TraceEnd) (rest front : List ℕ) (n : ℕ) → front
     ≡ take n rest → n ≡ extent_at p e rest
     → n ≤ length rest → length front ≡ extent_at p e front
 front_extent p e rest front n cut is le =
@@ -34,7 +34,7 @@ front_extent p e rest front n cut is le =
     ≡ extent_at p e rest = (fronts_wait_at p e rest).whole n some le is in
     rw cut (length-take-le n rest le ∙ is ∙ sym whole)
 
-pub part_is_some : (p : Option ReadSoFar) (e : Option Ending) (rest : List ℕ) (n : ℕ) → n
+pub part_is_some : (p : Option ReadSoFar) (e : Option TraceEnd) (rest : List ℕ) (n : ℕ) → n
     ≡ extent_at p e rest → 1 ≤ n
 part_is_some p e rest n is = omega (arith, extent_is_some p e rest)
 
@@ -78,7 +78,7 @@ nothing_read s bytes before clean = record {
   keeps = as_before (reading_with s []) (reading_with s []) bytes refl;
 }
 
-pub one_part : (p : Option ReadSoFar) (e : Option Ending) (f : Option TraceFault) (rest : List ℕ)
+pub one_part : (p : Option ReadSoFar) (e : Option TraceEnd) (f : Option TraceFault) (rest : List ℕ)
     (n : ℕ) → f ≡ None → n ≡ extent_at p e rest
     → n ≤ length rest → place_reached p + n ≤ longest_trace
     → read_on (record { progress = p; pending = []; ending = e; fault = f }) rest ≡ then_read

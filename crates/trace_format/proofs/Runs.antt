@@ -21,9 +21,9 @@ use Rattle.trace_format.proofs.ReadParts.{one_part, part_is_some}
 
 extent_is : (p : ReadSoFar) (bytes : List ℕ) (tag : Tag) → tag_of p.version (get_or bytes 0 0)
     ≡ Some tag
-    → record_extent p.version bytes ≡ extent_of tag bytes
+    → record_extent p.version bytes ≡ extent_of p.version tag bytes
 unfolding record_extent
-extent_is p bytes tag is = ap (λ (t : Option Tag). extent_if t bytes) is
+extent_is p bytes tag is = ap (λ (t : Option Tag). extent_if p.version t bytes) is
 
 judged_is : (p : ReadSoFar) (bytes : List ℕ) (tag : Tag) → tag_of p.version (get_or bytes 0 0)
     ≡ Some tag
@@ -33,7 +33,7 @@ judged_is p bytes tag is = ap (λ (t : Option Tag). tagged_if p t bytes) is
 
 module _ (p : ReadSoFar) (bytes part : List ℕ) (tag : Tag) (n : ℕ)
     (tagged : tag_of p.version (get_or bytes 0 0) ≡ Some tag)
-    (cut : part ≡ take n bytes) (is : n ≡ extent_of tag bytes) (le : n ≤ length bytes) where
+    (cut : part ≡ take n bytes) (is : n ≡ extent_of p.version tag bytes) (le : n ≤ length bytes) where
   extent : n ≡ record_extent p.version bytes
   extent = is ∙ sym (extent_is p bytes tag tagged)
 

@@ -3,7 +3,7 @@ use Rattle.std.proofs.Common.{◌≡◌, ℕ, ◌+◌, List, [], ◌∷◌, ◌+
 use Rattle.std.proofs.Common.{inl, inr, arith}
 use Rattle.std.proofs.lemmas.List.Elements.{All-nil}
 use Rattle.base.specs.declared.access.Kind.TheVariants.{Write}
-use Rattle.base.specs.declared.ending.Ending.{Ending}
+use Rattle.trace_format.specs.declared.record.TraceEnd.{TraceEnd}
 use Rattle.base.specs.declared.ending.Outcome.TheVariants.{Exit}
 use Rattle.trace_format.specs.declared.fault.TraceFault.{TraceFault}
 use Rattle.trace_format.specs.declared.fault.TraceFault.TheVariants as faults
@@ -29,11 +29,11 @@ head version harts = 80 ∷ 82 ∷ 68 ∷ 84 ∷ 82 ∷ 67 ∷ 48 ∷ (48 + vers
 unfoldable pub ended : ℕ → List ℕ
 ended n = 6 ∷ (replicate 8 0 ++ n ∷ (replicate 7 0 ++ n ∷ replicate 7 0))
 
-unfoldable pub what : List ℕ → List TraceRecord × Result Ending TraceFault
+unfoldable pub what : List ℕ → List TraceRecord × Result TraceEnd TraceFault
 what bytes = let r = reading_of bytes in (r.0, ending_of r.1)
 
-unfoldable pub an_end : ℕ → Ending
-an_end n = record { outcome = Exit 0; steps = n; accesses = n }
+unfoldable pub an_end : ℕ → TraceEnd
+an_end n = record { outcome = Exit 0; steps = n; accesses = n; whole = None }
 
 -- writes of 4 bytes at 0x1000 by hart 0, 0x1004 by hart 1, and 0x1000 by hart 0
 writes : List TraceRecord
@@ -70,12 +70,12 @@ module _ where
       writes short_touch_writes
   three_short_touches = refl
 
-  three_spelled : spell One (record { first = 0; harts = 8 }) writes (an_end 3)
+  three_spelled : spell One (record { first = 0; harts = 8; near = 0 }) writes (an_end 3)
       ≡ head 1 8 ++ (plain_writes ++ ended 3)
   unfolding spell spell_header spell_touch spell_ending head ended an_end writes plain_writes
   three_spelled = refl
 
-  three_spelled_shortly : spell Two (record { first = 0; harts = 8 }) writes (an_end 3)
+  three_spelled_shortly : spell Two (record { first = 0; harts = 8; near = 0 }) writes (an_end 3)
       ≡ head 2 8 ++ (short_touch_writes ++ ended 3)
   unfolding spell spell_header spell_touch spell_ending head ended an_end writes short_touch_writes
   three_spelled_shortly = refl
@@ -110,7 +110,7 @@ module _ where
   unfolding byte_read read_on what
   ten_bytes = refl
 
-  no_magic : what (head 4 8) ≡ ([], Err faults.BadMagic)
+  no_magic : what (head 5 8) ≡ ([], Err faults.BadMagic)
   unfolding header_judged byte_read read_on head what
   no_magic = refl
 
@@ -152,12 +152,13 @@ module _ where
 -- ---- where the first fault stands
 
 unfoldable pub eight : Header
-eight = record { first = 0; harts = 8 }
+eight = record { first = 0; harts = 8; near = 0 }
 
 begun_well : IsOpenTrace One eight []
 unfolding eight
 begun_well = record {
   header = record { position = omega arith; some = omega arith; few = omega arith };
+  regions = refl;
   records = All-nil (IsGoodRecord One 8);
   inner = All-nil IsInner;
   positions = omega arith;
@@ -167,6 +168,7 @@ ended_well : IsGoodTrace One eight [] (an_end 0)
 unfolding eight an_end spell spell_header spell_ending
 ended_well = record {
   header = record { position = omega arith; some = omega arith; few = omega arith };
+  regions = refl;
   records = All-nil (IsGoodRecord One 8);
   inner = All-nil IsInner;
   ending = record {
@@ -174,6 +176,7 @@ ended_well = record {
     outcome = omega arith;
     steps = omega arith;
     accesses = omega arith;
+    whole = refl;
   };
   positions = omega arith;
   counted = refl;
@@ -182,11 +185,11 @@ ended_well = record {
 
 module _ where
   -- a header of no version, and what follows doesn't matter
-  magic_stands : (rest : List ℕ) → HasFault (head 4 8 ++ rest) [] faults.BadMagic
+  magic_stands : (rest : List ℕ) → HasFault (head 5 8 ++ rest) [] faults.BadMagic
   unfolding header_judged head
   magic_stands rest = record {
     before = nothing;
-    unit = head 4 8;
+    unit = head 5 8;
     rest = rest;
     good = tt;
     records = refl;

@@ -2,7 +2,7 @@
 use Rattle.std.proofs.Common.{◌≡◌, ℕ, List, [], ◌∷◌, ◌++◌, Some, Result, Ok, Err, refl}
 use Rattle.base.specs.declared.access.Kind.{Kind}
 use Rattle.base.specs.declared.access.Kind.TheVariants.{Read, Write}
-use Rattle.base.specs.declared.ending.Ending.{Ending}
+use Rattle.trace_format.specs.declared.record.TraceEnd.{TraceEnd}
 use Rattle.objects.specs.declared.symbol.SymbolKind.TheVariants.{Function}
 use Rattle.trace_format.specs.declared.fault.TraceFault.{TraceFault}
 use Rattle.trace_format.specs.declared.fault.TraceFault.TheVariants as faults
@@ -90,7 +90,7 @@ module _ where
   whole_read = refl
 
 -- what a trace of two harts says whose records begin so
-says : List ℕ → List TraceRecord × Result Ending TraceFault
+says : List ℕ → List TraceRecord × Result TraceEnd TraceFault
 says bytes = what (head 3 2 ++ bytes)
 
 module _ where

@@ -31,7 +31,7 @@ on_ok (Err e) P Q f p = tt
 
 -- the magic and then the fields
 pub header_spelled : (v : Version) (h : Header) (old new magic fields : List ℕ) → magic ≡ magic_of v
-    → fields ≡ to_le_bytes w64 h.first ++ (to_le_bytes w16 h.harts ++ to_le_bytes w16 0) → new
+    → fields ≡ to_le_bytes w64 h.first ++ (to_le_bytes w16 h.harts ++ to_le_bytes w16 h.near) → new
     ≡ old ++ magic ++ fields
     → new ≡ old ++ spell_header v h
 unfolding spell_header

@@ -2,7 +2,7 @@
 -- unit that is judged at fault, whatever follows.
 use Rattle.std.specs.Prelude.{◌≡◌, ◌⊎◌, ℕ, ◌+◌, ◌<◌, ◌≤◌, List, [], ◌∷◌, ◌++◌, length, Err}
 use Rattle.std.specs.List.{All}
-use Rattle.base.specs.declared.ending.Ending.{Ending}
+use Rattle.trace_format.specs.declared.record.TraceEnd.{TraceEnd}
 use Rattle.trace_format.specs.declared.fault.TraceFault.{TraceFault}
 use Rattle.trace_format.specs.declared.fault.TraceFault.TheVariants as faults
 use Rattle.trace_format.specs.declared.record.Header.{Header}
@@ -11,7 +11,7 @@ use Rattle.trace_format.specs.declared.record.TraceRecord.{TraceRecord}
 use Rattle.trace_format.specs.declared.record.TraceRecord.TheVariants as records
 use Rattle.trace_format.specs.declared.read_so_far.ReadSoFar.{ReadSoFar}
 use Rattle.trace_format.specs.Spelling.{nothing_before, spell}
-use Rattle.trace_format.specs.Rules.{IsGoodHeader, IsGoodRecord, IsGoodTrace, IsInner}
+use Rattle.trace_format.specs.Rules.{HasRegions, IsGoodHeader, IsGoodRecord, IsGoodTrace, IsInner}
 use Rattle.trace_format.specs.Rules.{last_position, longest_trace, touches_in}
 use Rattle.trace_format.specs.Judging.{header_judged, header_length, record_extent, record_judged}
 use Rattle.trace_format.specs.Writing.{before_behind, begun_with}
@@ -24,7 +24,7 @@ pub data Beginning : Type 0 where
   -- the unit is a record, or the end
   unended : Version → Header → List TraceRecord → Beginning
   -- the unit is a byte too many
-  ended : Version → Header → List TraceRecord → Ending → Beginning
+  ended : Version → Header → List TraceRecord → TraceEnd → Beginning
 
 abbrev pub spell_beginning : Beginning → List ℕ
 spell_beginning nothing = []
@@ -39,6 +39,7 @@ records_in (ended v h items e) = items ++ records.End e ∷ []
 -- a header and records of a trace, which no end follows yet
 pub record IsOpenTrace (v : Version) (h : Header) (items : List TraceRecord) : Type 0 where
   pub header : IsGoodHeader h
+  pub regions : HasRegions v h
   pub records : All (IsGoodRecord v h.harts) items
   pub inner : All IsInner items
   pub positions : h.first + length (touches_in items) ≤ last_position

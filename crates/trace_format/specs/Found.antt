@@ -1,7 +1,7 @@
 -- That bytes are what a good record spells.
 use Rattle.std.specs.Prelude.{◌≡◌, ℕ, List, []}
 use Rattle.std.specs.Prelude.{◌++◌, ◌∷◌}
-use Rattle.base.specs.declared.ending.Ending.{Ending}
+use Rattle.trace_format.specs.declared.record.TraceEnd.{TraceEnd}
 use Rattle.trace_format.specs.declared.record.Header.{Header}
 use Rattle.trace_format.specs.declared.record.Version.{Version}
 use Rattle.trace_format.specs.declared.record.TraceRecord.{TraceRecord}
@@ -18,7 +18,7 @@ pub record IsFound (p : ReadSoFar) (bytes : List ℕ) (item : TraceRecord) : Typ
   pub spelled : bytes ≡ spell_record p.version p.before item
 
 -- the bytes are a trace with these records, the last of which is this end
-pub record IsTraceOf (bytes : List ℕ) (all : List TraceRecord) (e : Ending) : Type 0 where
+pub record IsTraceOf (bytes : List ℕ) (all : List TraceRecord) (e : TraceEnd) : Type 0 where
   pub version : Version
   pub header : Header
   pub items : List TraceRecord

@@ -2,6 +2,7 @@
 -- their places in the record,
 -- and are judged in the order written here, once all of them are there.
 use Rattle.std.specs.Prelude.{ℕ, ◌+◌, ◌%◌, ◌==◌, ◌&&◌, nat_eq, nat_lt, nat_le, List, [], ◌∷◌}
+use Rattle.std.specs.Prelude.{Bool, true}
 use Rattle.std.specs.Prelude.{length, take, drop, find, slice_index, Option, Some, None, Result, Ok}
 use Rattle.std.specs.Prelude.{Err, if◌then◌else◌}
 use Rattle.std.specs.List.{starts_with, list_any}
@@ -21,12 +22,12 @@ use Rattle.base.specs.declared.ending.Cause.TheVariants.{StoreMisaligned, StoreO
 use Rattle.base.specs.declared.ending.Outcome.{Outcome}
 use Rattle.base.specs.declared.ending.Outcome.TheVariants.{Exit, Budget, Deadlock, Trap}
 use Rattle.base.specs.declared.ending.Outcome.TheVariants.{Part}
-use Rattle.base.specs.declared.ending.Ending.{Ending}
+use Rattle.trace_format.specs.declared.record.TraceEnd.{TraceEnd}
 use Rattle.trace_format.specs.declared.before.Before.{Before}
 use Rattle.trace_format.specs.declared.fault.TraceFault.{TraceFault}
 use Rattle.trace_format.specs.declared.fault.TraceFault.TheVariants as faults
 use Rattle.trace_format.specs.declared.record.Version.{Version}
-use Rattle.trace_format.specs.declared.record.Version.TheVariants.{One, Two, Three}
+use Rattle.trace_format.specs.declared.record.Version.TheVariants.{One, Two, Three, Four}
 use Rattle.trace_format.specs.declared.record.Header.{Header}
 use Rattle.trace_format.specs.declared.record.TraceRecord.{TraceRecord}
 use Rattle.trace_format.specs.declared.record.TraceRecord.TheVariants as records
@@ -59,24 +60,28 @@ abbrev pub sited_touch_extent : List ℕ → ℕ
 sited_touch_extent bytes =
     let front = short_touch_extent bytes in front + group_count (drop front bytes)
 
+abbrev pub end_extent : Version → ℕ
+end_extent Four = 33
+end_extent _ = 25
+
 -- a record of a tag, as far as its bytes tell
-abbrev pub extent_of : Tag → List ℕ → ℕ
-extent_of (tags.Touch kind) bytes = 8
-extent_of (tags.ShortTouch kind size) bytes = short_touch_extent bytes
-extent_of (tags.SitedTouch kind size) bytes = sited_touch_extent bytes
-extent_of tags.Alloc bytes = 25
-extent_of tags.Free bytes = 5
-extent_of tags.Symbol bytes = symbol_extent bytes
-extent_of tags.End bytes = 25
+abbrev pub extent_of : Version → Tag → List ℕ → ℕ
+extent_of v (tags.Touch kind) bytes = 8
+extent_of v (tags.ShortTouch kind size) bytes = short_touch_extent bytes
+extent_of v (tags.SitedTouch kind size) bytes = sited_touch_extent bytes
+extent_of v tags.Alloc bytes = 25
+extent_of v tags.Free bytes = 5
+extent_of v tags.Symbol bytes = symbol_extent bytes
+extent_of v tags.End bytes = end_extent v
 
 -- The record that begins here is judged once so many bytes are there. A byte that is no tag is
 -- judged at once.
-abbrev pub extent_if : Option Tag → List ℕ → ℕ
-extent_if None bytes = 1
-extent_if (Some tag) bytes = extent_of tag bytes
+abbrev pub extent_if : Version → Option Tag → List ℕ → ℕ
+extent_if v None bytes = 1
+extent_if v (Some tag) bytes = extent_of v tag bytes
 
 unfoldable pub record_extent : Version → List ℕ → ℕ
-record_extent v bytes = extent_if (tag_of v (slice_index bytes 0)) bytes
+record_extent v bytes = extent_if v (tag_of v (slice_index bytes 0)) bytes
 
 -- ---- the header
 
@@ -86,7 +91,8 @@ version_at bytes =
     if starts_with nat_eq bytes (magic_of One) then Some One
     else (if starts_with nat_eq bytes (magic_of Two) then Some Two
     else (if starts_with nat_eq bytes (magic_of Three) then Some Three
-    else None))
+    else (if starts_with nat_eq bytes (magic_of Four) then Some Four
+    else None)))
 
 -- the beginning of a trace with this header
 abbrev pub begun : Version → Header → ReadSoFar
@@ -98,13 +104,30 @@ begun v h = record {
   place = header_length;
 }
 
--- what the fields of a header say, the last of which is zero
+-- the greatest first position: in version 4 positions begin at 0
+abbrev pub highest_first : Version → ℕ
+highest_first Four = 0
+highest_first _ = last_position
+
+-- the last field is zero where a version has no regions
+abbrev pub is_unused : Version → ℕ → Bool
+is_unused Four near = true
+is_unused _ near = near == 0
+
+-- it is from 6 to 16 where a version has them
+abbrev pub is_near : Version → ℕ → Bool
+is_near Four near = is_from_to 6 16 near
+is_near _ near = true
+
+-- what the fields of a header say
 abbrev pub fields_judged : Option Version → ℕ → ℕ → ℕ → Result ReadSoFar TraceFault
-fields_judged None first harts two = Err faults.BadMagic
-fields_judged (Some v) first harts two =
-    if nat_lt last_position first then Err (faults.BadField 8)
-    else (if is_from_to 1 256 harts && (two == 0)
-    then Ok (begun v (record { first = first; harts = harts }))
+fields_judged None first harts near = Err faults.BadMagic
+fields_judged (Some v) first harts near =
+    if nat_lt (highest_first v) first then Err (faults.BadField 8)
+    else (if is_from_to 1 256 harts && is_unused v near
+    then (if is_near v near
+    then Ok (begun v (record { first = first; harts = harts; near = near }))
+    else Err (faults.BadField 18))
     else Err faults.BadHarts)
 
 -- what 20 bytes say of version and header
@@ -154,7 +177,7 @@ with_pc before place told (Ok touch) = if are_groups told then Ok (
   Some (address_at (pc_before before touch.hart) (number_in told)),
 ) else Err (faults.BadField place)
 
--- version 3: an access of version 2, and its pc
+-- versions 3 and 4: an access of version 2, and its pc
 unfoldable pub sited_touch_judged : Kind → ℕ → ℕ → Before → ℕ → List ℕ
     → Result (Touch × Option ℕ) TraceFault
 sited_touch_judged kind size harts before place bytes =
@@ -233,13 +256,24 @@ outcome_judged harts place bytes =
     else plain_judged place (slice_index bytes 1) (slice_index bytes 2) (number_at w16 3 bytes)
     (number_at w32 5 bytes) (number_at w64 9 bytes)
 
+-- how many accesses there were before the list was filtered, which version 4 alone says
+abbrev pub whole_at : Version → List ℕ → Option ℕ
+whole_at Four bytes = Some (number_at w64 25 bytes)
+whole_at _ bytes = None
+
 -- an end of such an outcome
-abbrev pub end_with : List ℕ → Outcome → Ending
-end_with bytes outcome = record {
+abbrev pub end_with : Version → List ℕ → Outcome → TraceEnd
+end_with v bytes outcome = record {
   outcome = outcome;
   steps = number_at w64 9 bytes;
   accesses = number_at w64 17 bytes;
+  whole = whole_at v bytes;
 }
+
+-- where that is said, it is at least as many as there are, and at most 2^40
+abbrev pub is_whole : ℕ → Option ℕ → Bool
+is_whole accesses None = true
+is_whole accesses (Some whole) = nat_le accesses whole && nat_le whole last_position
 
 -- ---- one record
 
@@ -255,9 +289,11 @@ abbrev pub end_counted : ReadSoFar → List ℕ → Result Outcome TraceFault
     → Result TraceRecord TraceFault
 end_counted p bytes (Err fault) = Err fault
 end_counted p bytes (Ok outcome) =
-    let ending = end_with bytes outcome in
-    if ending.accesses == p.counted then Ok (records.End ending) else Err
-    (faults.CountMismatch ending.accesses p.counted)
+    let ending = end_with p.version bytes outcome in
+    if ending.accesses == p.counted
+    then (if is_whole ending.accesses ending.whole then Ok (records.End ending) else Err
+    (faults.BadField (p.place + 25)))
+    else Err (faults.CountMismatch ending.accesses p.counted)
 
 abbrev pub tagged_judged : ReadSoFar → Tag → List ℕ → Result TraceRecord TraceFault
 tagged_judged p (tags.Touch kind) bytes = touch_counted p

@@ -3,7 +3,9 @@ pub mod Again
 pub mod Before
 pub mod Bytes
 pub mod Counts
+pub mod Ends
 pub mod Extents
+pub mod Headers
 pub mod Magic
 pub mod Pieces
 pub mod Prefixes

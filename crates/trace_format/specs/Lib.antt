@@ -1,4 +1,5 @@
 pub mod Ahead
+pub mod Ends
 pub mod Faults
 pub mod Found
 pub mod Judging

@@ -1,4 +1,4 @@
--- How versions 2 and 3 spell an address, and version 3 a pc: by how far it is from the one before,
+-- How versions 2 to 4 spell an address, and versions 3 and 4 a pc: by how far it is from the one before,
 -- in groups of seven bits.
 use Rattle.std.specs.Prelude.{ℕ, zero, suc, ◌+◌, ◌-◌, ◌*◌, ◌/◌, ◌%◌, ◌^◌, ◌==◌, ◌||◌, ◌&&◌, Bool}
 use Rattle.std.specs.Prelude.{nat_lt, nat_le, List, [], ◌∷◌, length, slice_index, if◌then◌else◌}

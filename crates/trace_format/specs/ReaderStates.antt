@@ -1,7 +1,7 @@
 -- How a reader keeps what it knows, and what is true of it.
 use Rattle.std.specs.Prelude.{◌≡◌, ◌≤◌, ℕ, List, [], ◌++◌, length, take, Option, Some, None, Result}
 use Rattle.std.specs.Prelude.{Ok, Err, option_map, IsSome}
-use Rattle.base.specs.declared.ending.Ending.{Ending}
+use Rattle.trace_format.specs.declared.record.TraceEnd.{TraceEnd}
 use Rattle.trace_format.specs.declared.read_so_far.ReadSoFar.{ReadSoFar}
 use Rattle.trace_format.specs.Faults.{HasFault}
 use Rattle.trace_format.specs.Found.{IsTraceOf}
@@ -81,7 +81,7 @@ pub record HasRead (bytes : List ℕ) (first : List TraceRecord) (now : Reading)
   pub records : items ≡ first ++ (reading_of bytes).0
 
 -- The bytes are a trace with this end, and its records stand behind the first ones.
-pub record ReadsTrace (bytes : List ℕ) (first items : List TraceRecord) (e : Ending) : Type 0 where
+pub record ReadsTrace (bytes : List ℕ) (first items : List TraceRecord) (e : TraceEnd) : Type 0 where
   pub records : List TraceRecord
   pub behind : items ≡ first ++ records
   pub trace : IsTraceOf bytes records e

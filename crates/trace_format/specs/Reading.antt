@@ -3,7 +3,7 @@
 -- it does not matter in which pieces they come.
 use Rattle.std.specs.Prelude.{ℕ, ◌+◌, ◌==◌, nat_lt, List, [], ◌∷◌, ◌++◌, length, Option, Some, None}
 use Rattle.std.specs.Prelude.{is_some, Result, Ok, Err, if◌then◌else◌}
-use Rattle.base.specs.declared.ending.Ending.{Ending}
+use Rattle.trace_format.specs.declared.record.TraceEnd.{TraceEnd}
 use Rattle.trace_format.specs.declared.fault.TraceFault.{TraceFault}
 use Rattle.trace_format.specs.declared.fault.TraceFault.TheVariants as faults
 use Rattle.trace_format.specs.declared.record.TraceRecord.{TraceRecord}
@@ -22,7 +22,7 @@ pub record Reading : Type 0 where
   -- the bytes after the last whole record
   pub pending : List ℕ
   -- the end record
-  pub ending : Option Ending
+  pub ending : Option TraceEnd
   -- the first fault
   pub fault : Option TraceFault
 
@@ -62,13 +62,13 @@ progress_after p item size = record p {
   place = p.place + size;
 }
 
-abbrev pub ending_in : TraceRecord → Option Ending
+abbrev pub ending_in : TraceRecord → Option TraceEnd
 ending_in (records.End e) = Some e
 ending_in _ = None
 
 -- What begins here is judged once so many bytes are there. After the end each byte is one too
 -- many.
-abbrev pub extent_at : Option ReadSoFar → Option Ending → List ℕ → ℕ
+abbrev pub extent_at : Option ReadSoFar → Option TraceEnd → List ℕ → ℕ
 extent_at None ending bytes = header_length
 extent_at (Some p) None bytes = record_extent p.version bytes
 extent_at (Some p) (Some ending) bytes = 1
@@ -90,7 +90,7 @@ record_read r p size (Ok item) = (
 )
 
 -- the header, or one record, once all its bytes are there
-abbrev pub part_at : Reading → Option ReadSoFar → Option Ending → List ℕ
+abbrev pub part_at : Reading → Option ReadSoFar → Option TraceEnd → List ℕ
     → List TraceRecord × Reading
 part_at r None ending bytes = header_read r (header_judged bytes)
 part_at r (Some p) None bytes = record_read r p (length bytes) (record_judged p bytes)
@@ -121,10 +121,10 @@ abbrev pub reading_of : List ℕ → List TraceRecord × Reading
 reading_of bytes = read_on begin bytes
 
 -- the end of the trace that the bytes are, or why they are none
-abbrev pub ending_at : Option TraceFault → Option Ending → ℕ → Result Ending TraceFault
+abbrev pub ending_at : Option TraceFault → Option TraceEnd → ℕ → Result TraceEnd TraceFault
 ending_at (Some fault) ending size = Err fault
 ending_at None (Some ending) size = Ok ending
 ending_at None None size = Err (faults.Truncated size)
 
-abbrev pub ending_of : Reading → Result Ending TraceFault
+abbrev pub ending_of : Reading → Result TraceEnd TraceFault
 ending_of r = ending_at r.fault r.ending (taken r)

@@ -7,10 +7,10 @@ use Rattle.base.specs.Touch.{Touch, IsAllowed}
 use Rattle.base.specs.declared.ending.Outcome.{Outcome}
 use Rattle.base.specs.declared.ending.Outcome.TheVariants.{Exit, Budget, Deadlock, Trap}
 use Rattle.base.specs.declared.ending.Outcome.TheVariants.{Part}
-use Rattle.base.specs.declared.ending.Ending.{Ending}
+use Rattle.trace_format.specs.declared.record.TraceEnd.{TraceEnd}
 use Rattle.trace_format.specs.declared.before.Before.{Before}
 use Rattle.trace_format.specs.declared.record.Version.{Version}
-use Rattle.trace_format.specs.declared.record.Version.TheVariants.{Three}
+use Rattle.trace_format.specs.declared.record.Version.TheVariants.{Three, Four}
 use Rattle.trace_format.specs.declared.record.Header.{Header}
 use Rattle.trace_format.specs.declared.record.TraceRecord.{TraceRecord}
 use Rattle.trace_format.specs.declared.record.TraceRecord.TheVariants as records
@@ -20,6 +20,12 @@ pub record IsGoodHeader (h : Header) : Type 0 where
   pub position : h.first ≤ 2 ^ 40
   pub some : 1 ≤ h.harts
   pub few : h.harts ≤ 256
+
+-- In version 4 positions begin at 0, and regions have from 2^6 to 2^16 bytes. The others have no
+-- regions.
+abbrev pub HasRegions : Version → Header → Type 0
+HasRegions Four h = (h.first ≡ 0) × ((6 ≤ h.near) × (h.near ≤ 16))
+HasRegions _ h = h.near ≡ 0
 
 -- an access of one of so many harts
 pub record IsGoodTouch (harts : ℕ) (a : Touch) : Type 0 where
@@ -31,9 +37,10 @@ abbrev pub IsPc : Option ℕ → Type 0
 IsPc None = ⊥
 IsPc (Some pc) = pc < 2 ^ 32
 
--- an access has a pc in version 3 alone
+-- an access has a pc in versions 3 and 4 alone
 abbrev pub IsGoodPc : Version → Option ℕ → Type 0
 IsGoodPc Three pc = IsPc pc
+IsGoodPc Four pc = IsPc pc
 IsGoodPc _ pc = pc ≡ None
 
 -- what an access is spelled against: numbers of 32 bits
@@ -66,11 +73,19 @@ FitsFields harts Deadlock = Unit {0}
 FitsFields harts (Trap hart pc cause) = (hart < harts) × (pc < 2 ^ 32)
 FitsFields harts Part = Unit {0}
 
-pub record IsGoodEnding (harts : ℕ) (e : Ending) : Type 0 where
+-- Version 4 says how many accesses there were before the list was filtered: at least those of the
+-- trace, and at most 2^40.
+abbrev pub IsGoodWhole : Version → ℕ → Option ℕ → Type 0
+IsGoodWhole Four accesses (Some whole) = (accesses ≤ whole) × (whole ≤ 2 ^ 40)
+IsGoodWhole Four accesses None = ⊥
+IsGoodWhole _ accesses whole = whole ≡ None
+
+pub record IsGoodEnding (v : Version) (harts : ℕ) (e : TraceEnd) : Type 0 where
   pub allowed : IsAllowedEnd e.steps e.outcome
   pub outcome : FitsFields harts e.outcome
   pub steps : e.steps < 2 ^ 64
   pub accesses : e.accesses < 2 ^ 64
+  pub whole : IsGoodWhole v e.accesses e.whole
 
 -- A record of a trace of a version with so many harts. An end comes last, and alone.
 abbrev pub IsGoodRecord : Version → ℕ → TraceRecord → Type 0
@@ -79,7 +94,7 @@ IsGoodRecord v harts (records.Alloc addr size sites) = (addr < 2 ^ 32) × (size 
     × (length sites ≡ 4) × All (λ site. site < 2 ^ 32) sites
 IsGoodRecord v harts (records.Free addr) = addr < 2 ^ 32
 IsGoodRecord v harts (records.Symbol kind addr size name) = IsGoodSymbol addr size name
-IsGoodRecord v harts (records.End e) = IsGoodEnding harts e
+IsGoodRecord v harts (records.End e) = IsGoodEnding v harts e
 
 abbrev pub IsInner : TraceRecord → Type 0
 IsInner (records.End e) = ⊥
@@ -104,19 +119,20 @@ last_position = 2 ^ 40
 -- The parts keep the rules: positions are below 2^40, the end tells how many accesses there are,
 -- and there are at most
 -- 2^44 bytes.
-pub record IsGoodTrace (v : Version) (h : Header) (items : List TraceRecord) (e : Ending) : Type 0
+pub record IsGoodTrace (v : Version) (h : Header) (items : List TraceRecord) (e : TraceEnd) : Type 0
   where
     pub header : IsGoodHeader h
+    pub regions : HasRegions v h
     pub records : All (IsGoodRecord v h.harts) items
     pub inner : All IsInner items
-    pub ending : IsGoodEnding h.harts e
+    pub ending : IsGoodEnding v h.harts e
     pub positions : h.first + length (touches_in items) ≤ last_position
     pub counted : e.accesses ≡ length (touches_in items)
     pub short : length (spell v h items e) ≤ longest_trace
 
 -- the bytes are a trace of these parts
 pub record IsTrace (bytes : List ℕ) (v : Version) (h : Header) (items : List TraceRecord)
-    (e : Ending) : Type 0 where
+    (e : TraceEnd) : Type 0 where
   pub good : IsGoodTrace v h items e
   pub spelled : bytes ≡ spell v h items e
 

@@ -14,10 +14,10 @@ use Rattle.base.specs.declared.ending.Cause.TheVariants.{StoreMisaligned, StoreO
 use Rattle.base.specs.declared.ending.Outcome.{Outcome}
 use Rattle.base.specs.declared.ending.Outcome.TheVariants.{Exit, Budget, Deadlock, Trap}
 use Rattle.base.specs.declared.ending.Outcome.TheVariants.{Part}
-use Rattle.base.specs.declared.ending.Ending.{Ending}
+use Rattle.trace_format.specs.declared.record.TraceEnd.{TraceEnd}
 use Rattle.trace_format.specs.declared.before.Before.{Before}
 use Rattle.trace_format.specs.declared.record.Version.{Version}
-use Rattle.trace_format.specs.declared.record.Version.TheVariants.{One, Two, Three}
+use Rattle.trace_format.specs.declared.record.Version.TheVariants.{One, Two, Three, Four}
 use Rattle.trace_format.specs.declared.record.Header.{Header}
 use Rattle.trace_format.specs.declared.record.TraceRecord.{TraceRecord}
 use Rattle.trace_format.specs.declared.record.TraceRecord.TheVariants as records
@@ -29,11 +29,13 @@ abbrev pub magic_of : Version → List ℕ
 magic_of One = codes "PRDTRC01"
 magic_of Two = codes "PRDTRC02"
 magic_of Three = codes "PRDTRC03"
+magic_of Four = codes "PRDTRC04"
 
--- 20 bytes: the magic, the first position, how many harts there are, and zero
+-- 20 bytes: the magic, the first position, how many harts there are, and the size of the regions,
+-- which is zero but in version 4
 unfoldable pub spell_header : Version → Header → List ℕ
 spell_header v h = magic_of v ++ (to_le_bytes w64
-    h.first ++ (to_le_bytes w16 h.harts ++ to_le_bytes w16 0))
+    h.first ++ (to_le_bytes w16 h.harts ++ to_le_bytes w16 h.near))
 
 -- ---- accesses
 
@@ -59,14 +61,19 @@ abbrev pub spell_short_touch : ℕ → Touch → List ℕ
 spell_short_touch last a = number_of (tags.ShortTouch a.kind a.size) ∷ a.hart ∷ groups
     (distance last a.addr)
 
--- Version 1: 8 bytes, a tag, then hart, address and size. Version 2: a short touch. Version 3: a
--- short touch, and behind it the distance of the pc from that of the hart's access before.
+-- a short touch, and behind it the distance of the pc from that of the hart's access before
+abbrev pub spell_sited_touch : Before → Touch → Option ℕ → List ℕ
+spell_sited_touch before a pc = spell_short_touch before.last a
+    ++ groups (distance (pc_before before a.hart) (pc_or_zero pc))
+
+-- Version 1: 8 bytes, a tag, then hart, address and size. Version 2: a short touch. Versions 3 and
+-- 4: a short touch and its pc.
 unfoldable pub spell_touch : Version → Before → Touch → Option ℕ → List ℕ
 spell_touch One before a pc = number_of (tags.Touch a.kind)
     ∷ (to_le_bytes w16 a.hart ++ (to_le_bytes w32 a.addr ++ a.size ∷ []))
 spell_touch Two before a pc = spell_short_touch before.last a
-spell_touch Three before a pc = spell_short_touch before.last a
-    ++ groups (distance (pc_before before a.hart) (pc_or_zero pc))
+spell_touch Three before a pc = spell_sited_touch before a pc
+spell_touch Four before a pc = spell_sited_touch before a pc
 
 -- ---- other records
 
@@ -111,10 +118,25 @@ spell_outcome Deadlock = outcome_fields 2 0 0 0
 spell_outcome (Trap hart pc cause) = outcome_fields 3 (cause_number cause) hart pc
 spell_outcome Part = outcome_fields 4 0 0 0
 
+-- Where an end doesn't say how many accesses there were before the list was filtered, none was left
+-- out.
+abbrev pub whole_or : ℕ → Option ℕ → ℕ
+whole_or accesses None = accesses
+whole_or accesses (Some whole) = whole
+
+-- only version 4 says it
+abbrev pub spell_whole : Version → TraceEnd → List ℕ
+spell_whole Four e = to_le_bytes w64 (whole_or e.accesses e.whole)
+spell_whole _ e = []
+
 -- 25 bytes: the tag, the outcome, then how many steps and accesses there were
-unfoldable pub spell_ending : Ending → List ℕ
-spell_ending e = number_of tags.End ∷ (spell_outcome
+abbrev pub spell_run_end : TraceEnd → List ℕ
+spell_run_end e = number_of tags.End ∷ (spell_outcome
     e.outcome ++ (to_le_bytes w64 e.steps ++ to_le_bytes w64 e.accesses))
+
+-- and in version 4 there are 8 more
+unfoldable pub spell_ending : Version → TraceEnd → List ℕ
+spell_ending v e = spell_run_end e ++ spell_whole v e
 
 -- ---- the whole
 
@@ -124,7 +146,7 @@ spell_record v before (records.Touch a pc) = spell_touch v before a pc
 spell_record v before (records.Alloc addr size sites) = spell_alloc addr size sites
 spell_record v before (records.Free addr) = spell_free addr
 spell_record v before (records.Symbol kind addr size name) = spell_symbol kind addr size name
-spell_record v before (records.End e) = spell_ending e
+spell_record v before (records.End e) = spell_ending v e
 
 -- what the next access is spelled against
 abbrev pub before_after : Before → TraceRecord → Before
@@ -139,6 +161,6 @@ spell_records v before [] = []
 spell_records v before (item ∷ items) = spell_record v before item ++ spell_records v
     (before_after before item) items
 
-unfoldable pub spell : Version → Header → List TraceRecord → Ending → List ℕ
+unfoldable pub spell : Version → Header → List TraceRecord → TraceEnd → List ℕ
 spell v header items ending = spell_header v header
-    ++ (spell_records v nothing_before items ++ spell_ending ending)
+    ++ (spell_records v nothing_before items ++ spell_ending v ending)

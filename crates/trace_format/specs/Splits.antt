@@ -1,7 +1,7 @@
 -- A trace cut in two at an access.
 use Rattle.std.specs.Prelude.{◌≡◌, ℕ, ◌+◌, ◌-◌, nat_le, min, if◌then◌else◌, List, [], ◌∷◌, ◌++◌}
-use Rattle.std.specs.Prelude.{length, take, drop}
-use Rattle.base.specs.declared.ending.Ending.{Ending}
+use Rattle.std.specs.Prelude.{length, take, drop, None}
+use Rattle.trace_format.specs.declared.record.TraceEnd.{TraceEnd}
 use Rattle.base.specs.declared.ending.Outcome.TheVariants.{Part}
 use Rattle.trace_format.specs.declared.record.Header.{Header}
 use Rattle.trace_format.specs.declared.record.TraceRecord.{TraceRecord}
@@ -22,13 +22,21 @@ begin_split header total at = record { header = header; total = total; cut = min
 
 -- the second half begins at the position of the access at the cut
 abbrev pub headers_of : Split → Header × Header
-headers_of s = (s.header, record { first = s.header.first + s.cut; harts = s.header.harts })
+headers_of s = (
+  s.header,
+  record { first = s.header.first + s.cut; harts = s.header.harts; near = s.header.near },
+)
 
 -- the first half has not ended, and the second ends as the whole
-abbrev pub endings_of : Split → Ending → Ending × Ending
+abbrev pub endings_of : Split → TraceEnd → TraceEnd × TraceEnd
 endings_of s whole = (
-  record { outcome = Part; steps = 0; accesses = s.cut },
-  record { outcome = whole.outcome; steps = whole.steps; accesses = s.total - s.cut },
+  record { outcome = Part; steps = 0; accesses = s.cut; whole = None },
+  record {
+    outcome = whole.outcome;
+    steps = whole.steps;
+    accesses = s.total - s.cut;
+    whole = None;
+  },
 )
 
 -- ---- the side of each record

@@ -4,7 +4,7 @@ use Rattle.base.specs.Touch.{is_access_size}
 use Rattle.base.specs.declared.access.Kind.{Kind}
 use Rattle.base.specs.declared.access.Kind.TheVariants.{Read, Write}
 use Rattle.trace_format.specs.declared.record.Version.{Version}
-use Rattle.trace_format.specs.declared.record.Version.TheVariants.{One, Two, Three}
+use Rattle.trace_format.specs.declared.record.Version.TheVariants.{One, Two, Three, Four}
 use Rattle.trace_format.specs.declared.tag.Tag.{Tag}
 use Rattle.trace_format.specs.declared.tag.Tag.TheVariants as tags
 
@@ -12,8 +12,8 @@ abbrev pub half_of : Kind → ℕ
 half_of Read = 1
 half_of Write = 2
 
--- A read of version 1 has the tag 1 and a write 2. In versions 2 and 3 that is the high half of the
--- byte, and the size is the low half.
+-- A read of version 1 has the tag 1 and a write 2. In the later versions that is the high half of
+-- the byte, and the size is the low half.
 abbrev pub number_of : Tag → ℕ
 number_of (tags.Touch kind) = half_of kind
 number_of (tags.ShortTouch kind size) = 16 * half_of kind + size
@@ -56,3 +56,4 @@ tag_of One byte =
     else other_tag_of byte)
 tag_of Two byte = sized_tag_of tags.ShortTouch byte
 tag_of Three byte = sized_tag_of tags.SitedTouch byte
+tag_of Four byte = sized_tag_of tags.SitedTouch byte

@@ -169,6 +169,6 @@ pub(crate) fn put_touch(
     match version {
         Version::One => put_bytes(&touch_bytes(access), into),
         Version::Two => put_short_touch(before.last, access, into),
-        Version::Three => put_sited_touch(before, access, pc_or_zero(pc), into),
+        Version::Three | Version::Four => put_sited_touch(before, access, pc_or_zero(pc), into),
     }
 }

@@ -1,9 +1,11 @@
 // The end of a trace.
-ghost use Rattle.std.specs.Prelude.{◌≡◌};
+ghost use Rattle.std.specs.Prelude.{◌≡◌, ◌++◌, OnOk, OnErr};
 ghost use Rattle.trace_format.specs.Spelling.{cause_number, outcome_fields, spell_ending};
-ghost use Rattle.trace_format.specs.Spelling.{spell_outcome};
+ghost use Rattle.trace_format.specs.Spelling.{spell_outcome, spell_run_end, spell_whole, whole_or};
 
-use base::{Cause, Ending, Outcome};
+use crate::access_write::put_bytes;
+use crate::{TraceEnd, Version};
+use base::{Cause, NoMemory, Outcome};
 
 fn cause_number(cause: Cause) -> u8
     ensures { result ≡ cause_number cause }
@@ -44,9 +46,9 @@ fn fields_of(outcome: Outcome) -> OutcomeFields
     }
 }
 
-#[tactic(auto, unfolding(crate::specs::Spelling::spell_ending))]
-pub(crate) fn ending_bytes(ending: &Ending) -> [u8; 25]
-    ensures { result ≡ spell_ending ending.now }
+// The bytes of an end that all versions have.
+fn ending_bytes(ending: &TraceEnd) -> [u8; 25]
+    ensures { result ≡ spell_run_end ending.now }
 {
     let fields = fields_of(ending.outcome);
     let [h0, h1] = fields.hart.to_le_bytes();
@@ -80,4 +82,48 @@ pub(crate) fn ending_bytes(ending: &Ending) -> [u8; 25]
         n6,
         n7,
     ]
+}
+
+fn whole_or(accesses: u64, whole: Option<u64>) -> u64
+    ensures { result ≡ whole_or accesses whole }
+{
+    match whole {
+        Some(whole) => whole,
+        None => accesses,
+    }
+}
+
+// Appends how many accesses there were before the list was filtered, where the version says it.
+fn put_whole(version: Version, ending: &TraceEnd, into: &mut Vec<u8>) -> Result<(), NoMemory>
+    ensures ok { OnOk result (into.new.items ≡ into.old.items ++ spell_whole version ending.now) }
+    ensures err { OnErr result (into.new.items ≡ into.old.items) }
+{
+    match version {
+        Version::One | Version::Two | Version::Three => Ok(()),
+        Version::Four => {
+            let whole = whole_or(ending.accesses, ending.whole);
+            put_bytes(&whole.to_le_bytes(), into)
+        }
+    }
+}
+
+// Appends an end. At `NoMemory` nothing is appended.
+#[tactic(auto, unfolding(crate::specs::Spelling::spell_ending))]
+pub(crate) fn put_ending(
+    version: Version,
+    ending: &TraceEnd,
+    into: &mut Vec<u8>,
+) -> Result<(), NoMemory>
+    ensures ok { OnOk result (into.new.items ≡ into.old.items ++ spell_ending version ending.now) }
+    ensures err { OnErr result (into.new.items ≡ into.old.items) }
+{
+    let start = into.len();
+    put_bytes(&ending_bytes(ending), into)?;
+    match put_whole(version, ending, into) {
+        Ok(()) => Ok(()),
+        Err(_) => {
+            into.truncate(start);
+            Err(NoMemory)
+        }
+    }
 }

@@ -1,7 +1,7 @@
 // Laws of what is read, for callers whose own clauses speak of traces.
 ghost use Rattle.std.specs.Prelude.{◌≡◌, ℕ, ◌<◌, ◌≤◌, List, [], ◌++◌, length, Ok, Err};
 ghost use Rattle.std.specs.List.{All};
-ghost use Rattle.base.specs.declared.ending.Ending.{Ending};
+ghost use Rattle.trace_format.specs.declared.record.TraceEnd.{TraceEnd};
 ghost use Rattle.trace_format.specs.declared.before.Before.{Before};
 ghost use Rattle.trace_format.specs.declared.fault.TraceFault.{TraceFault};
 ghost use Rattle.trace_format.specs.declared.record.TraceRecord.{TraceRecord};
@@ -22,7 +22,7 @@ pub fn what_is_read_was_spelled()
         → length bytes ≡ record_extent p.version bytes
         → record_judged p bytes ≡ Ok item → IsFound p bytes item }
     // bytes that end with no fault are a trace of the records that are read and of that end
-    ensures trace_found { (bytes : List ℕ) (e : Ending) → All (λ b. b < 256) bytes
+    ensures trace_found { (bytes : List ℕ) (e : TraceEnd) → All (λ b. b < 256) bytes
         → ending_of (reading_of bytes).1 ≡ Ok e → IsTraceOf bytes (reading_of bytes).0 e }
     // after one and the same beginning, no spelling of a record is a prefix of another one's
     ensures no_prefix { (v : Format) (harts : ℕ) (before : Before) (a b : TraceRecord) (more : List ℕ)

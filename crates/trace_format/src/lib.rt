@@ -1,6 +1,6 @@
 //! Traces: what one is made of, how it is read in pieces, and how it is written.
 //!
-//! `specs/Spelling.antt` has the format of the three versions as the one spelling of each part,
+//! `specs/Spelling.antt` has the format of the four versions as the one spelling of each part,
 //! `specs/Rules.antt` the rules that the parts keep, `specs/Judging.antt` what the bytes of one
 //! record say, and `specs/Reading.antt` what any bytes say: the records that are whole in them, and
 //! the first fault. `specs/Faults.antt` says where that one stands, by the spelling alone, and
@@ -39,7 +39,7 @@ pub use fault::TraceFault;
 pub use laws::{what_is_read_was_spelled, where_the_first_fault_stands};
 pub(crate) use read_so_far::ReadSoFar;
 pub use reader::TraceReader;
-pub use record::{Header, TraceRecord, Version};
+pub use record::{Header, TraceEnd, TraceRecord, Version};
 pub use record_write::{alloc_bytes, symbol_bytes};
 pub use splitter::{Side, Splitter};
 pub use symbol_read::{symbol_extent, symbol_of};

@@ -5,10 +5,10 @@ ghost use Rattle.std.specs.Prelude.{IsSome, IfOk};
 use crate::header_read::version_of;
 use crate::reader_state::{State, read_parts};
 use crate::{
-    Header, TraceFault, TraceRecord, Version, what_is_read_was_spelled,
+    Header, TraceEnd, TraceFault, TraceRecord, Version, what_is_read_was_spelled,
     where_the_first_fault_stands,
 };
-use base::{Ending, NoMemory};
+use base::NoMemory;
 use std::alloc::{AllocError, Global};
 use std::marker::Model;
 
@@ -83,7 +83,7 @@ fn kept_of(alloc: Global, state: &mut State, rest: &[u8]) -> Vec<u8>
 impl TraceReader {
     ghost use Rattle.std.specs.Prelude.{List, ℕ, Ok, Err, option_map};
     ghost use Rattle.std.specs.List.{All};
-    ghost use Rattle.base.specs.declared.ending.Ending.{Ending};
+    ghost use Rattle.trace_format.specs.declared.record.TraceEnd.{TraceEnd};
     ghost use Rattle.trace_format.specs.declared.fault.TraceFault.{TraceFault};
     ghost use Rattle.trace_format.specs.declared.record.TraceRecord.{TraceRecord};
     ghost use Rattle.trace_format.specs.Reading.{begin, ending_of, magic_in};
@@ -152,14 +152,14 @@ impl TraceReader {
 
     /// The end of the trace that the bytes so far are, or why they are none: the kept fault, which
     /// can be the want of memory of an earlier piece, or `Truncated` with their number.
-    pub fn finish(&self) -> Result<Ending, TraceFault>
+    pub fn finish(&self) -> Result<TraceEnd, TraceFault>
         ensures value { result ≡ ending_of self.now }
 
         // It gives an end exactly where the bytes so far are a trace with that end.
-        ensures trace { (bytes : List ℕ) (first items : List TraceRecord) (e : Ending)
+        ensures trace { (bytes : List ℕ) (first items : List TraceRecord) (e : TraceEnd)
             → All (λ b. b < 256) bytes → HasRead bytes first self.now items
             → result ≡ Ok e → ReadsTrace bytes first items e }
-        ensures whole { (bytes : List ℕ) (first items : List TraceRecord) (e : Ending)
+        ensures whole { (bytes : List ℕ) (first items : List TraceRecord) (e : TraceEnd)
             → HasRead bytes first self.now items
             → ReadsTrace bytes first items e → result ≡ Ok e }
 
@@ -173,7 +173,7 @@ impl TraceReader {
         self.ending_so_far()
     }
 
-    fn ending_so_far(&self) -> Result<Ending, TraceFault>
+    fn ending_so_far(&self) -> Result<TraceEnd, TraceFault>
         ensures { result ≡ ending_of self.now }
     {
         match (self.state.fault, self.state.ending) {

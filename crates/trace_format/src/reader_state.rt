@@ -14,8 +14,8 @@ ghost use Rattle.trace_format.specs.ReaderStates.{SameHead, extent_in, reading_w
 use crate::header_read::{HEADER_LENGTH, header_of};
 use crate::record_read::{record_extent, record_of};
 use crate::run_read::read_run;
-use crate::{ReadSoFar, TraceFault, TraceRecord};
-use base::{Access, Ending};
+use crate::{ReadSoFar, TraceEnd, TraceFault, TraceRecord};
+use base::Access;
 use std::alloc::Global;
 
 /// How far a trace is read, without what is left over.
@@ -24,7 +24,7 @@ pub struct State {
     /// What the records so far say, once the header is accepted.
     pub progress: Option<ReadSoFar>,
     /// The end record.
-    pub ending: Option<Ending>,
+    pub ending: Option<TraceEnd>,
     /// The first fault.
     pub fault: Option<TraceFault>,
 }
@@ -84,7 +84,7 @@ fn count_record(progress: &mut ReadSoFar, shown: Option<(Access, Option<u32>)>, 
 }
 
 #[inline(always)]
-fn ending_in(item: &TraceRecord) -> Option<Ending>
+fn ending_in(item: &TraceRecord) -> Option<TraceEnd>
     ensures { result ≡ ending_in item.now }
 {
     match item {

@@ -1,6 +1,7 @@
 // One record, all of whose bytes are there.
 ghost use Rattle.std.specs.Prelude.{◌≡◌, ◌^◌, ◌≤◌, ◌≢◌, Err, length};
-ghost use Rattle.trace_format.specs.Judging.{alloc_at, extent_of, record_extent};
+ghost use Rattle.trace_format.specs.Judging.{alloc_at, end_extent, extent_of, is_whole};
+ghost use Rattle.trace_format.specs.Judging.{record_extent, whole_at};
 ghost use Rattle.trace_format.specs.Judging.{record_judged, tagged_judged, touch_counted};
 ghost use Rattle.trace_format.specs.Tags.{IsTag};
 ghost use Rattle.trace_format.specs.Sound.{IsSound};
@@ -11,25 +12,36 @@ use crate::access_read::{
 use crate::ending_read::outcome_of;
 use crate::header_read::LAST_POSITION;
 use crate::symbol_read::{symbol_extent, symbol_of};
-use crate::{ReadSoFar, Tag, TraceFault, TraceRecord, Version};
-use base::{Access, Ending, u32_at, u64_at};
+use crate::{ReadSoFar, Tag, TraceEnd, TraceFault, TraceRecord, Version};
+use base::{Access, u32_at, u64_at};
 use std::alloc::Global;
 
 // How many bytes an access of version 1 has.
 pub(crate) const TOUCH_LENGTH: usize = 8;
 
+// How many bytes an end has.
+fn end_extent(version: Version) -> usize
+    ensures { result ≡ end_extent version }
+{
+    match version {
+        Version::One | Version::Two | Version::Three => 25,
+        Version::Four => 33,
+    }
+}
+
 // How many bytes a record of a tag has, as far as they are there.
 #[inline(always)]
-fn extent_of(tag: Tag, bytes: &[u8]) -> usize
-    ensures { result ≡ extent_of tag bytes.now }
+fn extent_of(version: Version, tag: Tag, bytes: &[u8]) -> usize
+    ensures { result ≡ extent_of version tag bytes.now }
 {
     match tag {
         Tag::Touch(_) => TOUCH_LENGTH,
         Tag::ShortTouch(_, _) => short_touch_extent(bytes),
         Tag::SitedTouch(_, _) => sited_touch_extent(bytes),
-        Tag::Alloc | Tag::End => 25,
+        Tag::Alloc => 25,
         Tag::Free => 5,
         Tag::Symbol => symbol_extent(bytes),
+        Tag::End => end_extent(version),
     }
 }
 
@@ -43,7 +55,7 @@ pub(crate) fn record_extent(version: Version, bytes: &[u8]) -> usize
         return 1;
     };
     match Tag::read(version, *first) {
-        Some(tag) => extent_of(tag, bytes),
+        Some(tag) => extent_of(version, tag, bytes),
         None => 1,
     }
 }
@@ -87,9 +99,31 @@ fn counted(
     }
 }
 
+// How many accesses the list had before it was filtered, where the version tells.
+fn whole_at(version: Version, bytes: &[u8]) -> Option<u64>
+    requires { end_extent version ≤ length bytes.now }
+    ensures { result ≡ whole_at version bytes.now }
+{
+    match version {
+        Version::One | Version::Two | Version::Three => None,
+        Version::Four => Some(u64_at(bytes, 25)),
+    }
+}
+
+#[tactic(auto, using(std::proofs::lemmas::Bool::Decides::nat_tests))]
+fn is_whole(accesses: u64, whole: Option<u64>) -> bool
+    ensures { result ≡ is_whole accesses whole }
+{
+    match whole {
+        None => true,
+        Some(whole) => accesses <= whole && whole <= LAST_POSITION,
+    }
+}
+
 #[tactic(auto, using(std::proofs::lemmas::Bool::Decides::nat_tests))]
 fn end_of(progress: &ReadSoFar, bytes: &[u8]) -> Result<TraceRecord, TraceFault>
     requires long { 25 ≤ length bytes.now }
+    requires all { end_extent progress.now.version ≤ length bytes.now }
     requires sound { IsSound progress.now }
     requires low { progress.now.place ≤ 2 ^ 44 }
     ensures { result ≡ tagged_judged progress.now Tag.End bytes.now }
@@ -105,10 +139,15 @@ fn end_of(progress: &ReadSoFar, bytes: &[u8]) -> Result<TraceRecord, TraceFault>
             counted: progress.counted,
         });
     }
-    Ok(TraceRecord::End(Ending {
+    let whole = whole_at(progress.version, bytes);
+    if !is_whole(told, whole) {
+        return Err(TraceFault::BadField(progress.place + 25));
+    }
+    Ok(TraceRecord::End(TraceEnd {
         outcome,
         steps,
         accesses: told,
+        whole,
     }))
 }
 
@@ -119,7 +158,7 @@ fn tagged_of(
     tag: Tag,
     bytes: &[u8],
 ) -> Result<TraceRecord, TraceFault>
-    requires long { length bytes.now ≡ extent_of tag bytes.now }
+    requires long { length bytes.now ≡ extent_of progress.now.version tag bytes.now }
     requires sound { IsSound progress.now }
     requires low { progress.now.place ≤ 2 ^ 44 }
     requires tagged { IsTag tag }

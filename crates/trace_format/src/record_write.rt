@@ -7,7 +7,7 @@ ghost use Rattle.trace_format.specs.Spelling.{spell_symbol};
 
 use crate::access_write::{put_bytes, put_touch};
 use crate::before::Before;
-use crate::ending_write::ending_bytes;
+use crate::ending_write::put_ending;
 use crate::{TraceRecord, Version};
 use base::{Name, NoMemory};
 use objects::SymbolKind;
@@ -120,6 +120,6 @@ pub(crate) fn put_record(
             size,
             name,
         } => symbol_bytes(*kind, *addr, *size, name, into),
-        TraceRecord::End(ending) => put_bytes(&ending_bytes(ending), into),
+        TraceRecord::End(ending) => put_ending(version, ending, into),
     }
 }

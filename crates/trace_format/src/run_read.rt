@@ -179,6 +179,8 @@ fn sized_kind_of(byte: u8) -> Option<(Kind, u8)>
     ensures two { IfSome result (λ it. tag_of Version.Two byte ≡ Some (Tag.ShortTouch it.0 it.1)) }
     ensures three { IfSome result (λ it. tag_of Version.Three byte
         ≡ Some (Tag.SitedTouch it.0 it.1)) }
+    ensures four { IfSome result (λ it. tag_of Version.Four byte
+        ≡ Some (Tag.SitedTouch it.0 it.1)) }
     ensures sized { IfSome result (λ it. IsTrue (is_access_size it.1)) }
 {
     match byte {
@@ -212,7 +214,7 @@ fn access_ahead(progress: &ReadSoFar, bytes: &[u8]) -> Option<Ahead>
             Some((kind, width)) => short_touch_ahead(progress, kind, width, bytes),
             None => None,
         },
-        Version::Three => match sized_kind_of(bytes[0]) {
+        Version::Three | Version::Four => match sized_kind_of(bytes[0]) {
             Some((kind, width)) => sited_touch_ahead(progress, kind, width, bytes),
             None => None,
         },

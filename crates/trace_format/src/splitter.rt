@@ -1,8 +1,8 @@
 // A trace cut in two.
 ghost use Rattle.std.specs.Prelude.{◌≡◌, ◌^◌, ◌+◌, ◌≤◌};
 
-use crate::{Header, TraceRecord};
-use base::{Ending, Outcome};
+use crate::{Header, TraceEnd, TraceRecord};
+use base::Outcome;
 use std::marker::Model;
 
 /// Which half of a trace a record goes to.
@@ -77,6 +77,7 @@ impl Splitter {
         let second = Header {
             first: self.header.first + self.cut,
             harts: self.header.harts,
+            near: self.header.near,
         };
         (self.header, second)
     }
@@ -112,18 +113,20 @@ impl Splitter {
     }
 
     /// The ends of the two halves of a trace with this end: the first half has not ended.
-    pub fn endings(&self, whole: Ending) -> (Ending, Ending)
+    pub fn endings(&self, whole: TraceEnd) -> (TraceEnd, TraceEnd)
         ensures { result ≡ endings_of self.now whole }
     {
-        let first = Ending {
+        let first = TraceEnd {
             outcome: Outcome::Part,
             steps: 0,
             accesses: self.cut,
+            whole: None,
         };
-        let second = Ending {
+        let second = TraceEnd {
             outcome: whole.outcome,
             steps: whole.steps,
             accesses: self.total - self.cut,
+            whole: None,
         };
         (first, second)
     }

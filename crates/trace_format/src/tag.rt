@@ -12,7 +12,7 @@ pub enum Tag {
     Touch(Kind),
     /// An access of version 2, of 1, 2 or 4 bytes.
     ShortTouch(Kind, u8),
-    /// An access of version 3, of 1, 2 or 4 bytes.
+    /// An access of version 3 or 4, of 1, 2 or 4 bytes.
     SitedTouch(Kind, u8),
     /// A block was made.
     Alloc,
@@ -45,7 +45,7 @@ impl Tag {
                 0x24 => Some(Tag::ShortTouch(Kind::Write, 4)),
                 _ => Tag::of_others(byte),
             },
-            Version::Three => match byte {
+            Version::Three | Version::Four => match byte {
                 0x11 => Some(Tag::SitedTouch(Kind::Read, 1)),
                 0x12 => Some(Tag::SitedTouch(Kind::Read, 2)),
                 0x14 => Some(Tag::SitedTouch(Kind::Read, 4)),

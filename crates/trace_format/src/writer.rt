@@ -5,7 +5,7 @@ ghost use Rattle.trace_format.specs.Rules.{IsGoodHeader, IsWritable};
 ghost use Rattle.trace_format.specs.Spelling.{before_after, magic_of, spell_header, spell_record};
 
 use crate::before::Before;
-use crate::header_read::{MAGIC_ONE, MAGIC_THREE, MAGIC_TWO};
+use crate::header_read::{MAGIC_FOUR, MAGIC_ONE, MAGIC_THREE, MAGIC_TWO};
 use crate::record_write::{put_both, put_record};
 use crate::{Header, TraceRecord, Version};
 use base::NoMemory;
@@ -18,16 +18,18 @@ fn magic_of(version: Version) -> [u8; 8]
         Version::One => MAGIC_ONE,
         Version::Two => MAGIC_TWO,
         Version::Three => MAGIC_THREE,
+        Version::Four => MAGIC_FOUR,
     }
 }
 
 fn field_bytes(header: Header) -> [u8; 12]
     ensures { result ≡ to_le_bytes w64 header.first ++
-        (to_le_bytes w16 header.harts ++ to_le_bytes w16 0) }
+        (to_le_bytes w16 header.harts ++ to_le_bytes w16 header.near) }
 {
     let [f0, f1, f2, f3, f4, f5, f6, f7] = header.first.to_le_bytes();
     let [h0, h1] = header.harts.to_le_bytes();
-    [f0, f1, f2, f3, f4, f5, f6, f7, h0, h1, 0, 0]
+    let [n0, n1] = header.near.to_le_bytes();
+    [f0, f1, f2, f3, f4, f5, f6, f7, h0, h1, n0, n1]
 }
 
 fn put_header(version: Version, header: Header, into: &mut Vec<u8>) -> Result<(), NoMemory>
@@ -39,7 +41,9 @@ fn put_header(version: Version, header: Header, into: &mut Vec<u8>) -> Result<()
 }
 
 /// Writes a trace of any version: the header once, and then its records in order. A pc for which the
-/// version has no place is left out, and in version 3 one that is missing is written as 0.
+/// version has no place is left out, and in versions 3 and 4 one that is missing is written
+/// as 0. In version 4 an end that doesn't say how many accesses there were before the list was
+/// filtered is written as one of which none was left out.
 ///
 /// Contracts see the version and what the next access is spelled against.
 #[derive(Clone, Copy, Debug)]

@@ -12,10 +12,12 @@ use Rattle.shelf.specs.Shelf.{Given}
 use Rattle.trace_passes.specs.declared.passes.Passed.{Passed}
 use Rattle.trace_passes.specs.declared.wanted.Refusal.{Refusal}
 use Rattle.trace_passes.specs.declared.wanted.Wanted.{Wanted}
-use Rattle.trace_passes.specs.Passes.{HasParts, HasPassed, IsWanted, before_last, head_of}
+use Rattle.trace_format.specs.declared.record.Header.{Header}
+use Rattle.trace_passes.specs.Passes.{HasParts, HasPassed, HasPcs, IsWanted, before_last, head_of}
+use Rattle.trace_passes.specs.Passes.{near_refusal}
 use Rattle.trace_passes.specs.Passes.{header_refusal, refusal_of, trace_of, trace_refusal, trace_with}
 use Rattle.trace_format.specs.Laws.Counts.{counted_so_far}
-use Rattle.trace_passes.specs.Laws.Passes.{accepted_at_end, is_sited, is_wanted}
+use Rattle.trace_passes.specs.Laws.Passes.{accepted_at_end, is_near, is_sited, is_wanted}
 use Rattle.trace_passes.specs.Laws.Passes.{refusal_at_end, trace-records, trace_there}
 use Rattle.trace_passes.specs.Cursors.{HasEnded, IsHeadOf, IsRead}
 
@@ -61,7 +63,11 @@ module _ (held : Option Files) (name : List ℕ) (w : Wanted) (now : Reading) (b
               }));
           header = subst IsGoodHeader (sym head.header) good;
           wanted = subst (IsWanted w) (sym head.header) wanted;
-          sited = λ is. head.version ∙ is_sited w bytes head.now read.sited known is;
+          sited = λ is. subst HasPcs (sym head.version) (is_sited w bytes head.now read.sited known
+              is);
+          near = ap (λ (h : Header). near_refusal w.lines h.near) head.header
+              ∙ is_near w head.now.header
+              (ap (λ (p : Option ReadSoFar). header_refusal w (head_of p)) (sym known) ∙ unrefused);
           accepted = accepted_at_end w bytes passed.ending read.sited unrefused
               (ap ending_of (sym read.reading) ∙ end);
         }

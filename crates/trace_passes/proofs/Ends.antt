@@ -1,6 +1,6 @@
 -- What a reading gives that ended well: its version, its header and its end.
 use Rattle.std.proofs.Common.{◌≡◌, ℕ, List, Option, Some, None, Ok, sym, ap, ◌∙◌, option_map}
-use Rattle.base.specs.declared.ending.Ending.{Ending}
+use Rattle.trace_format.specs.declared.record.TraceEnd.{TraceEnd}
 use Rattle.trace_format.specs.declared.read_so_far.ReadSoFar.{ReadSoFar}
 use Rattle.trace_format.specs.Reading.{Reading, ending_of, reading_of}
 use Rattle.trace_passes.specs.Laws.Passes.{whole_at_end}
@@ -10,7 +10,7 @@ pub record HasHead (r : Reading) : Type 0 where
   pub now : ReadSoFar
   pub known : r.progress ≡ Some now
 
-pub head_there : (r : Reading) (bytes : List ℕ) (e : Ending) → r ≡ (reading_of bytes).1
+pub head_there : (r : Reading) (bytes : List ℕ) (e : TraceEnd) → r ≡ (reading_of bytes).1
     → ending_of r ≡ Ok e → HasHead r
 head_there r bytes e is end =
     let whole = whole_at_end bytes e (sym (ap ending_of is) ∙ end) in

@@ -1,6 +1,6 @@
 -- What a piece says, once it is read behind the bytes before it.
 use Rattle.std.proofs.Common.{◌≡◌, ◌≢◌, ◌⊎◌, inl, inr, ℕ, ◌+◌, ◌≤◌, ◌<◌, Bool, true, false, cond}
-use Rattle.std.proofs.Common.{eqb, List}
+use Rattle.std.proofs.Common.{eqb, leb, List, ◌^◌}
 use Rattle.std.proofs.Common.{[], ◌∷◌, ◌++◌, length, All, Option, Some}
 use Rattle.std.proofs.Common.{None, Ok, Err, refl, sym, ap, subst, ◌∙◌, unwrap_or, arith}
 use Rattle.std.proofs.lemmas.Bool.{cases_Bool, cases_lt}
@@ -11,10 +11,10 @@ use Rattle.trace_format.specs.declared.fault.TraceFault.TheVariants as faults
 use Rattle.trace_format.specs.declared.read_so_far.ReadSoFar.{ReadSoFar}
 use Rattle.trace_format.specs.declared.record.Header.{Header}
 use Rattle.trace_format.specs.declared.record.Version.{Version}
-use Rattle.trace_format.specs.declared.record.Version.TheVariants.{One, Two, Three}
+use Rattle.trace_format.specs.declared.record.Version.TheVariants.{One, Two, Three, Four}
 use Rattle.trace_format.specs.declared.record.TraceRecord.{TraceRecord}
 use Rattle.std.specs.Option.{option_or}
-use Rattle.base.specs.declared.ending.Ending.{Ending}
+use Rattle.trace_format.specs.declared.record.TraceEnd.{TraceEnd}
 use Rattle.trace_format.specs.Judging.{version_at}
 use Rattle.trace_format.specs.Reading.{Reading, magic_in, read_on, reading_of}
 use Rattle.trace_format.specs.Laws.Magic.{fault_is_late, magic_of_bytes}
@@ -25,6 +25,7 @@ use Rattle.trace_passes.specs.declared.wanted.Refusal.{Refusal}
 use Rattle.trace_passes.specs.declared.wanted.Refusal.TheVariants as refusals
 use Rattle.trace_passes.specs.declared.wanted.Wanted.{Wanted}
 use Rattle.trace_passes.specs.Passes.{IsWanted, first_refusal, harts_refusal, head_of}
+use Rattle.trace_passes.specs.Passes.{lines_refusal, near_refusal}
 use Rattle.trace_passes.specs.Passes.{header_refusal, pcs_refusal, refusal_of, version_refusal}
 use Rattle.trace_format.specs.Laws.Counts.{IsSoFar, counted_so_far, few_accesses, so_far}
 use Rattle.trace_passes.specs.Laws.Passes.{is_wanted, neither, pcs_taken, refused_for_fault}
@@ -73,6 +74,21 @@ first_not None first fault e = cc
 first_not (Some n) first fault e = chosen_not (eqb first n) (refusals.Position n first) fault
     (λ e. cc) e
 
+lines_not : (lines : Option ℕ) (near : ℕ) (fault : TraceFault)
+    → lines_refusal lines near ≡ Some (refusals.Trace fault) → ⊥
+lines_not None near fault e = absurd cc
+lines_not (Some size) near fault e = chosen_not (leb size (2 ^ near)) refusals.TooWide fault
+    (λ e. cc) e
+
+near_if : (is : Bool) (lines : Option ℕ) (near : ℕ) (fault : TraceFault)
+    → cond is None (lines_refusal lines near) ≡ Some (refusals.Trace fault) → ⊥
+near_if true lines near fault e = absurd cc
+near_if false lines near fault e = lines_not lines near fault e
+
+near_not : (lines : Option ℕ) (near : ℕ) (fault : TraceFault)
+    → near_refusal lines near ≡ Some (refusals.Trace fault) → ⊥
+near_not lines near fault e = near_if (eqb near 0) lines near fault e
+
 either_not : (a b : Option Refusal) (x : Refusal) → (a ≡ Some x → ⊥) → (b ≡ Some x → ⊥)
     → option_or a b ≡ Some x → ⊥
 either_not None b x first second e = second e
@@ -82,9 +98,12 @@ pub header_not : (w : Wanted) (h : Option Header) (fault : TraceFault) → heade
     ≡ Some (refusals.Trace fault) → ⊥
 header_not w None fault e = cc
 header_not w (Some h) fault e =
-    either_not (harts_refusal w.harts h.harts) (first_refusal w.first h.first)
+    either_not (near_refusal w.lines h.near)
+    (option_or (harts_refusal w.harts h.harts) (first_refusal w.first h.first))
+    (refusals.Trace fault) (near_not w.lines h.near fault)
+    (either_not (harts_refusal w.harts h.harts) (first_refusal w.first h.first)
     (refusals.Trace fault) (harts_not w.harts h.harts fault)
-    (first_not w.first h.first fault) e
+    (first_not w.first h.first fault)) e
 
 pub first_not_memory : (w : Wanted) (h : Option Header) (told : Option Refusal) (fault : TraceFault)
     → told ≡ header_refusal w h
@@ -95,7 +114,7 @@ first_not_memory w h (Some x) fault is other = λ e. header_not w h faults.NoMem
     (sym is ∙ ap (λ (y : Refusal). Some y) e)
 
 -- records come after a header
-head_in : (p : Option ReadSoFar) (e : Option Ending) (items : List TraceRecord) → IsSoFar p e items
+head_in : (p : Option ReadSoFar) (e : Option TraceEnd) (items : List TraceRecord) → IsSoFar p e items
     → 0 < length items
     → (now : ReadSoFar) × (p ≡ Some now)
 head_in None e items is some = let none = ap length is.0 in absurd (omega arith)
@@ -105,7 +124,7 @@ all_behind : {A : Type 0} (P : A → Type 0) (xs ys : List A) → All P (xs ++ y
 all_behind P [] ys is = is
 all_behind P (x ∷ xs) ys is = all_behind P xs ys (All-tail P x (xs ++ ys) is)
 
-writable_in : (p : Option ReadSoFar) (e : Option Ending) (items : List TraceRecord)
+writable_in : (p : Option ReadSoFar) (e : Option TraceEnd) (items : List TraceRecord)
     → IsSoFar p e items → All IsWritable items
 writable_in None e items is = subst (All IsWritable) (sym is.0) (All-nil IsWritable)
 writable_in (Some p) None items is = is.0.writable
@@ -149,8 +168,11 @@ header_no_trace : (w : Wanted) (h : Option Header) (fault : TraceFault)
     → header_refusal w h ≡ Some (refusals.Trace fault) → ⊥
 header_no_trace w None fault e = absurd cc
 header_no_trace w (Some h) fault e =
-    either_no_trace (harts_refusal w.harts h.harts) (first_refusal w.first h.first) fault
-    (harts_no_trace w.harts h.harts fault) (first_no_trace w.first h.first fault) e
+    either_no_trace (near_refusal w.lines h.near)
+    (option_or (harts_refusal w.harts h.harts) (first_refusal w.first h.first)) fault
+    (near_not w.lines h.near fault)
+    (either_no_trace (harts_refusal w.harts h.harts) (first_refusal w.first h.first) fault
+    (harts_no_trace w.harts h.harts fault) (first_no_trace w.first h.first fault)) e
 
 version_no_trace : (pcs : Bool) (v : Option Version) (fault : TraceFault)
     → version_refusal pcs v ≡ Some (refusals.Trace fault) → ⊥
@@ -159,6 +181,7 @@ version_no_trace true None fault e = absurd cc
 version_no_trace true (Some One) fault e = absurd cc
 version_no_trace true (Some Two) fault e = absurd cc
 version_no_trace true (Some Three) fault e = absurd cc
+version_no_trace true (Some Four) fault e = absurd cc
 
 pub no_trace_front : (w : Wanted) (v : Option Version) (h : Option Header) (fault : TraceFault)
     → option_or (version_refusal w.pcs v) (header_refusal w h) ≡ Some (refusals.Trace fault) → ⊥

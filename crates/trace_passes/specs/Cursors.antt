@@ -9,14 +9,13 @@ use Rattle.trace_format.specs.declared.record.TraceRecord.{TraceRecord}
 use Rattle.trace_format.specs.declared.fault.TraceFault.{TraceFault}
 use Rattle.trace_format.specs.declared.record.Header.{Header}
 use Rattle.trace_format.specs.declared.record.Version.{Version}
-use Rattle.trace_format.specs.declared.record.Version.TheVariants.{Three}
 use Rattle.trace_format.specs.Reading.{Reading, reading_of}
 use Rattle.trace_format.specs.Rules.{IsGoodHeader, longest_trace}
 use Rattle.trace_passes.specs.declared.passes.Passed.{Passed}
 use Rattle.trace_passes.specs.declared.wanted.Refusal.{Refusal}
 use Rattle.trace_passes.specs.declared.wanted.Wanted.{Wanted}
 use Rattle.trace_passes.specs.Passes.{IsWanted, head_of, header_refusal, pcs_refusal, refusal_of}
-use Rattle.trace_passes.specs.Passes.{trace_of, trace_with}
+use Rattle.trace_passes.specs.Passes.{HasPcs, near_refusal, trace_of, trace_with}
 
 -- These bytes are read with no fault, and neither their version nor their header is refused.
 pub record IsRead (w : Wanted) (bytes : List ℕ) (now : Reading) : Type 0 where
@@ -97,7 +96,8 @@ pub record HasEnded (held : Option Files) (name : List ℕ) (w : Wanted) (bytes 
   pub is : trace_of bytes ≡ Some (trace_with passed items)
   pub header : IsGoodHeader passed.header
   pub wanted : IsWanted w passed.header
-  pub sited : w.pcs ≡ true → passed.version ≡ Three
+  pub sited : w.pcs ≡ true → HasPcs passed.version
+  pub near : near_refusal w.lines passed.header.near ≡ None
   pub accepted : refusal_of w bytes ≡ None
 
 -- These bytes are all of the name's, where these are told, and are refused so. The cursor holds the

@@ -5,3 +5,4 @@ pub mod Lives
 pub mod Passes
 pub mod Rooms
 pub mod Ways
+pub mod Whole

@@ -1,14 +1,14 @@
 -- Which trace some bytes are, how one is refused that is not wanted, and what a pass over it says.
-use Rattle.std.specs.Prelude.{◌≡◌, ℕ, ◌-◌, ◌≤◌, ◌==◌, List, [], ◌∷◌, ◌++◌, length, take, Option}
+use Rattle.std.specs.Prelude.{◌≡◌, ℕ, ◌-◌, ◌≤◌, ◌==◌, ◌^◌, nat_le, List, [], ◌∷◌, ◌++◌, length, take, Option}
 use Rattle.std.specs.Prelude.{Some, None, Result, Ok, Err, IsErrOf, if◌then◌else◌, option_map}
 use Rattle.std.specs.Prelude.{Bool, true}
 use Rattle.std.specs.Option.{ForSome, option_or}
-use Rattle.base.specs.declared.ending.Ending.{Ending}
+use Rattle.trace_format.specs.declared.record.TraceEnd.{TraceEnd}
 use Rattle.shelf.specs.Shelf.{Files, Outside, Rose, Told, content}
 use Rattle.trace_format.specs.declared.fault.TraceFault.{TraceFault}
 use Rattle.trace_format.specs.declared.record.Header.{Header}
 use Rattle.trace_format.specs.declared.record.Version.{Version}
-use Rattle.trace_format.specs.declared.record.Version.TheVariants.{One, Two}
+use Rattle.trace_format.specs.declared.record.Version.TheVariants.{One, Two, Three, Four}
 use Rattle.trace_format.specs.declared.record.TraceRecord.{TraceRecord}
 use Rattle.trace_format.specs.declared.record.TraceRecord.TheVariants as records
 use Rattle.trace_format.specs.declared.read_so_far.ReadSoFar.{ReadSoFar}
@@ -29,7 +29,7 @@ pub record Trace : Type 0 where
   pub version : Version
   pub header : Header
   pub items : List TraceRecord
-  pub ending : Ending
+  pub ending : TraceEnd
 
 -- all records, the end included
 abbrev pub all_records : Trace → List TraceRecord
@@ -43,7 +43,7 @@ spell_trace t = spell t.version t.header t.items t.ending
 abbrev pub before_last : List TraceRecord → List TraceRecord
 before_last all = take (length all - 1) all
 
-abbrev pub trace_at : List TraceRecord → Option ReadSoFar → Result Ending TraceFault → Option Trace
+abbrev pub trace_at : List TraceRecord → Option ReadSoFar → Result TraceEnd TraceFault → Option Trace
 trace_at all (Some p) (Ok e) =
     Some (record { version = p.version; header = p.header; items = before_last all; ending = e })
 trace_at all None (Ok e) = None
@@ -63,6 +63,12 @@ version_refusal true (Some One) = Some refusals.NoPcs
 version_refusal true (Some Two) = Some refusals.NoPcs
 version_refusal _ _ = None
 
+-- these versions have pcs
+abbrev pub HasPcs : Version → Type 0
+HasPcs Three = Unit {0}
+HasPcs Four = Unit {0}
+HasPcs _ = ⊥
+
 -- how bytes are refused for their version, by the magic that they begin with, whatever is behind it
 abbrev pub pcs_refusal : Wanted → List ℕ → Option Refusal
 pcs_refusal w bytes = version_refusal w.pcs (version_at bytes)
@@ -81,17 +87,26 @@ first_refusal None first = None
 first_refusal (Some wanted) first = if first == wanted then None
     else Some (refusals.Position wanted first)
 
+-- A filtered trace is refused where none is wanted, and where the lines have more bytes than its
+-- regions.
+abbrev pub lines_refusal : Option ℕ → ℕ → Option Refusal
+lines_refusal None near = Some refusals.Filtered
+lines_refusal (Some size) near = if nat_le size (2 ^ near) then None else Some refusals.TooWide
+
+abbrev pub near_refusal : Option ℕ → ℕ → Option Refusal
+near_refusal lines near = if near == 0 then None else lines_refusal lines near
+
 -- the header, once it is accepted
 abbrev pub head_of : Option ReadSoFar → Option Header
 head_of progress = option_map (λ p. p.header) progress
 
--- how an accepted header is refused: for its harts, then for its first position
+-- how an accepted header is refused: for its regions, then for its harts, then for its first position
 abbrev pub header_refusal : Wanted → Option Header → Option Refusal
 header_refusal w None = None
-header_refusal w (Some h) = option_or (harts_refusal w.harts h.harts)
-    (first_refusal w.first h.first)
+header_refusal w (Some h) = option_or (near_refusal w.lines h.near)
+    (option_or (harts_refusal w.harts h.harts) (first_refusal w.first h.first))
 
-abbrev pub trace_refusal : Result Ending TraceFault → Option Refusal
+abbrev pub trace_refusal : Result TraceEnd TraceFault → Option Refusal
 trace_refusal (Ok e) = None
 trace_refusal (Err fault) = Some (refusals.Trace fault)
 

@@ -10,15 +10,15 @@ ghost use Rattle.trace_format.specs.declared.fault.TraceFault.TheVariants as tra
 ghost use Rattle.trace_format.specs.Rules.{IsGoodHeader, IsWritable};
 ghost use Rattle.trace_passes.specs.declared.wanted.Refusal.{Refusal as Refused};
 ghost use Rattle.trace_passes.specs.declared.wanted.Refusal.TheVariants as refusals;
-ghost use Rattle.trace_passes.specs.Passes.{HasParts, HasPassCause, HasPassed, IsWanted};
-ghost use Rattle.trace_passes.specs.Passes.{refusal_of};
+ghost use Rattle.trace_passes.specs.Passes.{HasParts, HasPassCause, HasPassed, HasPcs, IsWanted};
+ghost use Rattle.trace_passes.specs.Passes.{near_refusal, refusal_of};
 ghost use Rattle.trace_passes.specs.Rooms.{HasRoom};
 
 use crate::{Cursor, Observer, Refusal, Wanted};
-use base::{Ending, NoMemory as WantOfMemory};
+use base::NoMemory as WantOfMemory;
 use shelf::{Shelf, ShelfError};
 use std::alloc::{AllocError, Global};
-use trace_format::{Header, TraceRecord, Version};
+use trace_format::{Header, TraceEnd, TraceRecord, Version};
 
 /// What a trace is whose records an observer saw.
 #[derive(Clone, Copy, PartialEq, Eq, Debug)]
@@ -28,7 +28,7 @@ pub struct Passed {
     /// Its header.
     pub header: Header,
     /// Its end.
-    pub ending: Ending,
+    pub ending: TraceEnd,
 }
 
 /// Why a pass gave up.
@@ -92,8 +92,9 @@ fn note_all<O: Observer>(observer: &mut O, items: &[TraceRecord]) -> Result<(), 
 /// order, the end record last.
 ///
 /// Where pcs are wanted, the first 8 bytes are judged before anything behind them is read: the magic
-/// of version 1 or 2 is refused. Once the header is accepted it is judged: another number of harts
-/// than is wanted, then another first position, comes before any fault of the records. `ReadFault`
+/// of version 1 or 2 is refused. Once the header is accepted it is judged: that the trace is filtered, or has
+/// too small regions, then another number of harts than is wanted, then another first position, comes
+/// before any fault of the records. `ReadFault`
 /// comes only where the shelf's faults of reading this name rose in this call, and `NoMemory` for
 /// want of memory alone. At an error nothing is said of the observer.
 pub fn pass<S: Shelf, O: Observer>(
@@ -112,9 +113,11 @@ pub fn pass<S: Shelf, O: Observer>(
         (O.given observer.old observer.new)) }
     ensures head { IfOk result (λ passed. IsGoodHeader passed.header
         × IsWanted wanted.now passed.header) }
-    // Only version 3 passes where pcs are wanted.
-    ensures sited { IfOk result (λ passed. wanted.now.pcs ≡ true
-        → passed.version ≡ Version.Three) }
+    // Only versions 3 and 4 pass where pcs are wanted.
+    ensures sited { IfOk result (λ passed. wanted.now.pcs ≡ true → HasPcs passed.version) }
+    // A filtered trace passes only where its regions are as large as is wanted.
+    ensures near { IfOk result (λ passed. near_refusal wanted.now.lines passed.header.near
+        ≡ None) }
     ensures accepted { OnOk result (Told (S.outside shelf.new).held
         (λ files. refusal_of wanted.now (content files name.now) ≡ None)) }
     ensures refused { (refusal : Refused) → result ≡ Err (PassFault.Refused refusal)

@@ -2,11 +2,11 @@
 ghost use Rattle.std.specs.Prelude.{IfSome};
 ghost use Rattle.trace_format.specs.Rules.{IsWritable};
 
-use base::{Access, Ending, Hart, Kind, Name, NoMemory, Outcome};
+use base::{Access, Hart, Kind, Name, NoMemory, Outcome};
 use objects::SymbolKind;
 use std::alloc::{AllocError, Global};
 use std::test::Fail;
-use trace_format::{Header, TraceRecord, TraceWriter, Version};
+use trace_format::{Header, TraceEnd, TraceRecord, TraceWriter, Version};
 
 // A row of a table.
 #[derive(Clone, Copy)]
@@ -44,10 +44,11 @@ fn plain_record(line: &Line) -> Option<TraceRecord>
         }
         Line::Free(addr) => Some(TraceRecord::Free { addr }),
         Line::Symbol(..) => None,
-        Line::Exit(status, steps, accesses) => Some(TraceRecord::End(Ending {
+        Line::Exit(status, steps, accesses) => Some(TraceRecord::End(TraceEnd {
             outcome: Outcome::Exit(status),
             steps,
             accesses,
+            whole: None,
         })),
     }
 }
@@ -120,7 +121,12 @@ fn put(writer: &mut TraceWriter, line: &Line, into: &mut Vec<u8>) -> Result<(), 
 // Appends a header by 8 harts, and what the rows tell.
 fn put_trace(version: Version, lines: &[Line], into: &mut Vec<u8>) -> Result<(), Fail> {
     let mut writer = TraceWriter::new(version);
-    writer.header(Header { first: 0, harts: 8 }, into)?;
+    let header = Header {
+        first: 0,
+        harts: 8,
+        near: 0,
+    };
+    writer.header(header, into)?;
     for line in lines {
         put(&mut writer, line, into)?;
     }

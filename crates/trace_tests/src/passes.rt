@@ -20,6 +20,7 @@ pub(crate) fn tallied(
         harts: Some(8),
         first: Some(first),
         pcs: false,
+        lines: None,
     };
     let mut tally = tally_from(first);
     match pass(alloc, &mut shelf, "t", &wanted, &mut tally) {
@@ -107,6 +108,7 @@ fn sited(alloc: Global, content: &[u8]) -> Result<(), PassFault> {
         harts: None,
         first: Some(0),
         pcs: true,
+        lines: None,
     };
     let mut tally = tally_from(0);
     match pass(alloc, &mut shelf, "t", &wanted, &mut tally) {
@@ -131,7 +133,7 @@ fn a_trace_without_pcs_is_refused_by_its_magic(rt: HostRuntime) {
             Refusal::Trace(TraceFault::Truncated(8)),
         ),
         (
-            b"PRDTRC04            ".as_slice(),
+            b"PRDTRC05            ".as_slice(),
             Refusal::Trace(TraceFault::BadMagic),
         ),
     ] {

@@ -157,7 +157,11 @@ fn told_of(alloc: Global, bytes: &[u8]) -> Result<(Option<Version>, Option<Heade
 #[test]
 fn version_and_header_are_told(rt: HostRuntime) -> Result<(), Fail> {
     let bytes = trace_of(rt.alloc(), Version::Two, &[A_SYMBOL])?;
-    let header = Header { first: 0, harts: 8 };
+    let header = Header {
+        first: 0,
+        harts: 8,
+        near: 0,
+    };
     assert!(rt; told_of(rt.alloc(), &bytes) == Ok((Some(Version::Two), Some(header))));
     let records = records_of(rt.alloc(), &[A_SYMBOL])?;
     assert!(rt; answer_in(rt.alloc(), &bytes, 3)?.records == records);

@@ -1,9 +1,9 @@
 // A trace cut in two.
 use crate::lines::{Line, records_of};
-use base::{Ending, Kind, Outcome};
+use base::{Kind, Outcome};
 use objects::SymbolKind;
 use std::test::Fail;
-use trace_format::{Header, Side, Splitter, TraceRecord};
+use trace_format::{Header, Side, Splitter, TraceEnd, TraceRecord};
 
 // Two accesses, with other records before, between and behind them.
 const TWO_ACCESSES: [Line; 6] = [
@@ -15,7 +15,11 @@ const TWO_ACCESSES: [Line; 6] = [
     Line::Exit(7, 9, 2),
 ];
 
-const HEADER: Header = Header { first: 5, harts: 8 };
+const HEADER: Header = Header {
+    first: 5,
+    harts: 8,
+    near: 0,
+};
 
 fn letter_of(side: Side) -> u8 {
     match side {
@@ -52,18 +56,21 @@ fn the_access_at_the_cut_begins_the_second_half(rt: HostRuntime) -> Result<(), F
 #[test]
 fn the_halves_have_headers_and_ends(rt: HostRuntime) {
     let splitter = Splitter::new(HEADER, 6, 4);
-    assert!(rt; splitter.headers() == (HEADER, Header { first: 9, harts: 8 }));
-    let whole = Ending {
+    let later = Header { first: 9, ..HEADER };
+    assert!(rt; splitter.headers() == (HEADER, later));
+    let whole = TraceEnd {
         outcome: Outcome::Exit(7),
         steps: 9,
         accesses: 6,
+        whole: None,
     };
-    let first = Ending {
+    let first = TraceEnd {
         outcome: Outcome::Part,
         steps: 0,
         accesses: 4,
+        whole: None,
     };
-    let second = Ending {
+    let second = TraceEnd {
         accesses: 2,
         ..whole
     };

@@ -1,4 +1,6 @@
 -- What has been seen of the invalidations of all lines.
+use Rattle.std.specs.Prelude.{ℕ}
+use Rattle.std.specs.Prelude.{Option}
 use Rattle.std.proofs.Common.{◌≡◌, List, [], ◌∷◌, refl, sym, ap, None}
 use Rattle.std.proofs.lemmas.Option.{none-some}
 use Rattle.base.specs.Lines.{Grid}
@@ -34,8 +36,8 @@ pub stands-seen : (g : Grid) (now : Blamed) (items : List TraceRecord)
     → HasBlamed (nothing_blamed g) now items → StandsFor (sited_in items) now
 stands-seen g now items seen = seen.stands [] (stands-empty g)
 
-pub text-seen : (g : Grid) (now : Blamed) (items : List TraceRecord)
+pub text-seen : (g : Grid) (whole : Option ℕ) (now : Blamed) (items : List TraceRecord)
     → HasBlamed (nothing_blamed g) now items
-    → blame_text now.grid (sited_in items) ≡ blame_of_records g items
+    → blame_text now.grid whole (sited_in items) ≡ blame_of_records g whole items
 unfolding blame_of_records
-text-seen g now items seen = ap (λ (q : Grid). blame_text q (sited_in items)) seen.setting
+text-seen g whole now items seen = ap (λ (q : Grid). blame_text q whole (sited_in items)) seen.setting

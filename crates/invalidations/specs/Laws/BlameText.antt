@@ -1,4 +1,5 @@
 -- The text of what is kept is that of the list that it stands for.
+use Rattle.std.specs.Prelude.{Option}
 use Rattle.std.proofs.Common.{◌≡◌, ℕ, false, eqb, List, [], ◌∷◌, ◌++◌, length, refl, sym, ap}
 use Rattle.std.proofs.Common.{◌∙◌, arith, inl, inr, map, filter}
 use Rattle.std.proofs.lemmas.Bool.{cases_Bool, eqb-true}
@@ -68,20 +69,20 @@ rows-gathered p q x y (h ∷ hs) e f =
     (rows-gathered p q x y hs e f)
 
 -- the text of gathered rows is that of what is kept
-pub text-gathered : (k : Blamed) (hs : List TakenHead) (ps qs : List (ℕ × Rows))
+pub text-gathered : (k : Blamed) (whole : Option ℕ) (hs : List TakenHead) (ps qs : List (ℕ × Rows))
     → hs ≡ heads_in_order k.grid k.parts.lines
     → ((r : ℕ) → gathered_at ps r ≡ rows_in r k.parts.pairs)
     → ((r : ℕ) → gathered_at qs r ≡ rows_in r k.parts.harts)
-    → text_of (gathered_lines k hs ps qs) ≡ kept_text k
-text-gathered k hs ps qs e f g =
+    → text_of (gathered_lines k whole hs ps qs) ≡ kept_text k whole
+text-gathered k whole hs ps qs e f g =
     let pairs : ℕ → Rows = λ r. rows_in r k.parts.pairs in
     let harts : ℕ → Rows = λ r. rows_in r k.parts.harts in
-    ap (λ (ls : List TextLine). text_of (blame_heads k.grid k.position (length hs) ++ ls
+    ap (λ (ls : List TextLine). text_of (blame_heads k.grid k.position whole (length hs) ++ ls
     ++ blame_ends k.total)) (rows-gathered (gathered_at ps) (gathered_at qs) pairs harts hs f g)
-    ∙ ap (λ (n : ℕ). text_of (blame_heads k.grid k.position n
+    ∙ ap (λ (n : ℕ). text_of (blame_heads k.grid k.position whole n
     ++ flat_map lines_of_line (map (with_rows pairs harts) hs) ++ blame_ends k.total))
     (sym (length-map hs (with_rows pairs harts)))
-    ∙ ap (λ (xs : List TakenHead). text_of (blame_lines k.grid k.position
+    ∙ ap (λ (xs : List TakenHead). text_of (blame_lines k.grid k.position whole
     (map (with_rows pairs harts) xs) k.total)) e
 
 -- ---- what is kept, and the list
@@ -125,14 +126,15 @@ most-taken k u are =
     (ap (λ (es : List (ℕ × LineTaken)). map rows (map (head_of k.grid) es)) are.lines
     ∙ rows-made k u are (lines_in k.grid u)))
 
-pub text-stands : (k : Blamed) (u : List Sited) → StandsFor u k → kept_text k ≡ blame_text k.grid u
+pub text-stands : (k : Blamed) (whole : Option ℕ) (u : List Sited) → StandsFor u k
+    → kept_text k whole ≡ blame_text k.grid whole u
 unfolding blame_text
-text-stands k u stands =
-    ap (λ (n : ℕ). text_of (blame_lines k.grid n
+text-stands k whole u stands =
+    ap (λ (n : ℕ). text_of (blame_lines k.grid n whole
     (map (with_rows (λ r. rows_in r k.parts.pairs) (λ r. rows_in r k.parts.harts))
     (heads_in_order k.grid k.parts.lines)) k.total)) stands.position
-    ∙ ap (λ (n : ℕ). text_of (blame_lines k.grid (length u)
+    ∙ ap (λ (n : ℕ). text_of (blame_lines k.grid (length u) whole
     (map (with_rows (λ r. rows_in r k.parts.pairs) (λ r. rows_in r k.parts.harts))
     (heads_in_order k.grid k.parts.lines)) n)) stands.total
-    ∙ ap (λ (rows : List TakenLine). text_of (blame_lines k.grid (length u) rows
+    ∙ ap (λ (rows : List TakenLine). text_of (blame_lines k.grid (length u) whole rows
     (all_invalidations k.grid u))) (most-taken k u stands.parts)

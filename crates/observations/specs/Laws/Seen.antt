@@ -5,6 +5,7 @@ use Rattle.std.proofs.lemmas.List.Elements.{filter_map-append}
 use Rattle.base.specs.Levels.{Levels}
 use Rattle.base.specs.Lines.{Grid}
 use Rattle.base.specs.declared.ending.Ending.{Ending}
+use Rattle.trace_format.specs.declared.record.TraceEnd.{TraceEnd}
 use Rattle.objects.specs.Objects.{Objects, no_objects}
 use Rattle.objects.specs.Symbols.{symbols_of}
 use Rattle.sharing_rules.specs.AccessLists.{AccessList}
@@ -25,7 +26,7 @@ pub observed_after-push : (s : ObservedTrace) (items : List TraceRecord) (x : Tr
 observed_after-push s [] x = refl
 observed_after-push s (item ∷ items) x = observed_after-push (noted s item) items x
 
-module _ (items : List TraceRecord) (e : Ending) where
+module _ (items : List TraceRecord) (e : TraceEnd) where
   touches-end : touches_in (items ++ records.End e ∷ []) ≡ touches_in items
   touches-end = filter_map-append touch_in items (records.End e ∷ [])
       ∙ append-nil (touches_in items)

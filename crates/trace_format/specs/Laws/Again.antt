@@ -25,7 +25,8 @@ use Rattle.base.specs.declared.ending.Outcome.TheVariants.{Part}
 use Rattle.trace_format.specs.declared.before.Before.{Before}
 use Rattle.trace_format.specs.declared.record.Header.{Header}
 use Rattle.trace_format.specs.declared.record.Version.{Version}
-use Rattle.trace_format.specs.declared.record.Version.TheVariants.{One, Two, Three}
+use Rattle.trace_format.specs.declared.record.Version.TheVariants.{One, Two, Three, Four}
+use Rattle.trace_format.specs.declared.record.TraceEnd.{TraceEnd}
 use Rattle.trace_format.specs.declared.record.TraceRecord.{TraceRecord}
 use Rattle.trace_format.specs.declared.record.TraceRecord.TheVariants as records
 use Rattle.trace_format.specs.declared.read_so_far.ReadSoFar.{ReadSoFar}
@@ -36,43 +37,61 @@ use Rattle.trace_format.specs.Spelling.{pc_before, spell_short_touch, spell_touc
 use Rattle.trace_format.specs.Tags.{half_of}
 use Rattle.std.specs.Int.{w32, w64}
 use Rattle.trace_format.specs.Rules.{FitsFields, IsAllowedEnd, IsGoodBefore, IsGoodEnding}
-use Rattle.trace_format.specs.Rules.{IsGoodHeader, IsGoodPc, IsGoodRecord, IsGoodSymbol}
+use Rattle.trace_format.specs.Rules.{HasRegions, IsGoodHeader, IsGoodPc, IsGoodRecord, IsGoodSymbol}
 use Rattle.trace_format.specs.Rules.{IsGoodTouch, last_position}
-use Rattle.trace_format.specs.Judging.{alloc_at, begun, cause_of, header_judged}
+use Rattle.trace_format.specs.Judging.{alloc_at, begun, cause_of, end_counted, header_judged}
 use Rattle.base.specs.Fields.{number_at}
 use Rattle.trace_format.specs.Judging.{outcome_judged, plain_judged, record_judged}
 use Rattle.trace_format.specs.Judging.{short_touch_extent, short_touch_judged, sited_touch_judged}
 use Rattle.trace_format.specs.Judging.{with_pc}
 use Rattle.trace_format.specs.Judging.{symbol_judged, symbol_kind_of, touch_judged, trap_judged}
-use Rattle.trace_format.specs.Laws.Spelling.{address_again, distance_small, groups_good}
+use Rattle.trace_format.specs.Laws.Ends.{whole_fits, whole_of}
+use Rattle.trace_format.specs.Laws.Spelling.{address_again, distance_small, filtered_touch_tag}
+use Rattle.trace_format.specs.Laws.Spelling.{groups_good}
 use Rattle.trace_format.specs.Laws.Spelling.{number_again, numbers_told, short_touch_tag}
 use Rattle.trace_format.specs.Laws.Spelling.{sited_touch_tag, touch_tag}
 use Rattle.trace_format.specs.Laws.Before.{pc_before_low}
 
-pub header_again : (v : Version) (h : Header) → IsGoodHeader h
+pub header_again : (v : Version) (h : Header) → IsGoodHeader h → HasRegions v h
     → header_judged (spell_header v h) ≡ Ok (begun v h)
 unfolding header_judged spell_header
-header_again One h good =
+header_again One h good regions =
     let first = from_le_bytes-to_le_bytes_8 h.first (omega (arith, good.position)) in
     let harts = from_le_bytes-to_le_bytes_2 h.harts (omega (arith, good.few)) in
+    let last = from_le_bytes-to_le_bytes_2 h.near (omega (arith, regions)) in
     let near : ltb last_position h.first ≡ false = grind (arith, nat_tests, good.position) in
     let some : leb 1 h.harts ≡ true = grind (arith, nat_tests, good.some) in
     let few : leb h.harts 256 ≡ true = grind (arith, nat_tests, good.few) in
-    rw (first, harts, near, some, few) refl
-header_again Two h good =
+    let unused : eqb h.near 0 ≡ true = eq-eqb h.near 0 regions in
+    rw (first, harts, last, near, some, few, unused) refl
+header_again Two h good regions =
     let first = from_le_bytes-to_le_bytes_8 h.first (omega (arith, good.position)) in
     let harts = from_le_bytes-to_le_bytes_2 h.harts (omega (arith, good.few)) in
+    let last = from_le_bytes-to_le_bytes_2 h.near (omega (arith, regions)) in
     let near : ltb last_position h.first ≡ false = grind (arith, nat_tests, good.position) in
     let some : leb 1 h.harts ≡ true = grind (arith, nat_tests, good.some) in
     let few : leb h.harts 256 ≡ true = grind (arith, nat_tests, good.few) in
-    rw (first, harts, near, some, few) refl
-header_again Three h good =
+    let unused : eqb h.near 0 ≡ true = eq-eqb h.near 0 regions in
+    rw (first, harts, last, near, some, few, unused) refl
+header_again Three h good regions =
     let first = from_le_bytes-to_le_bytes_8 h.first (omega (arith, good.position)) in
     let harts = from_le_bytes-to_le_bytes_2 h.harts (omega (arith, good.few)) in
+    let last = from_le_bytes-to_le_bytes_2 h.near (omega (arith, regions)) in
     let near : ltb last_position h.first ≡ false = grind (arith, nat_tests, good.position) in
     let some : leb 1 h.harts ≡ true = grind (arith, nat_tests, good.some) in
     let few : leb h.harts 256 ≡ true = grind (arith, nat_tests, good.few) in
-    rw (first, harts, near, some, few) refl
+    let unused : eqb h.near 0 ≡ true = eq-eqb h.near 0 regions in
+    rw (first, harts, last, near, some, few, unused) refl
+header_again Four h good regions =
+    let first = from_le_bytes-to_le_bytes_8 h.first (omega (arith, good.position)) in
+    let harts = from_le_bytes-to_le_bytes_2 h.harts (omega (arith, good.few)) in
+    let last = from_le_bytes-to_le_bytes_2 h.near (omega (arith, regions.1.1)) in
+    let near : ltb 0 h.first ≡ false = grind (arith, nat_tests, regions.0) in
+    let some : leb 1 h.harts ≡ true = grind (arith, nat_tests, good.some) in
+    let few : leb h.harts 256 ≡ true = grind (arith, nat_tests, good.few) in
+    let least : leb 6 h.near ≡ true = grind (arith, nat_tests, regions.1.0) in
+    let most : leb h.near 16 ≡ true = grind (arith, nat_tests, regions.1.1) in
+    rw (first, harts, last, near, some, few, least, most) refl
 
 touch_again : (harts place : ℕ) (before : Before) (a : Touch) (pc : Option ℕ)
     → IsGoodTouch harts a
@@ -161,16 +180,24 @@ cause_again LoadOutside = refl
 cause_again StoreMisaligned = refl
 cause_again StoreOutside = refl
 
-outcome_again : (harts place : ℕ) (o : Outcome) (steps accesses : ℕ) → harts ≤ 256
-    → IsAllowedEnd steps o → FitsFields harts o → steps < 2 ^ 64
-    → outcome_judged harts place (spell_ending
-    (record { outcome = o; steps = steps; accesses = accesses })) ≡ Ok o
+-- the end of a trace of such parts
+abbrev an_end : Outcome → ℕ → ℕ → Option ℕ → TraceEnd
+an_end o steps accesses whole = record {
+  outcome = o;
+  steps = steps;
+  accesses = accesses;
+  whole = whole;
+}
+
+outcome_again : (v : Version) (harts place : ℕ) (o : Outcome) (steps accesses : ℕ)
+    (whole : Option ℕ) → harts ≤ 256 → IsAllowedEnd steps o → FitsFields harts o → steps < 2 ^ 64
+    → outcome_judged harts place (spell_ending v (an_end o steps accesses whole)) ≡ Ok o
 unfolding outcome_judged trap_judged plain_judged spell_ending
-outcome_again harts place (Exit code) steps accesses few allowed fits s =
+outcome_again v harts place (Exit code) steps accesses whole few allowed fits s =
     rw (from_le_bytes-to_le_bytes_4 code fits) refl
-outcome_again harts place Budget steps accesses few allowed fits s = refl
-outcome_again harts place Deadlock steps accesses few allowed fits s = refl
-outcome_again harts place (Trap hart pc cause) steps accesses few allowed fits s =
+outcome_again v harts place Budget steps accesses whole few allowed fits s = refl
+outcome_again v harts place Deadlock steps accesses whole few allowed fits s = refl
+outcome_again v harts place (Trap hart pc cause) steps accesses whole few allowed fits s =
     let inside : leb harts hart ≡ false = grind (arith, nat_tests, fits.0) in
     let aligned : eqb (pc % 4) 0 ≡ true = eq-eqb (pc % 4) 0 allowed in
     rw (
@@ -180,7 +207,7 @@ outcome_again harts place (Trap hart pc cause) steps accesses few allowed fits s
       inside,
       aligned,
     ) refl
-outcome_again harts place Part steps accesses few allowed fits s =
+outcome_again v harts place Part steps accesses whole few allowed fits s =
     rw (from_le_bytes-to_le_bytes_8 steps s, allowed) refl
 
 kind_again : (k : SymbolKind) → symbol_kind_of (kind_number k) ≡ Some k
@@ -251,6 +278,19 @@ first_of_sited_touch : (before : Before) (a : Touch) (pc : Option ℕ)
 unfolding spell_touch
 first_of_sited_touch before a pc = refl
 
+first_of_filtered_touch : (before : Before) (a : Touch) (pc : Option ℕ)
+    → get_or (spell_touch Four before a pc) 0 0 ≡ 16 * half_of a.kind + a.size
+unfolding spell_touch
+first_of_filtered_touch before a pc = refl
+
+filtered_touch_again : (harts place pc : ℕ) (before : Before) (a : Touch) → IsGoodBefore before
+    → IsGoodTouch harts a → pc < 2 ^ 32
+    → sited_touch_judged a.kind a.size harts before place (spell_touch Four before a (Some pc))
+    ≡ Ok (a, Some pc)
+unfolding spell_touch
+filtered_touch_again harts place pc before a low good small =
+    sited_touch_again harts place pc before a low good small
+
 -- in version 2
 short_touch_there : (harts place : ℕ) (before : Before) (a : Touch) (pc : Option ℕ)
     → before.last < 2 ^ 32 → IsGoodTouch harts a
@@ -260,30 +300,29 @@ unfolding spell_touch
 short_touch_there harts place before a pc low good =
     short_touch_again harts before.last place a low good
 
-first_of_ending : (o : Outcome) (steps accesses : ℕ)
-    → get_or (spell_ending (record { outcome = o; steps = steps; accesses = accesses })) 0 0 ≡ 6
+first_of_ending : (v : Version) (o : Outcome) (steps accesses : ℕ) (whole : Option ℕ)
+    → get_or (spell_ending v (an_end o steps accesses whole)) 0 0 ≡ 6
 unfolding spell_ending
-first_of_ending o steps accesses = refl
+first_of_ending v o steps accesses whole = refl
 
-steps_of : (o : Outcome) (steps accesses : ℕ) → steps < 2 ^ 64
-    → number_at w64 9 (spell_ending (record { outcome = o; steps = steps; accesses = accesses }))
-    ≡ steps
+steps_of : (v : Version) (o : Outcome) (steps accesses : ℕ) (whole : Option ℕ) → steps < 2 ^ 64
+    → number_at w64 9 (spell_ending v (an_end o steps accesses whole)) ≡ steps
 unfolding spell_ending
-steps_of (Exit code) steps accesses s = from_le_bytes-to_le_bytes_8 steps s
-steps_of Budget steps accesses s = from_le_bytes-to_le_bytes_8 steps s
-steps_of Deadlock steps accesses s = from_le_bytes-to_le_bytes_8 steps s
-steps_of (Trap hart pc cause) steps accesses s = from_le_bytes-to_le_bytes_8 steps s
-steps_of Part steps accesses s = from_le_bytes-to_le_bytes_8 steps s
+steps_of v (Exit code) steps accesses whole s = from_le_bytes-to_le_bytes_8 steps s
+steps_of v Budget steps accesses whole s = from_le_bytes-to_le_bytes_8 steps s
+steps_of v Deadlock steps accesses whole s = from_le_bytes-to_le_bytes_8 steps s
+steps_of v (Trap hart pc cause) steps accesses whole s = from_le_bytes-to_le_bytes_8 steps s
+steps_of v Part steps accesses whole s = from_le_bytes-to_le_bytes_8 steps s
 
-accesses_of : (o : Outcome) (steps accesses : ℕ) → accesses < 2 ^ 64
-    → number_at w64 17 (spell_ending (record { outcome = o; steps = steps; accesses = accesses }))
-    ≡ accesses
+accesses_of : (v : Version) (o : Outcome) (steps accesses : ℕ) (whole : Option ℕ)
+    → accesses < 2 ^ 64
+    → number_at w64 17 (spell_ending v (an_end o steps accesses whole)) ≡ accesses
 unfolding spell_ending
-accesses_of (Exit code) steps accesses s = from_le_bytes-to_le_bytes_8 accesses s
-accesses_of Budget steps accesses s = from_le_bytes-to_le_bytes_8 accesses s
-accesses_of Deadlock steps accesses s = from_le_bytes-to_le_bytes_8 accesses s
-accesses_of (Trap hart pc cause) steps accesses s = from_le_bytes-to_le_bytes_8 accesses s
-accesses_of Part steps accesses s = from_le_bytes-to_le_bytes_8 accesses s
+accesses_of v (Exit code) steps accesses whole s = from_le_bytes-to_le_bytes_8 accesses s
+accesses_of v Budget steps accesses whole s = from_le_bytes-to_le_bytes_8 accesses s
+accesses_of v Deadlock steps accesses whole s = from_le_bytes-to_le_bytes_8 accesses s
+accesses_of v (Trap hart pc cause) steps accesses whole s = from_le_bytes-to_le_bytes_8 accesses s
+accesses_of v Part steps accesses whole s = from_le_bytes-to_le_bytes_8 accesses s
 
 first_of_alloc : (addr size : ℕ) (sites : List ℕ) → get_or (spell_alloc addr size sites) 0 0 ≡ 3
 unfolding spell_alloc
@@ -348,50 +387,63 @@ module _ (header : Header) (counted : ℕ) (before : Before) (place : ℕ) (few 
         sited_touch_again header.harts place pc before a low good fits,
         inside,
       ) refl
+  touch_judged_again Four a (Some pc) good fits there =
+      let inside : ltb (header.first + counted) last_position ≡ true = grind (arith, nat_tests) in
+      rw (
+        first_of_filtered_touch before a (Some pc),
+        filtered_touch_tag a.kind a.size good.allowed.sized,
+        filtered_touch_again header.harts place pc before a low good fits,
+        inside,
+      ) refl
   touch_judged_again One a (Some pc) good fits there = absurd cc
   touch_judged_again Two a (Some pc) good fits there = absurd cc
   touch_judged_again Three a None good fits there = absurd fits
+  touch_judged_again Four a None good fits there = absurd fits
 
-  end_judged_again : (v : Version) (o : Outcome) (steps accesses : ℕ)
-      → IsGoodEnding header.harts (record { outcome = o; steps = steps; accesses = accesses })
-      → accesses ≡ counted
-      → record_judged (at v) (spell_ending
-      (record { outcome = o; steps = steps; accesses = accesses })) ≡ Ok (records.End (record
-      { outcome = o; steps = steps; accesses = accesses }))
+  end_counted_again : (v : Version) (o : Outcome) (steps accesses : ℕ) (whole : Option ℕ)
+      → IsGoodEnding v header.harts (an_end o steps accesses whole) → accesses ≡ counted
+      → end_counted (at v) (spell_ending v (an_end o steps accesses whole)) (Ok o)
+      ≡ Ok (records.End (an_end o steps accesses whole))
+  unfolding at
+  end_counted_again v o steps accesses whole good same =
+      let told : eqb accesses counted ≡ true = eq-eqb accesses counted same in
+      rw (
+        steps_of v o steps accesses whole good.steps,
+        accesses_of v o steps accesses whole good.accesses,
+        whole_of v o steps accesses whole good.whole,
+        told,
+        whole_fits v accesses whole good.whole,
+      ) refl
+
+  end_judged_again : (v : Version) (o : Outcome) (steps accesses : ℕ) (whole : Option ℕ)
+      → IsGoodEnding v header.harts (an_end o steps accesses whole) → accesses ≡ counted
+      → record_judged (at v) (spell_ending v (an_end o steps accesses whole))
+      ≡ Ok (records.End (an_end o steps accesses whole))
   unfolding at record_judged
-  end_judged_again One o steps accesses good same =
-      let told : eqb accesses counted ≡ true = eq-eqb accesses counted same in
+  end_judged_again One o steps accesses whole good same =
       rw (
-        first_of_ending o steps accesses,
-        outcome_again header.harts place o steps accesses few
-            good.allowed good.outcome good.steps,
-        steps_of o steps accesses good.steps,
-        accesses_of
-            o steps accesses good.accesses,
-        told,
-      ) refl
-  end_judged_again Two o steps accesses good same =
-      let told : eqb accesses counted ≡ true = eq-eqb accesses counted same in
+        first_of_ending One o steps accesses whole,
+        outcome_again One header.harts place o steps accesses whole few good.allowed good.outcome
+            good.steps,
+      ) (end_counted_again One o steps accesses whole good same)
+  end_judged_again Two o steps accesses whole good same =
       rw (
-        first_of_ending o steps accesses,
-        outcome_again header.harts place o steps accesses few
-            good.allowed good.outcome good.steps,
-        steps_of o steps accesses good.steps,
-        accesses_of
-            o steps accesses good.accesses,
-        told,
-      ) refl
-  end_judged_again Three o steps accesses good same =
-      let told : eqb accesses counted ≡ true = eq-eqb accesses counted same in
+        first_of_ending Two o steps accesses whole,
+        outcome_again Two header.harts place o steps accesses whole few good.allowed good.outcome
+            good.steps,
+      ) (end_counted_again Two o steps accesses whole good same)
+  end_judged_again Three o steps accesses whole good same =
       rw (
-        first_of_ending o steps accesses,
-        outcome_again header.harts place o steps accesses few
-            good.allowed good.outcome good.steps,
-        steps_of o steps accesses good.steps,
-        accesses_of
-            o steps accesses good.accesses,
-        told,
-      ) refl
+        first_of_ending Three o steps accesses whole,
+        outcome_again Three header.harts place o steps accesses whole few good.allowed good.outcome
+            good.steps,
+      ) (end_counted_again Three o steps accesses whole good same)
+  end_judged_again Four o steps accesses whole good same =
+      rw (
+        first_of_ending Four o steps accesses whole,
+        outcome_again Four header.harts place o steps accesses whole few good.allowed good.outcome
+            good.steps,
+      ) (end_counted_again Four o steps accesses whole good same)
 
   others_judged_again : (v : Version) (item : TraceRecord) → IsGoodRecord v header.harts item
       → ComesAt (at v) item → record_judged (at v) (spell_record v before item) ≡ Ok item
@@ -399,7 +451,7 @@ module _ (header : Header) (counted : ℕ) (before : Before) (place : ℕ) (few 
   others_judged_again v (records.Touch a pc) good there =
       touch_judged_again v a pc good.0 good.1 there
   others_judged_again v (records.End e) good there =
-      end_judged_again v e.outcome e.steps e.accesses good there
+      end_judged_again v e.outcome e.steps e.accesses e.whole good there
   others_judged_again One (records.Alloc addr size sites) good there =
       rw (first_of_alloc addr size sites) (ap (λ x. Ok x)
       (alloc_again addr size sites good.0 good.1 good.2 good.3))
@@ -409,17 +461,24 @@ module _ (header : Header) (counted : ℕ) (before : Before) (place : ℕ) (few 
   others_judged_again Three (records.Alloc addr size sites) good there =
       rw (first_of_alloc addr size sites) (ap (λ x. Ok x)
       (alloc_again addr size sites good.0 good.1 good.2 good.3))
+  others_judged_again Four (records.Alloc addr size sites) good there =
+      rw (first_of_alloc addr size sites) (ap (λ x. Ok x)
+      (alloc_again addr size sites good.0 good.1 good.2 good.3))
   others_judged_again One (records.Free addr) good there =
       rw (first_of_free addr, addr_of_free addr good) refl
   others_judged_again Two (records.Free addr) good there =
       rw (first_of_free addr, addr_of_free addr good) refl
   others_judged_again Three (records.Free addr) good there =
       rw (first_of_free addr, addr_of_free addr good) refl
+  others_judged_again Four (records.Free addr) good there =
+      rw (first_of_free addr, addr_of_free addr good) refl
   others_judged_again One (records.Symbol kind addr size name) good there =
       rw (first_of_symbol kind addr size name) (symbol_again place kind addr size name good)
   others_judged_again Two (records.Symbol kind addr size name) good there =
       rw (first_of_symbol kind addr size name) (symbol_again place kind addr size name good)
   others_judged_again Three (records.Symbol kind addr size name) good there =
+      rw (first_of_symbol kind addr size name) (symbol_again place kind addr size name good)
+  others_judged_again Four (records.Symbol kind addr size name) good there =
       rw (first_of_symbol kind addr size name) (symbol_again place kind addr size name good)
 
 -- A good record is read again from what it spells.

@@ -6,7 +6,7 @@ use Rattle.std.proofs.lemmas.List.{get_or_past}
 use Rattle.std.proofs.lemmas.List.Elements.{All-get_or, All-replicate, All-set}
 use Rattle.trace_format.specs.declared.before.Before.{Before}
 use Rattle.trace_format.specs.declared.record.Version.{Version}
-use Rattle.trace_format.specs.declared.record.Version.TheVariants.{One, Two, Three}
+use Rattle.trace_format.specs.declared.record.Version.TheVariants.{One, Two, Three, Four}
 use Rattle.trace_format.specs.declared.record.TraceRecord.{TraceRecord}
 use Rattle.trace_format.specs.declared.record.TraceRecord.TheVariants as records
 use Rattle.trace_format.specs.Spelling.{before_after, no_pcs, nothing_before, pc_before}
@@ -33,9 +33,11 @@ pub pc_low : (v : Version) (pc : Option ℕ) → IsGoodPc v pc → pc_or_zero pc
 pc_low One None good = omega arith
 pc_low Two None good = omega arith
 pc_low Three (Some pc) good = good
+pc_low Four (Some pc) good = good
 pc_low One (Some pc) good = absurd cc
 pc_low Two (Some pc) good = absurd cc
 pc_low Three None good = absurd good
+pc_low Four None good = absurd good
 
 -- behind a good record
 pub after_good : (v : Version) (harts : ℕ) (before : Before) (item : TraceRecord)

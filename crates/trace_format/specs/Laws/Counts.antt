@@ -8,16 +8,19 @@ use Rattle.std.proofs.lemmas.Bool.Decides.{nat_tests}
 use Rattle.std.proofs.lemmas.List.{append-nil, length-append}
 use Rattle.std.proofs.lemmas.List.Elements.{All-nil, All-push, filter_map-append}
 use Rattle.std.specs.Int.{w16, w64}
-use Rattle.base.specs.declared.ending.Ending.{Ending}
+use Rattle.trace_format.specs.declared.record.TraceEnd.{TraceEnd}
 use Rattle.trace_format.specs.declared.fault.TraceFault.{TraceFault}
 use Rattle.trace_format.specs.declared.fault.TraceFault.TheVariants as faults
 use Rattle.trace_format.specs.declared.record.Version.{Version}
 use Rattle.trace_format.specs.declared.record.TraceRecord.{TraceRecord}
 use Rattle.trace_format.specs.declared.record.TraceRecord.TheVariants as records
 use Rattle.trace_format.specs.declared.read_so_far.ReadSoFar.{ReadSoFar}
-use Rattle.trace_format.specs.Rules.{IsGoodHeader, IsInner, IsWritable, last_position}
+use Rattle.trace_format.specs.Rules.{HasRegions, IsGoodHeader, IsInner, IsWritable}
+use Rattle.trace_format.specs.Rules.{last_position}
 use Rattle.trace_format.specs.Rules.{longest_trace, touches_in}
-use Rattle.trace_format.specs.Judging.{begun, fields_judged, header_judged}
+use Rattle.trace_format.specs.Judging.{begun, fields_judged, header_judged, highest_first, is_near}
+use Rattle.trace_format.specs.Judging.{is_unused}
+use Rattle.trace_format.specs.Laws.Headers.{first_low, regions_found}
 use Rattle.base.specs.Fields.{number_at}
 use Rattle.trace_format.specs.Judging.{record_judged, version_at}
 use Rattle.trace_format.specs.Reading.{Reading, begin, byte_read, counted_after, ending_in}
@@ -51,18 +54,19 @@ touches_in-front xs ys =
 -- of a trace
 pub record IsCounted (p : ReadSoFar) (items : List TraceRecord) : Type 0 where
   pub header : IsGoodHeader p.header
+  pub regions : HasRegions p.version p.header
   pub writable : All IsWritable items
   pub counted : p.counted ≡ length (touches_in items)
   pub positions : p.header.first + p.counted ≤ last_position
 
 -- this end is the last record and the only one of its kind, and tells how many accesses there are
-pub record EndsWith (items : List TraceRecord) (e : Ending) : Type 0 where
+pub record EndsWith (items : List TraceRecord) (e : TraceEnd) : Type 0 where
   pub before : List TraceRecord
   pub inner : All IsInner before
   pub told : e.accesses ≡ length (touches_in before)
   pub is : items ≡ before ++ records.End e ∷ []
 
-abbrev pub IsSoFar : Option ReadSoFar → Option Ending → List TraceRecord → Type 0
+abbrev pub IsSoFar : Option ReadSoFar → Option TraceEnd → List TraceRecord → Type 0
 IsSoFar None e items = (items ≡ []) × (e ≡ None)
 IsSoFar (Some p) None items = IsCounted p items × All IsInner items
 IsSoFar (Some p) (Some e) items = IsCounted p items × EndsWith items e
@@ -70,27 +74,33 @@ IsSoFar (Some p) (Some e) items = IsCounted p items × EndsWith items e
 -- what an accepted header leaves to be read
 record IsBegun (p : ReadSoFar) : Type 0 where
   header : IsGoodHeader p.header
+  regions : HasRegions p.version p.header
   counted : p.counted ≡ 0
   place : p.place ≡ 20
 
-fields_begin : (v : Option Version) (first harts two : ℕ) (p : ReadSoFar)
-    → fields_judged v first harts two ≡ Ok p → IsBegun p
-fields_begin None first harts two p e = absurd cc
-fields_begin (Some v) first harts two p e =
-    let a = not_refused (ltb last_position first) _ _ p e in
-    let b = granted ((leb 1 harts && leb harts 256) && eqb two 0) _ _ p a.1 in
-    let both = and_parts (leb 1 harts && leb harts 256) (eqb two 0) b.0 in
+fields_begin : (v : Option Version) (first harts last : ℕ) (p : ReadSoFar)
+    → fields_judged v first harts last ≡ Ok p → IsBegun p
+fields_begin None first harts last p e = absurd cc
+fields_begin (Some v) first harts last p e =
+    let a = not_refused (ltb (highest_first v) first) _ _ p e in
+    let b = granted ((leb 1 harts && leb harts 256) && is_unused v last) _ _ p a.1 in
+    let c = granted (is_near v last) _ _ p b.1 in
+    let both = and_parts (leb 1 harts && leb harts 256) (is_unused v last) b.0 in
     let range = and_parts (leb 1 harts) (leb harts 256) both.0 in
-    let near : ltb last_position first ≡ false = a.0 in
     let low : leb 1 harts ≡ true = range.0 in
     let high : leb harts 256 ≡ true = range.1 in
-    let fits : first ≤ last_position = grind (arith, nat_tests) in
+    let fits : first ≤ last_position = first_low v first a.0 in
     let some : 1 ≤ harts = grind (arith, nat_tests) in
     let few : harts ≤ 256 = grind (arith, nat_tests) in
-    let header : IsGoodHeader (record { first = first; harts = harts }) =
+    let header : IsGoodHeader (record { first = first; harts = harts; near = last }) =
     record { position = fits; some = some; few = few } in
-    subst IsBegun (same_Ok (begun v (record { first = first; harts = harts })) p b.1)
-    (record { header = header; counted = refl; place = refl })
+    subst IsBegun (same_Ok (begun v (record { first = first; harts = harts; near = last })) p c.1)
+    (record {
+      header = header;
+      regions = regions_found v first harts last a.0 both.1 c.0;
+      counted = refl;
+      place = refl;
+    })
 
 header_begins : (bytes : List ℕ) (p : ReadSoFar) → header_judged bytes ≡ Ok p → IsBegun p
 unfolding header_judged
@@ -102,6 +112,7 @@ counted_first p is =
     let position = is.header.position in
     record {
       header = is.header;
+      regions = is.regions;
       writable = All-nil IsWritable;
       counted = is.counted;
       positions = omega (arith, is.counted);
@@ -156,6 +167,7 @@ counts_one : (p : ReadSoFar) (items : List TraceRecord) (item : TraceRecord) (si
 counts_one p items item size is one =
     record {
       header = is.header;
+      regions = is.regions;
       writable = All-push IsWritable items item is.writable one.writable;
       counted = ap (λ (n : ℕ). counted_after n item) is.counted ∙ touches_in-more items item;
       positions = positions_after p item one.there is.positions;
@@ -188,13 +200,13 @@ by_test P false x y on off = off refl
 abbrev IsThen : List TraceRecord → List TraceRecord × Reading → Type 0
 IsThen items now = IsSoFar now.1.progress now.1.ending (items ++ now.0)
 
-none_more : (p : Option ReadSoFar) (e : Option Ending) (items : List TraceRecord)
+none_more : (p : Option ReadSoFar) (e : Option TraceEnd) (items : List TraceRecord)
     → IsSoFar p e items
     → IsSoFar p e (items ++ [])
 none_more p e items is = subst (λ (xs : List TraceRecord). IsSoFar p e xs) (sym (append-nil items))
     is
 
-header_then : (items : List TraceRecord) (e : Option Ending) (pending bytes : List ℕ)
+header_then : (items : List TraceRecord) (e : Option TraceEnd) (pending bytes : List ℕ)
     (j : Result ReadSoFar TraceFault)
     → header_judged bytes ≡ j → IsSoFar None e items
     → IsThen items (header_read (waiting None e pending) j)
@@ -202,7 +214,7 @@ header_then items e pending bytes (Err fault) known is = none_more None e items 
 header_then items e pending bytes (Ok p) known is =
     let first : IsSoFar (Some p) None [] =
     (counted_first p (header_begins bytes p known), All-nil IsInner) in
-    none_more (Some p) e items (subst (λ (x : Option Ending). IsSoFar (Some p) x items) (sym is.1)
+    none_more (Some p) e items (subst (λ (x : Option TraceEnd). IsSoFar (Some p) x items) (sym is.1)
     (subst (λ (xs : List TraceRecord). IsSoFar (Some p) None xs) (sym is.0) first))
 
 record_then : (items : List TraceRecord) (p : ReadSoFar) (pending bytes : List ℕ)
@@ -216,7 +228,7 @@ record_then items p pending bytes (Ok item) known is =
     one_more p items item (length bytes) (counts_one p items item (length bytes) counted one)
     counted.counted one.there is.1
 
-part_then : (items : List TraceRecord) (p : Option ReadSoFar) (e : Option Ending)
+part_then : (items : List TraceRecord) (p : Option ReadSoFar) (e : Option TraceEnd)
     (pending bytes : List ℕ) → IsSoFar p e items
     → IsThen items (part_at (waiting p e pending) p e bytes)
 part_then items None e pending bytes is = header_then items e pending bytes (header_judged bytes)
@@ -226,7 +238,7 @@ part_then items (Some p) None pending bytes is = record_then items p pending byt
 part_then items (Some p) (Some e) pending bytes is = none_more (Some p) (Some e) items is
 
 byte_then : (items : List TraceRecord) (f : Option TraceFault) (p : Option ReadSoFar)
-    (e : Option Ending) (pending : List ℕ) (b : ℕ)
+    (e : Option TraceEnd) (pending : List ℕ) (b : ℕ)
     → IsSoFar p e items
     → IsThen items
     (byte_read (record { progress = p; pending = pending; ending = e; fault = f }) b)
@@ -262,7 +274,7 @@ pub so_far : (bytes : List ℕ)
     → (let now = reading_of bytes in IsSoFar now.1.progress now.1.ending now.0)
 so_far bytes = so_far_on bytes begin [] (refl, refl)
 
-counted_in : (p : Option ReadSoFar) (e : Option Ending) (items : List TraceRecord)
+counted_in : (p : Option ReadSoFar) (e : Option TraceEnd) (items : List TraceRecord)
     → IsSoFar p e items → (now : ReadSoFar)
     → p ≡ Some now → IsCounted now items
 counted_in None e items is now known = absurd cc
@@ -296,7 +308,7 @@ IsWithin None (Some p) pending n = (p.place + length pending ≡ n) × (n ≤ lo
 abbrev IsWithinAt : Reading → ℕ → Type 0
 IsWithinAt r n = IsWithin r.fault r.progress r.pending n
 
-header_within : (e : Option Ending) (pending bytes : List ℕ) (n : ℕ)
+header_within : (e : Option TraceEnd) (pending bytes : List ℕ) (n : ℕ)
     (j : Result ReadSoFar TraceFault) → header_judged bytes ≡ j → n ≡ 20
     → IsWithinAt (header_read (waiting None e pending) j).1 n
 header_within e pending bytes n (Err fault) known is = tt
@@ -311,7 +323,7 @@ record_within : (p : ReadSoFar) (pending bytes : List ℕ) (n : ℕ) (j : Result
 record_within p pending bytes n (Err fault) is low = tt
 record_within p pending bytes n (Ok item) is low = (omega arith, low)
 
-byte_within : (f : Option TraceFault) (p : Option ReadSoFar) (e : Option Ending) (pending : List ℕ)
+byte_within : (f : Option TraceFault) (p : Option ReadSoFar) (e : Option TraceEnd) (pending : List ℕ)
     (b n : ℕ) → IsWithin f p pending n
     → IsWithinAt (byte_read (record { progress = p; pending = pending; ending = e; fault = f }) b).1
     (n + 1)

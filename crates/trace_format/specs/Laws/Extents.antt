@@ -7,7 +7,7 @@ use Rattle.std.proofs.lemmas.Bool.Decides.{nat_tests}
 use Rattle.std.proofs.lemmas.List.{take-take, drop-take, length-take-le, get_or-take, get_or-drop}
 use Rattle.std.proofs.lemmas.List.{get_or_past}
 use Rattle.std.specs.Int.{w16, from_le_bytes}
-use Rattle.base.specs.declared.ending.Ending.{Ending}
+use Rattle.trace_format.specs.declared.record.TraceEnd.{TraceEnd}
 use Rattle.trace_format.specs.declared.record.Version.{Version}
 use Rattle.trace_format.specs.declared.tag.Tag.{Tag}
 use Rattle.trace_format.specs.declared.tag.Tag.TheVariants as tags
@@ -18,6 +18,7 @@ use Rattle.base.specs.Fields.{number_at}
 use Rattle.trace_format.specs.Judging.{symbol_extent, extent_of, extent_if}
 use Rattle.trace_format.specs.Judging.{record_extent, short_touch_extent, sited_touch_extent}
 use Rattle.trace_format.specs.Reading.{extent_at}
+use Rattle.trace_format.specs.Laws.Ends.{end_long}
 use Rattle.trace_format.specs.Laws.Reading.{FrontsWait}
 
 -- a number of a list of which only the first k are there
@@ -125,25 +126,27 @@ module _ (k : ℕ) (bytes : List ℕ) (some : 1 ≤ k) (le : k ≤ length bytes)
             rw (many, still, told_again enough) (record { short = λ lt. lt; same = λ is. refl })
       ]
 
-  tag_front : (tag : Tag) → IsFront k (extent_of tag bytes) (extent_of tag (take k bytes))
-  tag_front (tags.Touch kind) = record { short = λ lt. lt; same = λ is. refl }
-  tag_front (tags.ShortTouch kind size) = short_touch_front
-  tag_front (tags.SitedTouch kind size) = sited_touch_front
-  tag_front tags.Alloc = record { short = λ lt. lt; same = λ is. refl }
-  tag_front tags.Free = record { short = λ lt. lt; same = λ is. refl }
-  tag_front tags.Symbol = symbol_front
-  tag_front tags.End = record { short = λ lt. lt; same = λ is. refl }
+  tag_front : (v : Version) (tag : Tag)
+      → IsFront k (extent_of v tag bytes) (extent_of v tag (take k bytes))
+  tag_front v (tags.Touch kind) = record { short = λ lt. lt; same = λ is. refl }
+  tag_front v (tags.ShortTouch kind size) = short_touch_front
+  tag_front v (tags.SitedTouch kind size) = sited_touch_front
+  tag_front v tags.Alloc = record { short = λ lt. lt; same = λ is. refl }
+  tag_front v tags.Free = record { short = λ lt. lt; same = λ is. refl }
+  tag_front v tags.Symbol = symbol_front
+  tag_front v tags.End = record { short = λ lt. lt; same = λ is. refl }
 
-  front_if : (tag : Option Tag) → IsFront k (extent_if tag bytes) (extent_if tag (take k bytes))
-  front_if None = record { short = λ lt. lt; same = λ is. refl }
-  front_if (Some tag) = tag_front tag
+  front_if : (v : Version) (tag : Option Tag)
+      → IsFront k (extent_if v tag bytes) (extent_if v tag (take k bytes))
+  front_if v None = record { short = λ lt. lt; same = λ is. refl }
+  front_if v (Some tag) = tag_front v tag
 
   record_front : (v : Version)
       → IsFront k (record_extent v bytes) (record_extent v (take k bytes))
   unfolding record_extent
-  record_front v = rw (there k 0 bytes (omega arith)) (front_if (tag_of v (get_or bytes 0 0)))
+  record_front v = rw (there k 0 bytes (omega arith)) (front_if v (tag_of v (get_or bytes 0 0)))
 
-  front_at : (p : Option ReadSoFar) (e : Option Ending)
+  front_at : (p : Option ReadSoFar) (e : Option TraceEnd)
       → IsFront k (extent_at p e bytes) (extent_at p e (take k bytes))
   front_at None e = record { short = λ lt. lt; same = λ is. refl }
   front_at (Some p) None = record_front p.version
@@ -161,7 +164,7 @@ pub front_still : (bytes : List ℕ) (m : ℕ) → short_touch_extent bytes ≤ 
 front_still bytes m enough some le = (short_touch_front m bytes some le).same enough
 
 -- The header and each record wait until they are whole.
-pub fronts_wait_at : (p : Option ReadSoFar) (e : Option Ending) (bytes : List ℕ)
+pub fronts_wait_at : (p : Option ReadSoFar) (e : Option TraceEnd) (bytes : List ℕ)
     → FrontsWait p e bytes
 fronts_wait_at p e bytes = record {
   short = λ k some le lt. (front_at k bytes some le p e).short lt;
@@ -176,26 +179,26 @@ some_symbol : (bytes : List ℕ) → 1 ≤ symbol_extent bytes
 unfolding symbol_extent
 some_symbol bytes = grind (arith, nat_tests)
 
-some_tag : (tag : Option Tag) (bytes : List ℕ) → 1 ≤ extent_if tag bytes
+some_tag : (v : Version) (tag : Option Tag) (bytes : List ℕ) → 1 ≤ extent_if v tag bytes
 unfolding count_of
-some_tag None bytes = omega arith
-some_tag (Some (tags.Touch kind)) bytes = omega arith
-some_tag (Some (tags.ShortTouch kind size)) bytes =
+some_tag v None bytes = omega arith
+some_tag v (Some (tags.Touch kind)) bytes = omega arith
+some_tag v (Some (tags.ShortTouch kind size)) bytes =
     omega (
       arith,
       some_groups (get_or (drop 2 bytes) 0 0) (get_or (drop 2 bytes) 1 0)
           (get_or (drop 2 bytes) 2 0) (get_or (drop 2 bytes) 3 0),
     )
-some_tag (Some (tags.SitedTouch kind size)) bytes = omega arith
-some_tag (Some tags.Alloc) bytes = omega arith
-some_tag (Some tags.Free) bytes = omega arith
-some_tag (Some tags.Symbol) bytes = some_symbol bytes
-some_tag (Some tags.End) bytes = omega arith
+some_tag v (Some (tags.SitedTouch kind size)) bytes = omega arith
+some_tag v (Some tags.Alloc) bytes = omega arith
+some_tag v (Some tags.Free) bytes = omega arith
+some_tag v (Some tags.Symbol) bytes = some_symbol bytes
+some_tag v (Some tags.End) bytes = omega (arith, end_long v)
 
 -- What is judged has at least a byte.
-pub extent_is_some : (p : Option ReadSoFar) (e : Option Ending) (bytes : List ℕ)
+pub extent_is_some : (p : Option ReadSoFar) (e : Option TraceEnd) (bytes : List ℕ)
     → 1 ≤ extent_at p e bytes
 unfolding record_extent
 extent_is_some None e bytes = omega arith
-extent_is_some (Some p) None bytes = some_tag (tag_of p.version (get_or bytes 0 0)) bytes
+extent_is_some (Some p) None bytes = some_tag p.version (tag_of p.version (get_or bytes 0 0)) bytes
 extent_is_some (Some p) (Some e) bytes = omega arith

@@ -11,14 +11,15 @@ use Rattle.std.specs.Cmp.Lexicographic.{pointwise}
 use Rattle.std.specs.List.{starts_with}
 use Rattle.std.specs.Int.{w16, w64}
 use Rattle.base.specs.Fields.{number_at}
-use Rattle.base.specs.declared.ending.Ending.{Ending}
+use Rattle.trace_format.specs.declared.record.TraceEnd.{TraceEnd}
 use Rattle.trace_format.specs.declared.fault.TraceFault.{TraceFault}
 use Rattle.trace_format.specs.declared.fault.TraceFault.TheVariants as faults
 use Rattle.trace_format.specs.declared.record.TraceRecord.{TraceRecord}
 use Rattle.trace_format.specs.declared.record.Version.{Version}
-use Rattle.trace_format.specs.declared.record.Version.TheVariants.{One, Two, Three}
+use Rattle.trace_format.specs.declared.record.Version.TheVariants.{One, Two, Three, Four}
 use Rattle.trace_format.specs.declared.read_so_far.ReadSoFar.{ReadSoFar}
-use Rattle.trace_format.specs.Judging.{begun, fields_judged, header_judged, record_judged, version_at}
+use Rattle.trace_format.specs.Judging.{begun, fields_judged, header_judged, highest_first, is_near}
+use Rattle.trace_format.specs.Judging.{is_unused, record_judged, version_at}
 use Rattle.trace_format.specs.Laws.Counts.{by_test}
 use Rattle.trace_format.specs.Laws.Reading.{waiting}
 use Rattle.trace_format.specs.Laws.Records.{chosen, granted, not_refused, same_Ok}
@@ -35,7 +36,8 @@ version_of_front front =
     cond (pointwise eqb (magic_of One) front) (Some One)
     (cond (pointwise eqb (magic_of Two) front) (Some Two)
     (cond (pointwise eqb (magic_of Three) front) (Some Three)
-    None))
+    (cond (pointwise eqb (magic_of Four) front) (Some Four)
+    None)))
 
 by_front : (bytes : List ℕ) → version_at bytes ≡ version_of_front (take 8 bytes)
 unfolding version_of_front
@@ -71,6 +73,8 @@ head_of bytes Two is = (starts_is Decides-eqb bytes (magic_of Two)
     (starts_with eqb bytes (magic_of Two)) refl).0 is
 head_of bytes Three is = (starts_is Decides-eqb bytes (magic_of Three)
     (starts_with eqb bytes (magic_of Three)) refl).0 is
+head_of bytes Four is = (starts_is Decides-eqb bytes (magic_of Four)
+    (starts_with eqb bytes (magic_of Four)) refl).0 is
 
 -- Bytes in which a version is found begin with its magic.
 pub version_found : (bytes : List ℕ) (v : Version) → version_at bytes ≡ Some v → bytes
@@ -79,12 +83,14 @@ unfolding IsHead
 version_found bytes v =
     one_tried bytes One v _ (head_of bytes One)
     (one_tried bytes Two v _ (head_of bytes Two)
-    (one_tried bytes Three v _ (head_of bytes Three) (λ none. absurd (none-some v none))))
+    (one_tried bytes Three v _ (head_of bytes Three)
+    (one_tried bytes Four v _ (head_of bytes Four) (λ none. absurd (none-some v none)))))
 
 eight : (v : Version) → length (magic_of v) ≡ 8
 eight One = refl
 eight Two = refl
 eight Three = refl
+eight Four = refl
 
 -- What begins with a magic has its version, whatever is behind it.
 pub version_kept : (bytes more : List ℕ) (v : Version) → version_at bytes ≡ Some v
@@ -106,14 +112,15 @@ KnowsMagic None (Some fault) pending bytes = 20 ≤ length bytes
 abbrev KnowsIn : Reading → List ℕ → Type 0
 KnowsIn r bytes = KnowsMagic r.progress r.fault r.pending bytes
 
-fields_version : (v : Option Version) (first harts two : ℕ) (p : ReadSoFar)
-    → fields_judged v first harts two ≡ Ok p → v ≡ Some p.version
-fields_version None first harts two p e = absurd cc
-fields_version (Some v) first harts two p e =
-    let a = not_refused (ltb last_position first) _ _ p e in
-    let b = granted ((leb 1 harts && leb harts 256) && eqb two 0) _ _ p a.1 in
+fields_version : (v : Option Version) (first harts near : ℕ) (p : ReadSoFar)
+    → fields_judged v first harts near ≡ Ok p → v ≡ Some p.version
+fields_version None first harts near p e = absurd cc
+fields_version (Some v) first harts near p e =
+    let a = not_refused (ltb (highest_first v) first) _ _ p e in
+    let b = granted ((leb 1 harts && leb harts 256) && is_unused v near) _ _ p a.1 in
+    let c = granted (is_near v near) _ _ p b.1 in
     ap (λ (q : ReadSoFar). Some q.version)
-    (same_Ok (begun v (record { first = first; harts = harts })) p b.1)
+    (same_Ok (begun v (record { first = first; harts = harts; near = near })) p c.1)
 
 header_version : (bytes : List ℕ) (p : ReadSoFar) → header_judged bytes ≡ Ok p
     → version_at bytes ≡ Some p.version
@@ -121,7 +128,7 @@ unfolding header_judged
 header_version bytes p e = fields_version (version_at bytes) (number_at w64 8 bytes)
     (number_at w16 16 bytes) (number_at w16 18 bytes) p e
 
-after_header : (e : Option Ending) (pending more bytes : List ℕ) (j : Result ReadSoFar TraceFault)
+after_header : (e : Option TraceEnd) (pending more bytes : List ℕ) (j : Result ReadSoFar TraceFault)
     → header_judged more ≡ j → more ≡ bytes → 20 ≤ length bytes
     → KnowsIn (header_read (waiting None e pending) j).1 bytes
 after_header e pending more bytes (Err fault) known is long = long
@@ -134,7 +141,7 @@ after_record : (p : ReadSoFar) (pending bytes : List ℕ) (size : ℕ)
 after_record p pending bytes size (Err fault) knows = knows
 after_record p pending bytes size (Ok item) knows = knows
 
-after_part : (p : ReadSoFar) (e : Option Ending) (pending more bytes : List ℕ)
+after_part : (p : ReadSoFar) (e : Option TraceEnd) (pending more bytes : List ℕ)
     → KnowsMagic (Some p) None pending bytes
     → KnowsIn (part_at (waiting (Some p) e pending) (Some p) e more).1 bytes
 after_part p None pending more bytes knows =
@@ -147,7 +154,7 @@ still_known p f pending bytes b knows =
     let longer = length-append bytes (b ∷ []) in
     (omega (arith, longer, knows.0), version_stays bytes (b ∷ []) (omega (arith, knows.0)) ∙ knows.1)
 
-after_byte : (f : Option TraceFault) (p : Option ReadSoFar) (e : Option Ending)
+after_byte : (f : Option TraceFault) (p : Option ReadSoFar) (e : Option TraceEnd)
     (pending bytes : List ℕ) (b : ℕ) → KnowsMagic p f pending bytes
     → KnowsIn (byte_read (record { progress = p; pending = pending; ending = e; fault = f }) b).1
     (bytes ++ b ∷ [])

@@ -1,5 +1,5 @@
 -- What follows for any bytes: a header that is told stays told, and accesses are few.
-use Rattle.std.proofs.Common.{◌≡◌, ℕ, ◌+◌, ◌≤◌, ◌<◌, Bool, true, false, cond, eqb, ltb, List, []}
+use Rattle.std.proofs.Common.{◌≡◌, ℕ, ◌+◌, ◌≤◌, ◌<◌, Bool, true, false, cond, ◌&&◌, eqb, ltb, List, []}
 use Rattle.std.proofs.Common.{◌∷◌, ◌++◌, length, drop, Option, Some, None, IsSome, Result, Ok, Err}
 use Rattle.std.proofs.Common.{refl, sym, ap, subst, ◌∙◌, append_assoc, arith}
 use Rattle.std.proofs.lemmas.Bool.Decides.{nat_tests}
@@ -9,7 +9,7 @@ use Rattle.std.specs.Int.{w16, w32, w64}
 use Rattle.std.specs.List.{list_any}
 use Rattle.base.specs.Names.{longest_name}
 use Rattle.base.specs.Touch.{Touch}
-use Rattle.base.specs.declared.ending.Ending.{Ending}
+use Rattle.trace_format.specs.declared.record.TraceEnd.{TraceEnd}
 use Rattle.base.specs.declared.ending.Outcome.{Outcome}
 use Rattle.objects.specs.declared.symbol.SymbolKind.{SymbolKind}
 use Rattle.trace_format.specs.declared.fault.TraceFault.{TraceFault}
@@ -24,7 +24,11 @@ use Rattle.trace_format.specs.Rules.{last_position, longest_trace, touch_in, tou
 use Rattle.trace_format.specs.Judging.{alloc_at, begun, end_counted, fields_judged, header_judged}
 use Rattle.trace_format.specs.Judging.{record_judged, symbol_judged, symbol_with}
 use Rattle.base.specs.Fields.{number_at}
+use Rattle.trace_format.specs.Judging.{end_with, highest_first, is_near, is_unused, is_whole}
 use Rattle.trace_format.specs.Judging.{version_at, tagged_if, touch_counted}
+use Rattle.base.specs.Levels.{is_from_to}
+use Rattle.trace_format.specs.Laws.Headers.{first_low}
+use Rattle.trace_format.specs.declared.record.Header.{Header}
 use Rattle.trace_format.specs.Reading.{Reading, begin, byte_read, counted_after, header_read}
 use Rattle.trace_format.specs.Reading.{part_at, place_reached, progress_after, read_on, reading_of}
 use Rattle.trace_format.specs.Reading.{record_read}
@@ -49,7 +53,7 @@ module _ (Q : List TraceRecord → Option ReadSoFar → Type 0)
   nothing_new : (items : List TraceRecord) (p : Option ReadSoFar) → Q items p → Q (items ++ []) p
   nothing_new items p q = subst (λ (xs : List TraceRecord). Q xs p) (sym (append-nil items)) q
 
-  header_keeps : (items : List TraceRecord) (xs bytes : List ℕ) (e : Option Ending)
+  header_keeps : (items : List TraceRecord) (xs bytes : List ℕ) (e : Option TraceEnd)
       (f : Option TraceFault)
       (j : Result ReadSoFar TraceFault)
       → header_judged bytes ≡ j → Q items None
@@ -59,7 +63,7 @@ module _ (Q : List TraceRecord → Option ReadSoFar → Type 0)
   header_keeps items xs bytes e f (Ok p) is q = nothing_new items (Some p)
       (by_header items bytes p q is)
 
-  record_keeps : (items : List TraceRecord) (p : ReadSoFar) (xs bytes : List ℕ) (e : Option Ending)
+  record_keeps : (items : List TraceRecord) (p : ReadSoFar) (xs bytes : List ℕ) (e : Option TraceEnd)
       (f : Option TraceFault)
       (j : Result TraceRecord TraceFault)
       → record_judged p bytes ≡ j → Q items (Some p)
@@ -69,7 +73,7 @@ module _ (Q : List TraceRecord → Option ReadSoFar → Type 0)
   record_keeps items p xs bytes e f (Ok item) is q = by_record items p bytes item q is
 
   part_keeps : (items : List TraceRecord) (p : Option ReadSoFar) (xs bytes : List ℕ)
-      (e : Option Ending) (f : Option TraceFault)
+      (e : Option TraceEnd) (f : Option TraceFault)
       → Q items p →
       Holds items (part_at (record { progress = p; pending = xs; ending = e; fault = f }) p e
       bytes)
@@ -79,7 +83,7 @@ module _ (Q : List TraceRecord → Option ReadSoFar → Type 0)
       (record_judged p bytes) refl q
   part_keeps items (Some p) xs bytes (Some e) f q = nothing_new items (Some p) q
 
-  byte_keeps : (items : List TraceRecord) (p : Option ReadSoFar) (xs : List ℕ) (e : Option Ending)
+  byte_keeps : (items : List TraceRecord) (p : Option ReadSoFar) (xs : List ℕ) (e : Option TraceEnd)
       (f : Option TraceFault) (b : ℕ)
       → Q items p →
       Holds items (byte_read (record { progress = p; pending = xs; ending = e; fault = f }) b)
@@ -159,7 +163,7 @@ symbol_placed : (p : ReadSoFar) (kind : SymbolKind) (addr size : ℕ) (name : Li
     → HasPosition p (Ok (records.Symbol kind addr size name))
 symbol_placed p kind addr size name = record { position = λ a pc is. absurd cc }
 
-end_placed : (p : ReadSoFar) (e : Ending) → HasPosition p (Ok (records.End e))
+end_placed : (p : ReadSoFar) (e : TraceEnd) → HasPosition p (Ok (records.End e))
 end_placed p e = record { position = λ a pc is. absurd cc }
 
 touch_there : (p : ReadSoFar) (j : Result (Touch × Option ℕ) TraceFault)
@@ -182,7 +186,13 @@ end_there : (p : ReadSoFar) (bytes : List ℕ) (j : Result Outcome TraceFault)
     → HasPosition p (end_counted p bytes j)
 end_there p bytes (Err fault) = at_fault p fault
 end_there p bytes (Ok outcome) =
-    by_test (HasPosition p) _ _ _ (λ _. end_placed p _) (λ _. at_fault p _)
+    let e = end_with p.version bytes outcome in
+    by_test (HasPosition p) (eqb e.accesses p.counted)
+    (cond (is_whole e.accesses e.whole) (Ok (records.End e)) (Err (faults.BadField (p.place + 25))))
+    (Err (faults.CountMismatch e.accesses p.counted))
+    (λ _. by_test (HasPosition p) (is_whole e.accesses e.whole) (Ok (records.End e))
+    (Err (faults.BadField (p.place + 25))) (λ _. end_placed p e) (λ _. at_fault p _))
+    (λ _. at_fault p _)
 
 tagged_there : (p : ReadSoFar) (bytes : List ℕ) (tag : Option Tag)
     → HasPosition p (tagged_if p tag bytes)
@@ -211,22 +221,31 @@ record BeginsFresh (judged : Result ReadSoFar TraceFault) : Type 0 where
 begins_at_fault : (fault : TraceFault) → BeginsFresh (Err fault)
 begins_at_fault fault = record { fresh = λ p is. absurd cc }
 
-begins_fresh : (v : Version) (first harts : ℕ) → ltb last_position first ≡ false
-    → BeginsFresh (Ok (begun v (record { first = first; harts = harts })))
-begins_fresh v first harts near =
-    let begins : IsFresh (begun v (record { first = first; harts = harts })) =
-    record { counted = refl; first = grind (arith, nat_tests) } in
+begins_fresh : (v : Version) (first harts near : ℕ) → ltb (highest_first v) first ≡ false
+    → BeginsFresh (Ok (begun v (record { first = first; harts = harts; near = near })))
+begins_fresh v first harts near low =
+    let header : Header = record { first = first; harts = harts; near = near } in
+    let begins : IsFresh (begun v header) = record {
+      counted = refl;
+      first = first_low v first low;
+    } in
     record {
-      fresh = λ p is. (let same : begun v (record { first = first; harts = harts }) ≡ p = cc
-          in subst IsFresh same begins);
+      fresh = λ p is. (let same : begun v header ≡ p = cc in subst IsFresh same begins);
     }
 
-fields_fresh : (v : Option Version) (first harts two : ℕ)
-    → BeginsFresh (fields_judged v first harts two)
-fields_fresh None first harts two = begins_at_fault _
-fields_fresh (Some v) first harts two =
-    by_test BeginsFresh _ _ _ (λ _. begins_at_fault _)
-    (λ near. by_test BeginsFresh _ _ _ (λ _. begins_fresh v first harts near)
+fields_fresh : (v : Option Version) (first harts near : ℕ)
+    → BeginsFresh (fields_judged v first harts near)
+fields_fresh None first harts near = begins_at_fault _
+fields_fresh (Some v) first harts near =
+    let made = begun v (record { first = first; harts = harts; near = near }) in
+    let sized : Result ReadSoFar TraceFault = cond (is_near v near) (Ok made)
+    (Err (faults.BadField 18)) in
+    let used = is_from_to 1 256 harts && is_unused v near in
+    by_test BeginsFresh (ltb (highest_first v) first) (Err (faults.BadField 8))
+    (cond used sized (Err faults.BadHarts)) (λ _. begins_at_fault _)
+    (λ low. by_test BeginsFresh used sized (Err faults.BadHarts)
+    (λ _. by_test BeginsFresh (is_near v near) (Ok made) (Err (faults.BadField 18))
+    (λ _. begins_fresh v first harts near low) (λ _. begins_at_fault _))
     (λ _. begins_at_fault _))
 
 header_fresh : (bytes : List ℕ) → BeginsFresh (header_judged bytes)

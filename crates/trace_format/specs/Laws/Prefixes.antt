@@ -13,13 +13,13 @@ use Rattle.trace_format.specs.Laws.Extents.{extent_is_some, fronts_wait_at}
 use Rattle.trace_format.specs.Laws.Spelling.{record_whole}
 
 extent_some : (v : Version) (bytes : List ℕ) → 1 ≤ record_extent v bytes
-extent_some v bytes = extent_is_some (Some (begun v (record { first = 0; harts = 1 }))) None bytes
+extent_some v bytes = extent_is_some (Some (begun v (record { first = 0; harts = 1; near = 0 }))) None bytes
 
 prefix_waits : (v : Version) (bytes : List ℕ) (k : ℕ) → 1 ≤ k → k ≤ length bytes
     → k < record_extent v bytes → record_extent v (take k bytes) ≡ k → ⊥
 prefix_waits v bytes k some le lt ends =
     let waits =
-    (fronts_wait_at (Some (begun v (record { first = 0; harts = 1 }))) None bytes).short k
+    (fronts_wait_at (Some (begun v (record { first = 0; harts = 1; near = 0 }))) None bytes).short k
     some le lt in
     omega arith
 

@@ -6,7 +6,7 @@ use Rattle.std.proofs.Common.{refl, sym, ap, ◌∙◌, append_assoc, arith}
 use Rattle.std.proofs.lemmas.Bool.Decides.{nat_tests}
 use Rattle.std.proofs.lemmas.List.{take_all, take-append-drop, length-take-le, append-nil}
 use Rattle.std.proofs.Math.Seq.{take-suc}
-use Rattle.base.specs.declared.ending.Ending.{Ending}
+use Rattle.trace_format.specs.declared.record.TraceEnd.{TraceEnd}
 use Rattle.trace_format.specs.declared.fault.TraceFault.{TraceFault}
 use Rattle.trace_format.specs.declared.fault.TraceFault.TheVariants as faults
 use Rattle.trace_format.specs.declared.record.TraceRecord.{TraceRecord}
@@ -37,10 +37,10 @@ pub read_on-pieces : (before piece : List ℕ)
 read_on-pieces before piece = read_on-append begin before piece
 
 -- a reading at a fault
-abbrev pub at_fault : Option ReadSoFar → List ℕ → Option Ending → TraceFault → Reading
+abbrev pub at_fault : Option ReadSoFar → List ℕ → Option TraceEnd → TraceFault → Reading
 at_fault p xs e fault = record { progress = p; pending = xs; ending = e; fault = Some fault }
 
-pub read_on-fault : (p : Option ReadSoFar) (xs : List ℕ) (e : Option Ending) (fault : TraceFault)
+pub read_on-fault : (p : Option ReadSoFar) (xs : List ℕ) (e : Option TraceEnd) (fault : TraceFault)
     (bytes : List ℕ)
     → read_on (at_fault p xs e fault) bytes ≡ ([], at_fault p xs e fault)
 unfolding read_on byte_read
@@ -48,10 +48,10 @@ read_on-fault p xs e fault [] = refl
 read_on-fault p xs e fault (b ∷ bytes) = read_on-fault p xs e fault bytes
 
 -- a reading with some bytes after its whole records
-abbrev pub waiting : Option ReadSoFar → Option Ending → List ℕ → Reading
+abbrev pub waiting : Option ReadSoFar → Option TraceEnd → List ℕ → Reading
 waiting p e bytes = record { progress = p; pending = bytes; ending = e; fault = None }
 
-part_at-pending : (p : Option ReadSoFar) (e : Option Ending) (xs bytes : List ℕ)
+part_at-pending : (p : Option ReadSoFar) (e : Option TraceEnd) (xs bytes : List ℕ)
     → part_at (waiting p e xs) p e bytes ≡ part_at (waiting p e []) p e bytes
 part_at-pending None e xs bytes =
     elim (header_judged bytes) as (λ j. header_read (waiting None e xs) j ≡ header_read
@@ -66,13 +66,13 @@ part_at-pending (Some p) None xs bytes =
 part_at-pending (Some p) (Some e) xs bytes = refl
 
 -- A beginning of what is judged at once is not judged, and what is judged has all its bytes.
-pub record FrontsWait (p : Option ReadSoFar) (e : Option Ending) (bytes : List ℕ) : Type 0 where
+pub record FrontsWait (p : Option ReadSoFar) (e : Option TraceEnd) (bytes : List ℕ) : Type 0 where
   pub short : (k : ℕ) → 1 ≤ k → k ≤ length bytes → k < extent_at p e bytes
       → k < extent_at p e (take k bytes)
   pub whole : (k : ℕ) → 1 ≤ k → k ≤ length bytes → k ≡ extent_at p e bytes
       → extent_at p e (take k bytes) ≡ extent_at p e bytes
 
-module _ (p : Option ReadSoFar) (e : Option Ending) (ys : List ℕ) (fronts : FrontsWait p e ys)
+module _ (p : Option ReadSoFar) (e : Option TraceEnd) (ys : List ℕ) (fronts : FrontsWait p e ys)
   where
     one_waits : (xs : List ℕ) (b : ℕ) → place_reached p + length xs < longest_trace
         → length (xs ++ b ∷ []) < extent_at p e (xs ++ b ∷ [])
@@ -163,7 +163,7 @@ module _ (p : Option ReadSoFar) (e : Option Ending) (ys : List ℕ) (fronts : Fr
         ∙ ap (λ now. then_read now (drop (suc k) ys)) (ends_at k is le low)
 
 -- no byte has the place at which a trace is too long
-pub read_on-too_long : (p : Option ReadSoFar) (e : Option Ending) (xs : List ℕ) (b : ℕ) (bytes :
+pub read_on-too_long : (p : Option ReadSoFar) (e : Option TraceEnd) (xs : List ℕ) (b : ℕ) (bytes :
     List ℕ)
     → place_reached p + length xs ≡ longest_trace
     → read_on (waiting p e xs) (b ∷ bytes) ≡ ([], at_fault p [] e faults.TooLong)

@@ -23,13 +23,13 @@ use Rattle.trace_format.specs.declared.tag.Tag.TheVariants as tags
 use Rattle.trace_format.specs.declared.read_so_far.ReadSoFar.{ReadSoFar}
 use Rattle.trace_format.specs.Tags.{tag_of}
 use Rattle.trace_format.specs.Rules.{IsAllowedEnd, IsWritable, last_position}
-use Rattle.trace_format.specs.Judging.{alloc_at, cause_of, end_counted, end_with}
+use Rattle.trace_format.specs.Judging.{alloc_at, cause_of, end_counted, end_with, is_whole}
 use Rattle.base.specs.Fields.{number_at}
 use Rattle.trace_format.specs.Judging.{outcome_judged, plain_judged, plain_outcome_of, plain_with}
 use Rattle.trace_format.specs.Judging.{record_judged, short_touch_judged, sited_touch_judged}
 use Rattle.trace_format.specs.Judging.{symbol_judged, symbol_kind_of}
 use Rattle.trace_format.specs.Judging.{symbol_with, tagged_if, tagged_judged, touch_counted}
-use Rattle.trace_format.specs.Judging.{touch_judged, trap_for, trap_judged, without_pc}
+use Rattle.trace_format.specs.Judging.{touch_judged, trap_for, trap_judged, whole_at, without_pc}
 use Rattle.trace_format.specs.Laws.Again.{ComesAt}
 
 -- It may come where it does, and it may be written.
@@ -170,7 +170,8 @@ end_item : (p : ReadSoFar) (bytes : List ℕ) (j : Result Outcome TraceFault) (i
 end_item p bytes (Err fault) item known e = absurd cc
 end_item p bytes (Ok o) item known e =
     let g = granted (eqb (number_at w64 17 bytes) p.counted) _ _ item e in
-    subst (IsItem p) (same_Ok (records.End (end_with bytes o)) item g.1)
+    let fits = granted (is_whole (number_at w64 17 bytes) (whole_at p.version bytes)) _ _ item g.1 in
+    subst (IsItem p) (same_Ok (records.End (end_with p.version bytes o)) item fits.1)
     (record {
       there = eqb-true (number_at w64 17 bytes) p.counted g.0;
       writable =

@@ -12,11 +12,9 @@ use Rattle.base.specs.Touch.{Touch, is_access_size}
 use Rattle.base.specs.declared.access.Kind.{Kind}
 use Rattle.base.specs.declared.access.Kind.TheVariants.{Read, Write}
 use Rattle.base.specs.declared.ending.Outcome.{Outcome}
-use Rattle.base.specs.declared.ending.Outcome.TheVariants.{Exit, Budget, Deadlock, Trap}
-use Rattle.base.specs.declared.ending.Outcome.TheVariants.{Part}
 use Rattle.trace_format.specs.declared.before.Before.{Before}
 use Rattle.trace_format.specs.declared.record.Version.{Version}
-use Rattle.trace_format.specs.declared.record.Version.TheVariants.{One, Two, Three}
+use Rattle.trace_format.specs.declared.record.Version.TheVariants.{One, Two, Three, Four}
 use Rattle.trace_format.specs.declared.record.TraceRecord.{TraceRecord}
 use Rattle.trace_format.specs.declared.record.TraceRecord.TheVariants as records
 use Rattle.trace_format.specs.declared.tag.Tag.TheVariants as tags
@@ -27,7 +25,8 @@ use Rattle.trace_format.specs.Spelling.{spell_alloc, spell_ending, spell_free, s
 use Rattle.trace_format.specs.Spelling.{pc_before, pc_or_zero, spell_symbol, spell_touch}
 use Rattle.trace_format.specs.Rules.{IsGoodRecord}
 use Rattle.trace_format.specs.Judging.{record_extent, short_touch_extent, sited_touch_extent}
-use Rattle.trace_format.specs.Judging.{symbol_extent}
+use Rattle.trace_format.specs.Judging.{end_extent, symbol_extent}
+use Rattle.trace_format.specs.Laws.Ends.{ending_length}
 
 pub short_touch_tag : (kind : Kind) (size : ℕ) → is_access_size size ≡ true
     → tag_of Two (16 * half_of kind + size) ≡ Some (tags.ShortTouch kind size)
@@ -38,6 +37,10 @@ pub sited_touch_tag : (kind : Kind) (size : ℕ) → is_access_size size ≡ tru
     → tag_of Three (16 * half_of kind + size) ≡ Some (tags.SitedTouch kind size)
 sited_touch_tag Read size sized = grind (arith, nat_tests)
 sited_touch_tag Write size sized = grind (arith, nat_tests)
+
+pub filtered_touch_tag : (kind : Kind) (size : ℕ) → is_access_size size ≡ true
+    → tag_of Four (16 * half_of kind + size) ≡ Some (tags.SitedTouch kind size)
+filtered_touch_tag kind size sized = sited_touch_tag kind size sized
 
 pub touch_tag : (kind : Kind) → tag_of One (half_of kind) ≡ Some (tags.Touch kind)
 touch_tag Read = refl
@@ -82,22 +85,18 @@ sites_length (a ∷ b ∷ []) four = absurd (omega arith)
 sites_length (a ∷ b ∷ c ∷ []) four = absurd (omega arith)
 sites_length (a ∷ b ∷ c ∷ d ∷ e ∷ rest) four = absurd (omega arith)
 
-ending_length : (o : Outcome) (steps accesses : ℕ)
-    → length (spell_ending (record { outcome = o; steps = steps; accesses = accesses })) ≡ 25
-unfolding spell_ending
-ending_length (Exit code) steps accesses = refl
-ending_length Budget steps accesses = refl
-ending_length Deadlock steps accesses = refl
-ending_length (Trap hart pc cause) steps accesses = refl
-ending_length Part steps accesses = refl
-
-ending_extent : (v : Version) (o : Outcome) (steps accesses : ℕ)
-    → record_extent v (spell_ending (record { outcome = o; steps = steps; accesses = accesses }))
-    ≡ 25
+ending_extent : (v : Version) (o : Outcome) (steps accesses : ℕ) (whole : Option ℕ)
+    → record_extent v (spell_ending v (record {
+      outcome = o;
+      steps = steps;
+      accesses = accesses;
+      whole = whole;
+    })) ≡ end_extent v
 unfolding record_extent spell_ending
-ending_extent One o steps accesses = refl
-ending_extent Two o steps accesses = refl
-ending_extent Three o steps accesses = refl
+ending_extent One o steps accesses whole = refl
+ending_extent Two o steps accesses whole = refl
+ending_extent Three o steps accesses whole = refl
+ending_extent Four o steps accesses whole = refl
 
 sited_extent : (front told : List ℕ) (y : ℕ) → AreNumbers front told y
     → sited_touch_extent (front ++ told) ≡ length (front ++ told)
@@ -123,6 +122,12 @@ touch_whole Three before a pc sized =
     rw (sited_touch_tag a.kind a.size sized) (sited_extent _ _ y
     (numbers_told _ a.hart z y (distance_small before.last a.addr)
     (distance_small (pc_before before a.hart) (pc_or_zero pc))))
+touch_whole Four before a pc sized =
+    let z = distance before.last a.addr in
+    let y = distance (pc_before before a.hart) (pc_or_zero pc) in
+    rw (filtered_touch_tag a.kind a.size sized) (sited_extent _ _ y
+    (numbers_told _ a.hart z y (distance_small before.last a.addr)
+    (distance_small (pc_before before a.hart) (pc_or_zero pc))))
 
 alloc_whole : (v : Version) (addr size : ℕ) (sites : List ℕ) → length sites ≡ 4
     → record_extent v (spell_alloc addr size sites) ≡ length (spell_alloc addr size sites)
@@ -130,6 +135,7 @@ unfolding record_extent spell_alloc
 alloc_whole One addr size sites four = omega (arith, sites_length sites four)
 alloc_whole Two addr size sites four = omega (arith, sites_length sites four)
 alloc_whole Three addr size sites four = omega (arith, sites_length sites four)
+alloc_whole Four addr size sites four = omega (arith, sites_length sites four)
 
 free_whole : (v : Version) (addr : ℕ)
     → record_extent v (spell_free addr) ≡ length (spell_free addr)
@@ -137,6 +143,7 @@ unfolding record_extent spell_free
 free_whole One addr = refl
 free_whole Two addr = refl
 free_whole Three addr = refl
+free_whole Four addr = refl
 
 symbol_told : (kind : SymbolKind) (addr size : ℕ) (name : List ℕ) → length name ≤ 1024
     → symbol_extent (spell_symbol kind addr size name) ≡ 12 + length name
@@ -154,6 +161,7 @@ unfolding record_extent spell_symbol
 symbol_whole One kind addr size name short = symbol_told kind addr size name short ∙ omega arith
 symbol_whole Two kind addr size name short = symbol_told kind addr size name short ∙ omega arith
 symbol_whole Three kind addr size name short = symbol_told kind addr size name short ∙ omega arith
+symbol_whole Four kind addr size name short = symbol_told kind addr size name short ∙ omega arith
 
 -- The bytes of a good record are all that it has.
 pub record_whole : (v : Version) (harts : ℕ) (before : Before) (item : TraceRecord)
@@ -166,8 +174,9 @@ record_whole v harts before (records.Alloc addr size sites) good =
 record_whole v harts before (records.Free addr) good = free_whole v addr
 record_whole v harts before (records.Symbol kind addr size name) good =
     symbol_whole v kind addr size name good.short
-record_whole v harts before (records.End e) good = ending_extent v e.outcome e.steps e.accesses
-    ∙ sym (ending_length e.outcome e.steps e.accesses)
+record_whole v harts before (records.End e) good =
+    ending_extent v e.outcome e.steps e.accesses e.whole
+    ∙ sym (ending_length v e.outcome e.steps e.accesses e.whole)
 
 pub number_again : (z : ℕ) → z < 2 ^ 32 → number_in (groups z) ≡ z
 number_again z small = grind (arith, nat_tests)

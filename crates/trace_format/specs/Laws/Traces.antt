@@ -3,11 +3,11 @@ use Rattle.std.proofs.Common.{◌≡◌, ℕ, ◌+◌, ◌≤◌, List, [], ◌�
 use Rattle.std.proofs.Common.{All, Option, Some, None, Ok, refl, sym, ap, ◌∙◌, arith}
 use Rattle.std.proofs.lemmas.List.{drop_all, length-append, take_all}
 use Rattle.std.proofs.lemmas.List.Elements.{All-head, All-tail}
-use Rattle.base.specs.declared.ending.Ending.{Ending}
+use Rattle.trace_format.specs.declared.record.TraceEnd.{TraceEnd}
 use Rattle.trace_format.specs.declared.before.Before.{Before}
 use Rattle.trace_format.specs.declared.record.Header.{Header}
 use Rattle.trace_format.specs.declared.record.Version.{Version}
-use Rattle.trace_format.specs.declared.record.Version.TheVariants.{One, Two, Three}
+use Rattle.trace_format.specs.declared.record.Version.TheVariants.{One, Two, Three, Four}
 use Rattle.trace_format.specs.declared.record.TraceRecord.{TraceRecord}
 use Rattle.trace_format.specs.declared.record.TraceRecord.TheVariants as records
 use Rattle.trace_format.specs.declared.read_so_far.ReadSoFar.{ReadSoFar}
@@ -30,7 +30,7 @@ use Rattle.trace_format.specs.Faults.{IsOpenTrace, behind}
 use Rattle.trace_format.specs.Writing.{before_behind, begun_with}
 
 -- bytes that are judged whole are read at once
-pub part_alone : (p : Option ReadSoFar) (e : Option Ending) (bytes : List ℕ)
+pub part_alone : (p : Option ReadSoFar) (e : Option TraceEnd) (bytes : List ℕ)
     → length bytes ≡ extent_at p e bytes → place_reached p + length bytes ≤ longest_trace
     → read_on (waiting p e []) bytes ≡ (
       (part_at (waiting p e []) p e bytes).0 ++ [],
@@ -139,7 +139,7 @@ records_again (item ∷ items) p few low good inner fits short =
       waiting
           (Some (after_one p item)) None [],
     ) = one
-    ∙ ap (λ (x : Option Ending). (item ∷ [], waiting (Some (after_one p item)) x []))
+    ∙ ap (λ (x : Option TraceEnd). (item ∷ [], waiting (Some (after_one p item)) x []))
     at.open_still in
     let rest =
     records_again items (after_one p item) few at.low (All-tail (IsGoodRecord p.version p.header.harts)
@@ -161,6 +161,7 @@ unfolding spell_header
 header_length One h = refl
 header_length Two h = refl
 header_length Three h = refl
+header_length Four h = refl
 
 module _ (v : Version) (h : Header) (items : List TraceRecord) (good : IsOpenTrace v h items)
     (short : length (begun_with v h items) ≤ longest_trace) where
@@ -178,7 +179,7 @@ module _ (v : Version) (h : Header) (items : List TraceRecord) (good : IsOpenTra
       let positions = good.positions in
       let head : read_on begin front ≡ ([], waiting (Some (begun v h)) None []) =
       part_alone None None front twenty (omega arith)
-      ∙ rw (header_again v h good.header) refl in
+      ∙ rw (header_again v h good.header good.regions) refl in
       let rest =
       records_again items (begun v h) few nothing_good good.records good.inner (omega arith)
       (omega arith) in
@@ -191,12 +192,12 @@ module _ (v : Version) (h : Header) (items : List TraceRecord) (good : IsOpenTra
       )
 
 -- what is read of a whole trace
-abbrev pub read_whole : Version → Header → List TraceRecord → Ending → ReadSoFar
+abbrev pub read_whole : Version → Header → List TraceRecord → TraceEnd → ReadSoFar
 read_whole v h items e = after_one (behind v h items) (records.End e)
 
 -- The bytes of a good trace are read as its records and its end.
 pub read_again : (bytes : List ℕ) (v : Version) (h : Header) (items : List TraceRecord) (e :
-    Ending)
+    TraceEnd)
     → IsTrace bytes v h items e
     → reading_of bytes ≡ (
       items ++ records.End e ∷ [],
@@ -206,7 +207,7 @@ pub read_again : (bytes : List ℕ) (v : Version) (h : Header) (items : List Tra
 read_again bytes v h items e is =
     let good = is.good in
     let front = begun_with v h items in
-    let later = spell_ending e in
+    let later = spell_ending v e in
     let whole : front ++ later ≡ spell v h items e = begun-ended v h items e in
     let size : length front + length later ≡ length (spell v h items e) =
     sym (length-append front later) ∙ ap length whole in
@@ -216,6 +217,7 @@ read_again bytes v h items e is =
     let open_trace : IsOpenTrace v h items =
     record {
       header = good.header;
+      regions = good.regions;
       records = good.records;
       inner = good.inner;
       positions = good.positions;
@@ -230,7 +232,7 @@ read_again bytes v h items e is =
 
 -- However they are cut, the records and the end are those that were spelled,
 pub trace_again : (bytes : List ℕ) (v : Version) (h : Header) (items : List TraceRecord) (e :
-    Ending)
+    TraceEnd)
     → IsTrace bytes v h items e
     → ((reading_of bytes).0 ≡ items ++ records.End e ∷ []) × (ending_of (reading_of bytes).1 ≡ Ok
     e)
@@ -243,7 +245,7 @@ trace_again bytes v h items e is =
 
 -- and so are the version and the header.
 pub head_again : (bytes : List ℕ) (v : Version) (h : Header) (items : List TraceRecord) (e :
-    Ending)
+    TraceEnd)
     → IsTrace bytes v h items e
     → (p : ReadSoFar) × ((reading_of bytes).1.progress ≡ Some p) × (p.version ≡ v) × (p.header ≡ h)
 unfolding after_one

@@ -2,7 +2,7 @@
 use Rattle.std.proofs.Common.{◌≡◌, ℕ, List, [], ◌∷◌, ◌++◌, refl, sym, ap, ◌∙◌, append_assoc}
 use Rattle.std.specs.List.{flat_map}
 use Rattle.std.proofs.lemmas.List.{append-nil}
-use Rattle.base.specs.declared.ending.Ending.{Ending}
+use Rattle.trace_format.specs.declared.record.TraceEnd.{TraceEnd}
 use Rattle.trace_format.specs.declared.before.Before.{Before}
 use Rattle.trace_format.specs.declared.record.Header.{Header}
 use Rattle.trace_format.specs.declared.record.Version.{Version}
@@ -45,17 +45,17 @@ begun-more v h xs x =
     ∙ sym (begun-append v h xs (x ∷ []))
 
 -- with its end it is the whole
-pub begun-ended : (v : Version) (h : Header) (items : List TraceRecord) (e : Ending)
-    → begun_with v h items ++ spell_ending e ≡ spell v h items e
+pub begun-ended : (v : Version) (h : Header) (items : List TraceRecord) (e : TraceEnd)
+    → begun_with v h items ++ spell_ending v e ≡ spell v h items e
 unfolding spell
-begun-ended v h items e = append_assoc (spell_header v h) (spell_records v nothing_before items) (spell_ending e)
+begun-ended v h items e = append_assoc (spell_header v h) (spell_records v nothing_before items) (spell_ending v e)
 
-pub begun-all : (v : Version) (h : Header) (items : List TraceRecord) (e : Ending)
+pub begun-all : (v : Version) (h : Header) (items : List TraceRecord) (e : TraceEnd)
     → begun_with v h (items ++ records.End e ∷ []) ≡ spell v h items e
 begun-all v h items e = sym (begun-more v h items (records.End e)) ∙ begun-ended v h items e
 
 -- what some records spell goes on to what all of them do, and their end
-pub begun_on : (v : Version) (h : Header) (items seen more : List TraceRecord) (e : Ending)
+pub begun_on : (v : Version) (h : Header) (items seen more : List TraceRecord) (e : TraceEnd)
     → items ++ records.End e ∷ [] ≡ seen ++ more
     → (rest : List ℕ) × (spell v h items e ≡ begun_with v h seen ++ rest)
 begun_on v h items seen more e is = (

@@ -1,20 +1,20 @@
 -- What follows of traces and refusals: what pieces say of the whole, and which parts a trace has.
-use Rattle.std.proofs.Common.{◌≡◌, ℕ, ◌+◌, ◌-◌, ◌≤◌, Bool, true, false, cond, eqb, eqb-true, ltb}
+use Rattle.std.proofs.Common.{◌≡◌, ◌≢◌, ℕ, ◌+◌, ◌-◌, ◌≤◌, Bool, true, false, cond, eqb, eqb-true, ltb}
 use Rattle.std.proofs.Common.{List, [], ◌∷◌, ◌++◌, length, take, All, Option, Some, None, Result}
 use Rattle.std.proofs.Common.{Ok, Err, refl, sym, ap, subst, ◌∙◌, arith}
 use Rattle.std.proofs.lemmas.List.{length-append}
 use Rattle.std.proofs.Math.Seq.{take-append_seam}
 use Rattle.std.specs.Option.{ForSome, option_map, option_or}
-use Rattle.base.specs.declared.ending.Ending.{Ending}
+use Rattle.trace_format.specs.declared.record.TraceEnd.{TraceEnd}
 use Rattle.trace_format.specs.declared.fault.TraceFault.{TraceFault}
 use Rattle.trace_format.specs.declared.fault.TraceFault.TheVariants as faults
 use Rattle.trace_format.specs.declared.record.Header.{Header}
 use Rattle.trace_format.specs.declared.record.Version.{Version}
-use Rattle.trace_format.specs.declared.record.Version.TheVariants.{One, Two, Three}
+use Rattle.trace_format.specs.declared.record.Version.TheVariants.{One, Two, Three, Four}
 use Rattle.trace_format.specs.declared.record.TraceRecord.{TraceRecord}
 use Rattle.trace_format.specs.declared.record.TraceRecord.TheVariants as records
 use Rattle.trace_format.specs.declared.read_so_far.ReadSoFar.{ReadSoFar}
-use Rattle.trace_format.specs.Rules.{IsGoodHeader, IsInner, IsWritable, last_position}
+use Rattle.trace_format.specs.Rules.{HasRegions, IsGoodHeader, IsInner, IsWritable, last_position}
 use Rattle.trace_format.specs.Rules.{longest_trace, touches_in}
 use Rattle.trace_format.specs.Judging.{record_judged, version_at}
 use Rattle.trace_format.specs.Reading.{Reading, byte_read, ending_at, ending_of, extent_at}
@@ -28,7 +28,7 @@ use Rattle.trace_passes.specs.declared.wanted.Refusal.TheVariants as refusals
 use Rattle.trace_passes.specs.declared.wanted.Wanted.{Wanted}
 use Rattle.trace_passes.specs.Passes.{Trace, IsWanted, all_records, before_last, first_refusal}
 use Rattle.trace_passes.specs.Passes.{harts_refusal, head_of, header_refusal, pcs_refusal}
-use Rattle.trace_passes.specs.Passes.{refusal_of}
+use Rattle.trace_passes.specs.Passes.{HasPcs, lines_refusal, near_refusal, refusal_of}
 use Rattle.trace_passes.specs.Passes.{trace_at, trace_of, trace_refusal, version_refusal}
 use Rattle.trace_format.specs.Laws.Counts.{EndsWith, IsCounted, IsSoFar, so_far, touches_in-append}
 
@@ -62,14 +62,14 @@ head_after_record : (p : ReadSoFar) (pending : List ℕ) (size : ℕ)
 head_after_record p pending size (Err fault) = (refl, refl)
 head_after_record p pending size (Ok item) = (refl, refl)
 
-head_after_part : (p : Option ReadSoFar) (e : Option Ending) (pending bytes : List ℕ)
+head_after_part : (p : Option ReadSoFar) (e : Option TraceEnd) (pending bytes : List ℕ)
     → HeadStays p (part_at (waiting p e pending) p e bytes).1.progress
 head_after_part None e pending bytes = tt
 head_after_part (Some p) None pending bytes = head_after_record p pending (length bytes)
     (record_judged p bytes)
 head_after_part (Some p) (Some e) pending bytes = (refl, refl)
 
-head_after_byte : (f : Option TraceFault) (p : Option ReadSoFar) (e : Option Ending)
+head_after_byte : (f : Option TraceFault) (p : Option ReadSoFar) (e : Option TraceEnd)
     (pending : List ℕ) (b : ℕ)
     → HeadStays p (byte_read (record { progress = p; pending = pending; ending = e; fault = f })
     b).1.progress
@@ -221,7 +221,7 @@ refused_for_fault w bytes more fault sited unrefused e =
     (ap ending_of same ∙ fault_ends r r.fault fault refl e)
 
 -- What is a trace with a magic and a header that are not refused is not refused.
-pub accepted_at_end : (w : Wanted) (bytes : List ℕ) (e : Ending) → pcs_refusal w bytes ≡ None
+pub accepted_at_end : (w : Wanted) (bytes : List ℕ) (e : TraceEnd) → pcs_refusal w bytes ≡ None
     → header_refusal w (head_of (reading_of bytes).1.progress) ≡ None
     → ending_of (reading_of bytes).1 ≡ Ok e
     → refusal_of w bytes ≡ None
@@ -256,23 +256,48 @@ neither (Some a) b e = absurd cc
 -- a header that is not refused is as wanted
 pub is_wanted : (w : Wanted) (h : Header) → header_refusal w (Some h) ≡ None → IsWanted w h
 is_wanted w h e =
-    let both = neither (harts_refusal w.harts h.harts) (first_refusal w.first h.first) e in
+    let later = neither (near_refusal w.lines h.near) _ e in
+    let both = neither (harts_refusal w.harts h.harts) (first_refusal w.first h.first) later.1 in
     record {
       harts = wanted_harts w.harts h.harts both.0;
       first =
           wanted_first w.first h.first both.1;
     }
 
+-- and its regions are as large as is wanted
+pub is_near : (w : Wanted) (h : Header) → header_refusal w (Some h) ≡ None
+    → near_refusal w.lines h.near ≡ None
+is_near w h e = (neither (near_refusal w.lines h.near) _ e).0
+
+none_near : (near : ℕ) (is : Bool) → eqb near 0 ≡ is
+    → cond is None (Some refusals.Filtered) ≡ None → near ≡ 0
+none_near near true is e = eqb-true near 0 is
+none_near near false is e = absurd cc
+
+filtered_not : (v : Version) (h : Header) → HasRegions v h → h.near ≡ 0 → v ≢ Four
+filtered_not One h regions none is = absurd cc
+filtered_not Two h regions none is = absurd cc
+filtered_not Three h regions none is = absurd cc
+filtered_not Four h regions none is = omega (arith, regions.1.0, none)
+
+-- Where no filtered trace is wanted, none is taken.
+pub is_unfiltered : (w : Wanted) (v : Version) (h : Header) → HasRegions v h
+    → near_refusal w.lines h.near ≡ None → w.lines ≡ None → v ≢ Four
+is_unfiltered w v h regions near none =
+    filtered_not v h regions (none_near h.near (eqb h.near 0) refl
+    (ap (λ (l : Option ℕ). near_refusal l h.near) (sym none) ∙ near))
+
 sited_version : (pcs : Bool) (v : Version) → version_refusal pcs (Some v) ≡ None → pcs ≡ true
-    → v ≡ Three
+    → HasPcs v
 sited_version false v e is = absurd cc
 sited_version true One e is = absurd cc
 sited_version true Two e is = absurd cc
-sited_version true Three e is = refl
+sited_version true Three e is = tt
+sited_version true Four e is = tt
 
 -- a trace that isn't refused for having no pcs has them where they are wanted
 pub is_sited : (w : Wanted) (bytes : List ℕ) (p : ReadSoFar) → pcs_refusal w bytes ≡ None
-    → (reading_of bytes).1.progress ≡ Some p → w.pcs ≡ true → p.version ≡ Three
+    → (reading_of bytes).1.progress ≡ Some p → w.pcs ≡ true → HasPcs p.version
 is_sited w bytes p sited known =
     let version = (has_version bytes p known).version in
     sited_version w.pcs p.version (ap (version_refusal w.pcs) (sym version) ∙ sited)
@@ -292,14 +317,14 @@ before_last-is all before x is = ap before_last is ∙ before_last-of before x
 
 -- what bytes say that are a trace with this end
 pub record IsWhole (all : List TraceRecord) (progress : Option ReadSoFar)
-    (e : Ending) : Type 0 where
+    (e : TraceEnd) : Type 0 where
   pub now : ReadSoFar
   pub known : progress ≡ Some now
   pub counted : IsCounted now all
   pub ends : EndsWith all e
 
 whole_in : (all : List TraceRecord) (f : Option TraceFault) (p : Option ReadSoFar)
-    (end : Option Ending) (n : ℕ) (e : Ending)
+    (end : Option TraceEnd) (n : ℕ) (e : TraceEnd)
     → IsSoFar p end all → ending_at f end n ≡ Ok e → IsWhole all p e
 whole_in all (Some fault) p end n e is known = absurd cc
 whole_in all None p None n e is known = absurd cc
@@ -309,7 +334,7 @@ whole_in all None (Some p) (Some end) n e is known =
     record { now = p; known = refl; counted = is.0; ends = subst (EndsWith all) same is.1 }
 
 -- Bytes that end well had a header, and their records end with that end.
-pub whole_at_end : (bytes : List ℕ) (e : Ending) → ending_of (reading_of bytes).1 ≡ Ok e
+pub whole_at_end : (bytes : List ℕ) (e : TraceEnd) → ending_of (reading_of bytes).1 ≡ Ok e
     → IsWhole (reading_of bytes).0 (reading_of bytes).1.progress e
 whole_at_end bytes e known =
     let now = reading_of bytes in
@@ -317,14 +342,14 @@ whole_at_end bytes e known =
 
 -- what a trace was read from
 record WasRead (all : List TraceRecord) (progress : Option ReadSoFar)
-    (ended : Result Ending TraceFault) (t : Trace) : Type 0 where
+    (ended : Result TraceEnd TraceFault) (t : Trace) : Type 0 where
   now : ReadSoFar
   known : progress ≡ Some now
   end : ended ≡ Ok t.ending
   header : t.header ≡ now.header
   items : t.items ≡ before_last all
 
-was_read : (all : List TraceRecord) (p : Option ReadSoFar) (j : Result Ending TraceFault)
+was_read : (all : List TraceRecord) (p : Option ReadSoFar) (j : Result TraceEnd TraceFault)
     (t : Trace)
     → trace_at all p j ≡ Some t
     → WasRead all p j t
@@ -368,7 +393,7 @@ pub record HasParts (t : Trace) : Type 0 where
   pub positions : t.header.first + length (touches_in t.items) ≤ last_position
   pub counted : t.ending.accesses ≡ length (touches_in t.items)
 
-touches_before : (items : List TraceRecord) (e : Ending)
+touches_before : (items : List TraceRecord) (e : TraceEnd)
     → length (touches_in (items ++ records.End e ∷ [])) ≡ length (touches_in items)
 touches_before items e =
     omega (
@@ -409,7 +434,7 @@ trace-parts bytes t is =
     }
 
 -- what bytes that end well are a trace of
-pub trace_there : (bytes : List ℕ) (p : ReadSoFar) (e : Ending)
+pub trace_there : (bytes : List ℕ) (p : ReadSoFar) (e : TraceEnd)
     → (reading_of bytes).1.progress ≡ Some p
     → ending_of (reading_of bytes).1 ≡ Ok e
     → trace_of bytes ≡ Some
@@ -426,9 +451,11 @@ pub record IsTaken (w : Wanted) (bytes : List ℕ) : Type 0 where
   pub trace : Trace
   pub is : trace_of bytes ≡ Some trace
   pub wanted : IsWanted w trace.header
-  pub sited : w.pcs ≡ true → trace.version ≡ Three
+  pub sited : w.pcs ≡ true → HasPcs trace.version
+  pub near : near_refusal w.lines trace.header.near ≡ None
+  pub unfiltered : w.lines ≡ None → trace.version ≢ Four
 
-no_fault : (j : Result Ending TraceFault) → trace_refusal j ≡ None → (e : Ending) × (j ≡ Ok e)
+no_fault : (j : Result TraceEnd TraceFault) → trace_refusal j ≡ None → (e : TraceEnd) × (j ≡ Ok e)
 no_fault (Ok e) is = (e, refl)
 no_fault (Err fault) is = absurd cc
 
@@ -447,4 +474,7 @@ not_refused w bytes is =
       is = trace_there bytes whole.now end.0 whole.known end.1;
       wanted = is_wanted w whole.now.header head;
       sited = is_sited w bytes whole.now front.0 whole.known;
+      near = is_near w whole.now.header head;
+      unfiltered = is_unfiltered w whole.now.version whole.now.header whole.counted.regions
+          (is_near w whole.now.header head);
     }

@@ -2,10 +2,10 @@
 use Rattle.std.proofs.Common.{◌≡◌, ℕ, List, [], ◌++◌, length, take, drop, Option, Some, None, Ok}
 use Rattle.std.proofs.Common.{refl, sym, ap, subst, ◌∙◌, arith}
 use Rattle.std.proofs.lemmas.List.{drop_all, take_all}
-use Rattle.base.specs.declared.ending.Ending.{Ending}
+use Rattle.trace_format.specs.declared.record.TraceEnd.{TraceEnd}
 use Rattle.trace_format.specs.declared.record.Header.{Header}
 use Rattle.trace_format.specs.declared.record.Version.{Version}
-use Rattle.trace_format.specs.declared.record.Version.TheVariants.{One, Two, Three}
+use Rattle.trace_format.specs.declared.record.Version.TheVariants.{One, Two, Three, Four}
 use Rattle.trace_format.specs.declared.record.TraceRecord.{TraceRecord}
 use Rattle.trace_format.specs.declared.read_so_far.ReadSoFar.{ReadSoFar}
 use Rattle.trace_format.specs.Judging.{begun, header_judged}
@@ -26,6 +26,7 @@ unfolding spell_header
 twenty One h = refl
 twenty Two h = refl
 twenty Three h = refl
+twenty Four h = refl
 
 -- bytes of a header alone
 header_alone : (bytes : List ℕ) (p : ReadSoFar) → length bytes ≡ 20 → header_judged bytes ≡ Ok p
@@ -53,15 +54,16 @@ same_head p (Some q) told stays is =
 
 -- The bytes of a good trace are a trace of its parts.
 pub trace-spelled : (bytes : List ℕ) (v : Version) (h : Header) (items : List TraceRecord)
-    (e : Ending) → IsTrace bytes v h items e
+    (e : TraceEnd) → IsTrace bytes v h items e
     → trace_of bytes ≡ Some (record { version = v; header = h; items = items; ending = e })
 unfolding spell
 trace-spelled bytes v h items e is =
     let again = trace_again bytes v h items e is in
     let whole = whole_at_end bytes e again.1 in
     let front = spell_header v h in
-    let later = spell_records v nothing_before items ++ spell_ending e in
-    let begins = header_alone front (begun v h) (twenty v h) (header_again v h is.good.header) in
+    let later = spell_records v nothing_before items ++ spell_ending v e in
+    let begins = header_alone front (begun v h) (twenty v h)
+    (header_again v h is.good.header is.good.regions) in
     let stays : HeadStays (Some (begun v h)) (reading_of bytes).1.progress =
     subst (λ (xs : List ℕ). HeadStays (Some (begun v h)) (reading_of xs).1.progress)
     (sym is.spelled)

@@ -9,7 +9,7 @@ pub returns : goal.returns
 returns c =
     let k = c.args.blame.now in
     rw (← three_pieces (string_bytes c.args.text.now)
-    (blame_heads k.grid k.position (length c.args.heads.now))
+    (blame_heads k.grid k.position c.args.whole (length c.args.heads.now))
     (flat_map (λ h. lines_of_line (with_rows (gathered_at c.args.pairs.now.entries)
     (gathered_at c.args.harts.now.entries) h)) c.args.heads.now) (blame_ends k.total))
     (rw (

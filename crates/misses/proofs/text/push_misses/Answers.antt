@@ -8,7 +8,7 @@ pub returns : goal.returns
 returns c =
     let k = c.args.misses.now in
     rw (← in_three (string_bytes c.args.text.now)
-    (miss_heads k.grid k.position (length c.args.rows.now))
+    (miss_heads k.grid k.position c.args.whole (length c.args.rows.now))
     (flat_map (miss_lines c.args.index.now k.position) c.args.rows.now)
     (miss_ends c.args.total))
     (rw (

@@ -7,7 +7,7 @@ returns-in-Ok g c =
     let name = c.args.name.now in
     let under = c.args.under in
     let asked = g.met.C.Counter.answers name under in
-    c.print_text.ensures (g.C.Counter.asks name under) g.C.Counter.WANTED (g.C.Counter.says under) name
+    c.print_text.ensures (g.C.Counter.asks name under) (g.C.Counter.WANTED under) (g.C.Counter.says under) name
     (g.S.Shelf.outside c.args.shelf.now) asked.reads asked.works asked.repeats
     (rw c.deref.ensures.value c.in-Ok.ensures.counted)
 

@@ -54,10 +54,10 @@ returns-clause-carried c = λ save g v whole final earlier cut.
     carried_on c.what_is_noted_is_seen.ensures.objects save g v whole final earlier cut
 
 pub returns-clause-halves : goal.returns-clause-halves
-returns-clause-halves c = λ at bytes whole small is.
+returns-clause-halves c = λ at bytes whole small is plain.
     halves_cut at whole
     (c.the_halves_are_traces.ensures.halves at whole
-    (c.the_halves_are_traces.ensures.whole bytes whole small is))
+    (c.the_halves_are_traces.ensures.whole bytes whole small is) plain)
     (c.a_trace_is_its_spelling.ensures bytes whole small is).good.counted
 
 pub returns-clause-good : goal.returns-clause-good

@@ -8,7 +8,7 @@ use Rattle.predator_cli.proofs.StateSizes.{few_objects}
 use Rattle.predator_cli.proofs.laws.a_trace_counts_in_parts.Goals as goal
 
 pub returns : goal.returns
-returns c = λ demand files how t first later small is zero accepted layout this find.
+returns c = λ demand files how t first later small is plain zero accepted layout this find.
     let found = settings_found how.settings files accepted in
     all_repeat c.a_replay_goes_on_from_a_list.ensures.answered
     c.a_replay_goes_on_from_a_list.ensures.carried c.the_halves_are_traces.ensures.halves
@@ -20,4 +20,4 @@ returns c = λ demand files how t first later small is zero accepted layout this
     (c.what_is_noted_is_seen.ensures.apart items))
     how found.0 (under_settings how.layout found.0 found.2 layout) files demand.trace t
     (first ∷ later) found.1 (c.the_halves_are_traces.ensures.whole (content files demand.trace) t
-    small is) is zero find
+    small is) plain is zero find

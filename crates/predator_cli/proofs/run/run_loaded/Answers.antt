@@ -4,7 +4,7 @@ use Rattle.command_line.specs.Words.{run}
 use Rattle.guest.specs.Runs.{rest_of}
 use Rattle.run_recorder.specs.Recorded.{trace_for}
 use Rattle.predator_cli.specs.Run.{version_with}
-use Rattle.predator_cli.proofs.RunEnds.{shown_cut, shown_worked}
+use Rattle.predator_cli.proofs.RunEnds.{near_none, shown_cut, shown_worked}
 use Rattle.predator_cli.proofs.run.run_loaded.Goals as goal
 
 pub returns-in-Ok : goal.returns-in-Ok
@@ -19,7 +19,7 @@ returns-in-Ok g c = λ old ready.
     old
     (g.S.Shelf.outside c.args.shelf.now) (g.S.Shelf.outside c.run_guest.new.shelf) r
     c.in-Ok.shown.status c.in-Ok.shown.text.items ready
-    shown.status shown.text shown.good refl shown.written))
+    shown.status shown.text shown.good (near_none d.pcs) refl shown.written))
 
 pub returns-in-Err : goal.returns-in-Err
 returns-in-Err g c = λ old ready.

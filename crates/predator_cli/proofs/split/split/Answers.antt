@@ -21,6 +21,7 @@ returns-in-Ok g c =
     c.print_copies.ensures (split d) a
     (copy_worked (split d) d.trace (split_text d.at) (halves d.at d.first d.second)
     (is_split d (c.a_trace_counts_in_parts.ensures d)) a b _ copied
+    (λ t says. says.2)
     (ap (copy_text (codes "split") c.in-Ok.made.cut) copied.told.1
     ∙ ap (λ (cut : ℕ). copy_text (codes "split") cut (all - cut)) copied.told.0))
 

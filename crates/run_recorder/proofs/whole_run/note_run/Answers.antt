@@ -1,10 +1,11 @@
 use Rattle.std.proofs.Common.{◌≤◌, ◌^◌, ◌∙◌, ◌++◌, ◌∷◌, [], ℕ, List, length, ap, subst, arith}
 use Rattle.base.specs.declared.ending.Ending.{Ending}
+use Rattle.trace_format.specs.declared.record.TraceEnd.{TraceEnd}
 use Rattle.shelf.specs.Files.{Output as AnOutput, AreCut, AreWritten}
 use Rattle.trace_format.specs.declared.record.TraceRecord.TheVariants as records
 use Rattle.guest.specs.SeenTurns.{IsEndOf}
 use Rattle.guest.specs.Runs.{output_of, rest_of, touches_in}
-use Rattle.run_recorder.specs.Recorded.{outputs_of, records_in, records_of}
+use Rattle.run_recorder.specs.Recorded.{end_for, outputs_of, records_in, records_of}
 use Rattle.run_recorder.specs.Recording.{AreCutAfter, AreNoted, bytes_so_far}
 use Rattle.run_recorder.proofs.Events.{whole_put}
 use Rattle.run_recorder.proofs.Following.{cut_before, cut_start, first_noted, room_for_end}
@@ -66,7 +67,7 @@ end-requires-clause-room g c =
     let few : length (touches_in r.events) ≤ 2 ^ 40 =
     omega (arith, few_touches r.events, c.requires.short.events, c.requires.budget) in
     room_for_end g.O.Observer.begins g.O.Observer.given c.note_symbols.new.observer
-    c.follow.new.observer c.args.version r.events c.in-Ok-follow.ending
+    c.follow.new.observer c.args.version r.events c.end_for-last.result
     (record {
       begun = c.args.observer.now;
       earlier = c.args.symbols.now;
@@ -101,8 +102,11 @@ returns-in-Ok-end-clause-written g c =
     (g.S.Shelf.outside c.begin.new.shelf) c.harts.ensures c.requires.writer
     c.in-Ok.ensures.outputs in
     subst (λ (l : List AnOutput). AreWritten l old new)
-    (ap (λ (e : Ending). outputs_of files
+    (ap (λ (e : TraceEnd). outputs_of files
     (bytes_so_far v harts (records_of v symbols r ++ records.End e ∷ []) (output_of r)))
+    c.end_for-last.ensures
+    ∙ ap (λ (e : Ending). outputs_of files
+    (bytes_so_far v harts (records_of v symbols r ++ records.End (end_for v e) ∷ []) (output_of r)))
     c.in-Ok-follow.ensures.ending
     ∙ whole_put v harts symbols files r)
     (c.in-Ok-end.ensures.written v harts (symbols ++ records_in v r.events) (output_of r) old
@@ -124,8 +128,11 @@ returns-in-Err-end-clause-cut g c =
     (g.S.Shelf.outside c.begin.new.shelf) c.harts.ensures c.requires.writer
     c.in-Ok.ensures.outputs in
     subst (λ (l : List AnOutput). AreCut l old new c.in-Err-end.error)
-    (ap (λ (e : Ending). outputs_of files
+    (ap (λ (e : TraceEnd). outputs_of files
     (bytes_so_far v harts (records_of v symbols r ++ records.End e ∷ []) (output_of r)))
+    c.end_for-last.ensures
+    ∙ ap (λ (e : Ending). outputs_of files
+    (bytes_so_far v harts (records_of v symbols r ++ records.End (end_for v e) ∷ []) (output_of r)))
     c.in-Ok-follow.ensures.ending
     ∙ whole_put v harts symbols files r)
     (c.in-Err-end.ensures.cut v harts (symbols ++ records_in v r.events) (output_of r) old

@@ -3,7 +3,7 @@ use Rattle.std.proofs.lemmas.Result.{IfErr-at_err, IfErr-weaker, IfOk-weaker}
 use Rattle.trace_format.specs.declared.fault.TraceFault.TheVariants as trace_faults
 use Rattle.trace_format.specs.Rules.{touches_in}
 use Rattle.trace_passes.specs.declared.wanted.Refusal.TheVariants as refusals
-use Rattle.trace_files.specs.Copies.{HasStopped, conversion, other_version}
+use Rattle.trace_files.specs.Copies.{IsUnfiltered, HasStopped, conversion, other_version}
 use Rattle.trace_files.proofs.Stopped.{accepted_still, copied_since, refused_first, refused_never}
 use Rattle.trace_files.proofs.Stopped.{stopped_since, told_accepted}
 use Rattle.trace_files.proofs.convert.convert_trace.Goals as goal
@@ -16,7 +16,8 @@ returns-in-Ok-clause-copied g c =
     IfOk-weaker c.convert_accepted.result _ _
     (λ made. copied_since old mid new c.in-Ok.ensures.stays new.held c.args.name.now
     (conversion c.args.output.now)
-    (λ t. (made.version ≡ other_version t.version) × (made.accesses ≡ length (touches_in t.items))))
+    (λ t. (made.version ≡ other_version t.version) × (made.accesses ≡ length (touches_in t.items))
+    × IsUnfiltered t))
     c.convert_accepted.ensures.copied
 
 pub returns-in-Ok-clause-refused : goal.returns-in-Ok-clause-refused

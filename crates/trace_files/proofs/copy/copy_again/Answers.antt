@@ -3,6 +3,7 @@ use Rattle.trace_passes.specs.Passes.{all_records, trace_with}
 use Rattle.trace_files.proofs.Stopped.{accepted_still, first_all, never_refused, same_parts}
 use Rattle.trace_files.proofs.Stopped.{short_other, untold}
 use Rattle.trace_files.proofs.Differing.{no_trace_again, other_again}
+use Rattle.trace_files.specs.Laws.Copies.{plain_zero}
 use Rattle.trace_files.proofs.copy.copy_again.Goals as goal
 
 pub returns-in-Err-clause-changed : goal.returns-in-Err-clause-changed
@@ -46,4 +47,12 @@ returns-in-Some-clause-other g c = λ refusal same.
     let value = c.differs.ensures.value in
     other_again c.args.name.now c.args.first.now c.in-Ok.passed refusal
     (g.S.Shelf.outside c.args.shelf.now).given
-    (g.S.Shelf.outside c.copy_records.new.shelf).given c.in-Ok.ensures.shown (cc)
+    (g.S.Shelf.outside c.copy_records.new.shelf).given c.in-Ok.ensures.shown
+    c.in-Ok.ensures.plain (cc)
+
+pub differs-requires-clause-first : goal.differs-requires-clause-first
+differs-requires-clause-first g c = plain_zero c.args.first.now.header.near c.requires.accepted.plain
+
+pub differs-requires-clause-second : goal.differs-requires-clause-second
+differs-requires-clause-second g c =
+    plain_zero c.in-Ok.passed.header.near c.in-Ok.ensures.plain

@@ -32,7 +32,7 @@ advance-requires g c = (
   come_at g.T.Target.waiting g.T.Target.files g.T.Target.has c.args.name.now c.args.target.now
       c.pieces.target c.pieces.cursor
       (g.S.Shelf.outside c.args.shelf.now) (g.S.Shelf.outside c.pieces.shelf) c.pieces.invariant
-      c.any.result c.any.ensures,
+      c.unfiltered.result c.unfiltered.ensures,
 )
 
 pub put_all-requires : goal.put_all-requires
@@ -47,7 +47,7 @@ put_all-requires g c =
     in
     let on = on_at g.T.Target.waiting g.T.Target.files g.T.Target.has c.args.name.now
     c.args.target.now c.pieces.target c.pieces.cursor
-    old mid c.pieces.invariant c.any.result c.any.ensures next read (e.more (ap Ok none)) in
+    old mid c.pieces.invariant c.unfiltered.result c.unfiltered.ensures next read (e.more (ap Ok none)) in
     record {
       writable = subst (All IsWritable) (sym c.items.ensures)
           (piece_writable mid read c.args.name.now c.pieces.invariant.bytes next on);
@@ -72,7 +72,7 @@ pieces-preserved g c =
     in
     let on = on_at g.T.Target.waiting g.T.Target.files has c.args.name.now c.args.target.now now
     c.pieces.cursor
-    old mid c.pieces.invariant c.any.result c.any.ensures next read (e.more (ap Ok none)) in
+    old mid c.pieces.invariant c.unfiltered.result c.unfiltered.ensures next read (e.more (ap Ok none)) in
     next_at g.T.Target.waiting g.T.Target.files has c.args.name.now c.args.target.now now
     c.pieces.cursor
     old mid c.pieces.invariant next read reads on later new c.put_all.ensures.files
@@ -108,7 +108,7 @@ returns-in-Ok-Some-clause-copied g c =
     let passed = c.in-Ok-Some.passed in
     let ended = end_at g.T.Target.waiting g.T.Target.files g.T.Target.has c.args.name.now
     c.args.target.now c.pieces.target c.pieces.cursor
-    old mid c.pieces.invariant c.any.result c.any.ensures passed read.held
+    old mid c.pieces.invariant c.unfiltered.result c.unfiltered.ensures passed read.held
     (e.ended passed (ap Ok some)) in
     ended_at g.T.Target.waiting g.T.Target.files g.T.Target.has c.args.name.now c.args.target.now
     c.pieces.target c.pieces.cursor
@@ -124,13 +124,13 @@ returns-in-Ok-Some-clause-shown g c =
     let passed = c.in-Ok-Some.passed in
     let x = c.pieces.invariant in
     let ended = end_at g.T.Target.waiting g.T.Target.files g.T.Target.has c.args.name.now
-    c.args.target.now c.pieces.target c.pieces.cursor old mid x c.any.result c.any.ensures passed
+    c.args.target.now c.pieces.target c.pieces.cursor old mid x c.unfiltered.result c.unfiltered.ensures passed
     read.held (e.ended passed (ap Ok some)) in
     shown_at g.T.Target.waiting g.T.Target.files g.T.Target.has c.args.name.now c.args.target.now
     c.pieces.target c.pieces.cursor old mid x passed read.held read.given ended
     (e.shown passed (ap Ok some) x.bytes
     (come_at g.T.Target.waiting g.T.Target.files g.T.Target.has c.args.name.now c.args.target.now
-    c.pieces.target c.pieces.cursor old mid x c.any.result c.any.ensures) old.given x.front)
+    c.pieces.target c.pieces.cursor old mid x c.unfiltered.result c.unfiltered.ensures) old.given x.front)
 
 pub returns-in-Err-put_all-clause-short : goal.returns-in-Err-put_all-clause-short
 returns-in-Err-put_all-clause-short g c = λ before began.
@@ -147,7 +147,7 @@ returns-in-Err-put_all-clause-short g c = λ before began.
     in
     let on = on_at g.T.Target.waiting g.T.Target.files g.T.Target.has c.args.name.now
     c.args.target.now now c.pieces.cursor
-    old mid c.pieces.invariant c.any.result c.any.ensures next read (e.more (ap Ok none)) in
+    old mid c.pieces.invariant c.unfiltered.result c.unfiltered.ensures next read (e.more (ap Ok none)) in
     rw c.write_fault.ensures
     (cut_at g.T.Target.waiting g.T.Target.files g.T.Target.has c.args.name.now c.args.target.now now
     c.pieces.cursor
@@ -173,8 +173,8 @@ pub returns-in-Err-advance-clause-changed : goal.returns-in-Err-advance-clause-c
 returns-in-Err-advance-clause-changed g c = λ refusal same.
     let refused = was_refused c.in-Err-advance.fault c.second_fault-in-Err-advance.result refusal
     c.second_fault-in-Err-advance.ensures (cc) in
-    refused_at (g.S.Shelf.outside c.advance.new.shelf).held c.args.name.now c.any.result
-    c.any.ensures refusal
+    refused_at (g.S.Shelf.outside c.advance.new.shelf).held c.args.name.now c.unfiltered.result
+    c.unfiltered.ensures refusal
     (c.in-Err-advance.ensures.refused refusal (cc))
 
 pub returns-in-Err-advance-clause-found : goal.returns-in-Err-advance-clause-found
@@ -185,11 +185,11 @@ returns-in-Err-advance-clause-found g c = λ refusal same.
     let read = g.S.Shelf.outside c.advance.new.shelf in
     let x = c.pieces.invariant in
     subst (λ (w : Wanted). HasShown c.args.name.now (λ file. refusal_of w file ≡ Some refusal)
-    old.given read.given) c.any.ensures
+    old.given read.given) c.unfiltered.ensures
     (c.in-Err-advance.ensures.shown_refused refusal (cc) x.bytes
     (come_at g.T.Target.waiting g.T.Target.files g.T.Target.has c.args.name.now c.args.target.now
-    c.pieces.target c.pieces.cursor old (g.S.Shelf.outside c.pieces.shelf) x c.any.result
-    c.any.ensures) old.given x.front)
+    c.pieces.target c.pieces.cursor old (g.S.Shelf.outside c.pieces.shelf) x c.unfiltered.result
+    c.unfiltered.ensures) old.given x.front)
 
 -- ---- no more is told than before
 
@@ -208,3 +208,17 @@ returns-in-Err-put_all-clause-tells g c =
 pub returns-in-Err-advance-clause-tells : goal.returns-in-Err-advance-clause-tells
 returns-in-Err-advance-clause-tells g c =
     narrows_then _ _ _ c.pieces.invariant.narrow c.in-Err-advance.ensures.only.held
+
+pub returns-in-Ok-Some-clause-plain : goal.returns-in-Ok-Some-clause-plain
+returns-in-Ok-Some-clause-plain g c =
+    let some = c.in-Ok-Some.field-0-is in
+    let e = c.in-Ok-Some.ensures in
+    let old = g.S.Shelf.outside c.args.shelf.now in
+    let mid = g.S.Shelf.outside c.pieces.shelf in
+    let read = g.S.Shelf.outside c.advance.new.shelf in
+    let passed = c.in-Ok-Some.passed in
+    let x = c.pieces.invariant in
+    let ended = end_at g.T.Target.waiting g.T.Target.files g.T.Target.has c.args.name.now
+    c.args.target.now c.pieces.target c.pieces.cursor old mid x c.unfiltered.result
+    c.unfiltered.ensures passed read.held (e.ended passed (ap Ok some)) in
+    ended.near

@@ -3,7 +3,8 @@ use Rattle.trace_format.specs.Spelling.{spell}
 use Rattle.trace_passes.specs.Passes.{spell_trace}
 use Rattle.trace_passes.specs.Laws.Spelled.{trace-spelled}
 use Rattle.trace_files.specs.Copies.{converted, other_items, other_version}
-use Rattle.trace_files.proofs.Others.{items_twice, other_good, other_inner, other_touches, twice}
+use Rattle.trace_files.proofs.Others.{items_twice, other_ending, other_good, other_inner, other_regions, other_touches}
+use Rattle.trace_files.proofs.Others.{twice}
 use Rattle.trace_files.proofs.copy_laws.a_trace_converted_twice_is_itself.Goals as goal
 
 pub returns-clause-trace : goal.returns-clause-trace
@@ -15,9 +16,10 @@ returns-clause-trace c = λ bytes t small is short.
     (record {
       good = record {
         header = good.header;
+        regions = other_regions t.version t.header good.regions;
         records = other_good t.version t.header.harts t.items good.records;
         inner = other_inner t.version t.items good.inner;
-        ending = good.ending;
+        ending = other_ending t.version t.header.harts t.ending good.ending;
         positions = omega (arith, same, good.positions);
         counted = good.counted ∙ sym same;
         short = short;

@@ -4,14 +4,17 @@ use Rattle.trace_format.specs.Rules.{touches_in}
 use Rattle.trace_passes.specs.Passes.{spell_trace}
 use Rattle.trace_passes.specs.Laws.Spelled.{trace-spelled}
 use Rattle.trace_files.specs.Moves.{moved_in}
-use Rattle.trace_files.specs.Moving.{moved, moved_items}
+use Rattle.trace_files.specs.Moving.{moved, moved_items, narrowed}
 use Rattle.trace_files.proofs.MovedTraces.{all_good_moved, all_inner_moved, free_unrefused}
-use Rattle.trace_files.proofs.MovedTraces.{moved_touches, unrefused_found}
-use Rattle.trace_files.proofs.MovedTraces.{unrefused_free, unrefused_whole}
+use Rattle.trace_files.proofs.MovedTraces.{moved_touches, narrowed_regions, unrefused_found}
+use Rattle.trace_files.proofs.MovedTraces.{unrefused_free, unrefused_plain, unrefused_whole}
 use Rattle.trace_files.proofs.move_laws.a_moved_trace_is_a_trace.Goals as goal
 
 pub returns-clause-accepted : goal.returns-clause-accepted
 returns-clause-accepted c = free_unrefused
+
+pub returns-clause-unfiltered : goal.returns-clause-unfiltered
+returns-clause-unfiltered c = unrefused_plain
 
 pub returns-clause-free : goal.returns-clause-free
 returns-clause-free c = unrefused_free
@@ -28,10 +31,15 @@ returns-clause-trace c = λ table bytes t table_is small is short.
     let items = moved_items table t.items in
     let same = ap length (moved_touches table t.items)
     ∙ length-map (touches_in t.items) (moved_in table) in
-    trace-spelled (spell_trace (moved table t)) t.version t.header items t.ending
+    trace-spelled (spell_trace (moved table t)) t.version (narrowed t.header) items t.ending
     (record {
       good = record {
-        header = good.header;
+        header = record {
+          position = good.header.position;
+          some = good.header.some;
+          few = good.header.few;
+        };
+        regions = narrowed_regions t.version t.header good.regions;
         records = all_good_moved table table_is t.version t.header.harts t.items good.records;
         inner = all_inner_moved table t.items good.inner;
         ending = good.ending;

@@ -7,7 +7,7 @@ returns-clause-whole c = λ bytes t small is.
     is_whole t (c.a_trace_is_its_spelling.ensures bytes t small is).good
 
 pub returns-clause-halves : goal.returns-clause-halves
-returns-clause-halves c = λ at t is.
-    are_halves at t is.good.good
+returns-clause-halves c = λ at t is plain.
+    are_halves at t plain is.good.good
     (c.a_trace_is_cut_in_two.ensures.halves (begin_split t.header t.ending.accesses at).cut t.items
     t.ending is.good.good.inner)

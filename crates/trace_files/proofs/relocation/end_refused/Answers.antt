@@ -1,4 +1,4 @@
-use Rattle.std.proofs.Common.{◌++◌, List, Option, subst, sym}
+use Rattle.std.proofs.Common.{◌++◌, List, Option, inl, refl, subst, sym}
 use Rattle.shelf.specs.Shelf.{Outside}
 use Rattle.trace_format.specs.declared.record.Header.{Header}
 use Rattle.trace_format.specs.declared.record.TraceRecord.{TraceRecord}
@@ -65,9 +65,12 @@ returns-in-Ok-finish-clause-ends g c = λ known seen before has follows.
     → HasMoved t m.name.now c.take.new.mover c.head.result (seen ++ l) before mid) c.items.ensures
     c.in-Ok.ensures.moved) in
     let has_all = taken known seen before has follows in
-    all_written t m.name.now c.take.new.mover h (seen ++ items) before mid new has_all
-    (c.in-Ok-finish.ensures.written t m.name.now h (seen ++ items) before has_all)
-    (c.in-Ok-finish.ensures.cut_there t m.name.now h (seen ++ items) before has_all)
+    inl (
+      refl,
+      all_written t m.name.now c.take.new.mover h (seen ++ items) before mid new has_all
+          (c.in-Ok-finish.ensures.written t m.name.now h (seen ++ items) before has_all)
+          (c.in-Ok-finish.ensures.cut_there t m.name.now h (seen ++ items) before has_all),
+    )
 
 pub returns-in-Err-finish-clause-ends : goal.returns-in-Err-finish-clause-ends
 returns-in-Err-finish-clause-ends g c = λ known seen before has follows.
@@ -91,9 +94,9 @@ returns-in-Err-finish-clause-ends g c = λ known seen before has follows.
     → HasMoved t m.name.now c.take.new.mover c.head.result (seen ++ l) before mid) c.items.ensures
     c.in-Ok.ensures.moved) in
     let has_all = taken known seen before has follows in
-    subst (λ (f : MoveFault). EndsAt t m.name.now h (seen ++ items) before new f)
+    subst (λ (f : MoveFault). EndsAt t m.name.now h (seen ++ items) before new c.args.refusal f)
     (sym c.write_fault.ensures)
-    (ends_by t m.name.now h (seen ++ items) before new _
+    (ends_by t m.name.now h (seen ++ items) before new _ c.args.refusal
     (stops_by t m.name.now h (seen ++ items) before new c.in-Err-finish.error
     (all_cut t m.name.now c.take.new.mover h (seen ++ items) before mid new c.in-Err-finish.error
     has_all

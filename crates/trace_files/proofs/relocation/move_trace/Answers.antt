@@ -290,10 +290,9 @@ returns-in-Err-Refused-clause-refused g c = λ other_one same.
     λ same_one. e.memory (ap Err (is ∙ ap passes.Refused same_one)) in
     let gave = gave_refused new.held trace file t stopped.all whole refusal
     (stopped.refused ∙ ap (λ (r : Refusal). Some r) (sym wrong.1)) other old new fault
-    c.end_refused.ensures.refused
     (at_all t trace file m c.pieces.cursor old mid at read reads stopped.all next.items next.items
     next.reading (version_and_header next.reading.progress)
-    (λ n h l b. EndsAt t n h l b new fault) stopped.behind stopped.records stopped.reading refl refl
+    (λ n h l b. EndsAt t n h l b new refusal fault) stopped.behind stopped.records stopped.reading refl refl
     c.end_refused.ensures.ends) in
     let so : fault ≡ faults.Refused other_one = cc in
     gave.refused other_one so
@@ -332,13 +331,53 @@ returns-in-Err-Refused-clause-occupied g c = λ addr same.
     λ same_one. e.memory (ap Err (is ∙ ap passes.Refused same_one)) in
     let gave = gave_refused new.held trace file t stopped.all whole refusal
     (stopped.refused ∙ ap (λ (r : Refusal). Some r) (sym wrong.1)) other old new fault
-    c.end_refused.ensures.refused
     (at_all t trace file m c.pieces.cursor old mid at read reads stopped.all next.items next.items
     next.reading (version_and_header next.reading.progress)
-    (λ n h l b. EndsAt t n h l b new fault) stopped.behind stopped.records stopped.reading refl refl
+    (λ n h l b. EndsAt t n h l b new refusal fault) stopped.behind stopped.records stopped.reading refl refl
     c.end_refused.ensures.ends) in
     let so : fault ≡ faults.Occupied addr = cc in
     gave.occupied addr so
+
+pub returns-in-Err-Refused-clause-memory : goal.returns-in-Err-Refused-clause-memory
+returns-in-Err-Refused-clause-memory g c = λ same.
+    let t = c.args.table.now in
+    let trace = c.args.trace.now in
+    let file = c.args.file.now in
+    let m = c.pieces.mover in
+    let old = g.S.Shelf.outside c.args.shelf.now in
+    let mid = g.S.Shelf.outside c.pieces.shelf in
+    let read = g.S.Shelf.outside c.advance.new.shelf in
+    let next = c.advance.new.self in
+    let at = c.pieces.invariant in
+    let come = subst (λ (w : Wanted). HasCome mid.held trace w at.bytes c.pieces.cursor)
+    (sym c.any.ensures) at.come in
+    let e = c.in-Err-Refused.ensures in
+    let refusal = c.in-Err-Refused.refusal in
+    let is = c.in-Err-Refused.field-0-is in
+    let cause = subst (λ (f : PassFault). HasPassCause {T = Option Passed} trace mid read (Err f)) is
+    e.cause in
+    let reads : HasRead mid read = record { only = e.only; faults = cause.quiet (λ i. cc) } in
+    let found = e.found refusal (ap Err is) in
+    let wrong = is_trace_fault found.0 refusal
+    (subst (λ (w : Wanted). refusal_of w found.0 ≡ Some refusal) c.any.ensures found.1) in
+    let stopped = subst (λ (w : Wanted).
+    HasStopped read.held trace w at.bytes (refusals.Trace wrong.0) next) c.any.ensures
+    (e.stopped wrong.0 (ap Err (is ∙ ap passes.Refused wrong.1)) at.bytes come) in
+    let new = g.S.Shelf.outside c.end_refused.new.shelf in
+    let fault = c.end_refused.result in
+    let whole : Told new.held (λ fs. stopped.all ≡ content fs trace) =
+    told_same (λ fs. stopped.all ≡ content fs trace) read.held new.held c.end_refused.ensures.tells
+    stopped.whole in
+    let other : refusal ≢ refusals.Trace trace_faults.NoMemory =
+    λ same_one. e.memory (ap Err (is ∙ ap passes.Refused same_one)) in
+    let gave = gave_refused new.held trace file t stopped.all whole refusal
+    (stopped.refused ∙ ap (λ (r : Refusal). Some r) (sym wrong.1)) other old new fault
+    (at_all t trace file m c.pieces.cursor old mid at read reads stopped.all next.items next.items
+    next.reading (version_and_header next.reading.progress)
+    (λ n h l b. EndsAt t n h l b new refusal fault) stopped.behind stopped.records stopped.reading refl refl
+    c.end_refused.ensures.ends) in
+    let so : fault ≡ faults.Refused (refusals.Trace trace_faults.NoMemory) = cc in
+    gave.memory so
 
 pub returns-in-Err-Refused-clause-given_up : goal.returns-in-Err-Refused-clause-given_up
 returns-in-Err-Refused-clause-given_up g c =
@@ -374,10 +413,9 @@ returns-in-Err-Refused-clause-given_up g c =
     λ same_one. e.memory (ap Err (is ∙ ap passes.Refused same_one)) in
     let gave = gave_refused new.held trace file t stopped.all whole refusal
     (stopped.refused ∙ ap (λ (r : Refusal). Some r) (sym wrong.1)) other old new fault
-    c.end_refused.ensures.refused
     (at_all t trace file m c.pieces.cursor old mid at read reads stopped.all next.items next.items
     next.reading (version_and_header next.reading.progress)
-    (λ n h l b. EndsAt t n h l b new fault) stopped.behind stopped.records stopped.reading refl refl
+    (λ n h l b. EndsAt t n h l b new refusal fault) stopped.behind stopped.records stopped.reading refl refl
     c.end_refused.ensures.ends) in
     gave.given_up
 
@@ -486,10 +524,16 @@ returns-in-Ok-Some-clause-refused g c = λ refusal same.
     let ended = subst (λ (w : Wanted). HasEnded read.held trace w at.bytes passed)
     c.any.ensures (e.ended passed (ap Ok some) at.bytes come) in
     let has = has_read t file m head seen old mid read reads at.has in
-    absurd (IfErr-at_err (λ fault. (table : List Move) (name : List ℕ) (head : Option (Version × Header))
+    let front : Told new.held (λ fs. IsFront (content fs trace) at.bytes) =
+    front_still read.held new.held trace at.bytes c.end_whole.ensures.tells
+    (told_still (λ fs. IsFront (content fs trace) at.bytes) mid.held read.held e.only.held
+    at.come.front) in
+    let stops = IfErr-at_err (λ fault. (table : List Move) (name : List ℕ) (head : Option (Version × Header))
     (seen : List TraceRecord) (before : Outside) → HasMoved table name m head seen before read
     → StopsAt table name head seen before new fault) same
-    c.end_whole.ensures.stopped t file head seen old has)
+    c.end_whole.ensures.stopped t file head seen old has in
+    (gave_stopped new.held trace file t at.bytes front old new (faults.Refused refusal) stops).refused
+    refusal refl
 
 pub returns-in-Ok-Some-clause-occupied : goal.returns-in-Ok-Some-clause-occupied
 returns-in-Ok-Some-clause-occupied g c = λ addr same.
@@ -550,10 +594,16 @@ returns-in-Ok-Some-clause-memory g c = λ same.
     let ended = subst (λ (w : Wanted). HasEnded read.held trace w at.bytes passed)
     c.any.ensures (e.ended passed (ap Ok some) at.bytes come) in
     let has = has_read t file m head seen old mid read reads at.has in
-    IfErr-at_err (λ fault. (table : List Move) (name : List ℕ) (head : Option (Version × Header))
+    let front : Told new.held (λ fs. IsFront (content fs trace) at.bytes) =
+    front_still read.held new.held trace at.bytes c.end_whole.ensures.tells
+    (told_still (λ fs. IsFront (content fs trace) at.bytes) mid.held read.held e.only.held
+    at.come.front) in
+    let stops = IfErr-at_err (λ fault. (table : List Move) (name : List ℕ) (head : Option (Version × Header))
     (seen : List TraceRecord) (before : Outside) → HasMoved table name m head seen before read
     → StopsAt table name head seen before new fault) same
-    c.end_whole.ensures.stopped t file head seen old has
+    c.end_whole.ensures.stopped t file head seen old has in
+    (gave_stopped new.held trace file t at.bytes front old new
+    (faults.Refused (refusals.Trace trace_faults.NoMemory)) stops).memory refl
 
 pub returns-in-Ok-Some-clause-given_up : goal.returns-in-Ok-Some-clause-given_up
 returns-in-Ok-Some-clause-given_up g c =

@@ -2,7 +2,7 @@ use Rattle.std.proofs.Common.{List, refl, sym, subst, arith}
 use Rattle.shelf.specs.Shelf.{Given}
 use Rattle.shelf.specs.Laws.Files.{IsOutputs-begun}
 use Rattle.shelf.specs.Laws.Told.{narrows_by, narrows_then}
-use Rattle.base.specs.declared.ending.Ending.{Ending}
+use Rattle.trace_format.specs.declared.record.TraceEnd.{TraceEnd}
 use Rattle.trace_format.specs.Rules.{IsAllowedEnd, IsGoodHeader}
 use Rattle.trace_passes.specs.Passes.{trace_with}
 use Rattle.trace_passes.specs.Laws.Passes.{trace-parts}
@@ -94,7 +94,7 @@ finish-requires-clause-begun g c =
 
 pub finish-requires-clause-first : goal.finish-requires-clause-first
 finish-requires-clause-first g c =
-    subst (λ (e : Ending × Ending). IsAllowedEnd e.0.steps e.0.outcome)
+    subst (λ (e : TraceEnd × TraceEnd). IsAllowedEnd e.0.steps e.0.outcome)
     (sym c.endings-before.ensures) refl
 
 pub finish-requires-clause-second : goal.finish-requires-clause-second
@@ -102,7 +102,7 @@ finish-requires-clause-second g c =
     let old = g.S.Shelf.outside c.args.shelf.now in
     let way = begun_as c.in-Ok.ensures.files c.in-Ok.ensures.outputs in
     let copied = c.in-Ok-copy_again.ensures.copied old way in
-    subst (λ (e : Ending × Ending). IsAllowedEnd e.1.steps e.1.outcome)
+    subst (λ (e : TraceEnd × TraceEnd). IsAllowedEnd e.1.steps e.1.outcome)
     (sym c.endings-before.ensures)
     (end_allowed copied.bytes (trace_with c.in-Ok-copy_again.again copied.items) copied.is)
 

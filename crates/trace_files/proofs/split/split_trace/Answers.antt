@@ -4,7 +4,7 @@ use Rattle.std.proofs.lemmas.Result.{IfErr-at_err, IfErr-weaker, IfOk-weaker}
 use Rattle.trace_format.specs.declared.fault.TraceFault.TheVariants as trace_faults
 use Rattle.trace_format.specs.Rules.{touches_in}
 use Rattle.trace_passes.specs.declared.wanted.Refusal.TheVariants as refusals
-use Rattle.trace_files.specs.Copies.{HasStopped, halves}
+use Rattle.trace_files.specs.Copies.{HasStopped, IsUnfiltered, halves}
 use Rattle.trace_files.proofs.Stopped.{accepted_still, copied_since, refused_first, refused_never}
 use Rattle.trace_files.proofs.Stopped.{stopped_since, told_accepted}
 use Rattle.trace_files.proofs.split.split_trace.Goals as goal
@@ -18,7 +18,7 @@ returns-in-Ok-clause-copied g c =
     (λ made. copied_since old mid new c.in-Ok.ensures.stays new.held c.args.name.now
     (halves c.args.at c.args.first.now c.args.second.now)
     (λ t. (made.cut ≡ min c.args.at (length (touches_in t.items)))
-    × (made.rest ≡ length (touches_in t.items) - made.cut)))
+    × (made.rest ≡ length (touches_in t.items) - made.cut) × IsUnfiltered t))
     c.split_accepted.ensures.copied
 
 pub returns-in-Ok-clause-refused : goal.returns-in-Ok-clause-refused

@@ -102,6 +102,7 @@ returns-in-Some g c =
           (g.O.Observer.given c.args.observer.now c.pieces.observer) ended x.way.saw;
       head = (ended.header, ended.wanted);
       sited = ended.sited;
+      near = ended.near;
       accepted = accepted_then held name w bytes passed ended;
       refused = λ refusal same. absurd (ok_is_no_err _ _ same);
       shown = shown_trace held name w bytes passed (g.S.Shelf.outside c.args.shelf.now).given

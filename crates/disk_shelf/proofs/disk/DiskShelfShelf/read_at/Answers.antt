@@ -1,5 +1,5 @@
 use Rattle.std.proofs.Common.{length, rules, take}
-use Rattle.disk_shelf.proofs.DiskLaws.{fault_cause_at}
+use Rattle.disk_shelf.proofs.DiskLaws.{read_cause}
 use Rattle.disk_shelf.proofs.ReadLaws.{only_read, told_read, still_told}
 use Rattle.disk_shelf.specs.Disk.{Seen}
 use Rattle.disk_shelf.proofs.disk.DiskShelfShelf.read_at.Goals as goal
@@ -17,19 +17,13 @@ returns-in-Ok-clause-stays g c =
 
 pub returns-in-Err-clause-cause : goal.returns-in-Err-clause-cause
 returns-in-Err-clause-cause g c =
-    rw (← c.self.view_is) (fault_cause_at c.args.name.now c.self.inside.reads
-    c.report_and_count.new.count c.report_and_count.result
-    c.report_and_count.ensures.later c.report_and_count.ensures.counted)
+    rw (c.and-self-inside-in-Err.ensures, ← c.self.view_is)
+    (read_cause c.args.name.now c.self.inside.log.items c.report-error.result)
 
 pub returns-in-Ok-clause-only : goal.returns-in-Ok-clause-only
 returns-in-Ok-clause-only g c =
     let was = c.self.inside in
-    let seen : Seen = record {
-      reads = was.reads;
-      writes = was.writes;
-      prints = was.prints;
-      done = was.log.items;
-    } in
+    let seen : Seen = record { done = was.log.items } in
     rw (c.and-self-inside.ensures, ← c.self.view_is) (only_read g.K.Contents.files seen
     c.args.name.now c.args.at (length c.read_at.new.into)
     (take c.in-Ok.read.count c.read_at.new.into))

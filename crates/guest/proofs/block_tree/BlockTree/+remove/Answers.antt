@@ -8,11 +8,11 @@ pub remove-number-requires : goal.remove-number-requires
 remove-number-requires t c =
     let n = c.in-Some.top.value in
     let is = c.in-Some.ensures.taken in
-    let parts = spanned_parts n.left n.block n.right c.args.self.now is in
+    let parts = spanned_parts n.left.0 n.block n.right.0 c.args.self.now.0 is in
     rw c.deref_mut.ensures.value (
-      omega (arith, left_shorter n.left n.block n.right c.args.self.now is, c.decreases),
+      omega (arith, left_shorter n.left.0 n.block n.right.0 c.args.self.now.0 is, c.decreases),
       (
-        left_rises n.left n.block n.right c.args.self.now is c.requires.rising,
+        left_rises n.left.0 n.block n.right.0 c.args.self.now.0 is c.requires.rising,
         omega (arith, parts, c.requires.fits),
       ),
     )
@@ -22,7 +22,7 @@ returns-then-addr-block-clause-number t c =
     let n = c.in-Some.top.value in
     let is = c.in-Some.ensures.taken in
     let less : c.args.addr < n.block.addr = rw (← c.deref.ensures) c.if-addr-block.true in
-    rw (at_left n.left n.block n.right c.args.self.now is c.args.addr c.requires.rising less)
+    rw (at_left n.left.0 n.block n.right.0 c.args.self.now.0 is c.args.addr c.requires.rising less)
     (rw c.deref_mut.ensures.value at c.remove-number.ensures.number)
 
 pub returns-then-addr-block-clause-gap : goal.returns-then-addr-block-clause-gap
@@ -30,7 +30,7 @@ returns-then-addr-block-clause-gap t c =
     let n = c.in-Some.top.value in
     let is = c.in-Some.ensures.taken in
     let less : c.args.addr < n.block.addr = rw (← c.deref.ensures) c.if-addr-block.true in
-    rw (without_left_is n.left n.block n.right c.args.self.now is c.args.addr c.args.gap.now
+    rw (without_left_is n.left.0 n.block n.right.0 c.args.self.now.0 is c.args.addr c.args.gap.now
     c.requires.rising less) (rw c.deref_mut.ensures.value at c.remove-number.ensures.gap)
 
 pub returns-then-addr-block-clause-blocks : goal.returns-then-addr-block-clause-blocks
@@ -39,7 +39,7 @@ returns-then-addr-block-clause-blocks t c =
     let is = c.in-Some.ensures.taken in
     let less : c.args.addr < n.block.addr = rw (← c.deref.ensures) c.if-addr-block.true in
     rw (
-      without_left_is n.left n.block n.right c.args.self.now is c.args.addr c.args.gap.now c.requires.rising
+      without_left_is n.left.0 n.block n.right.0 c.args.self.now.0 is c.args.addr c.args.gap.now c.requires.rising
           less,
       c.from.ensures,
       c.settled.ensures.blocks,
@@ -51,11 +51,11 @@ pub remove-number-requires-then-block-addr : goal.remove-number-requires-then-bl
 remove-number-requires-then-block-addr t c =
     let n = c.in-Some.top.value in
     let is = c.in-Some.ensures.taken in
-    let parts = spanned_parts n.left n.block n.right c.args.self.now is in
+    let parts = spanned_parts n.left.0 n.block n.right.0 c.args.self.now.0 is in
     rw c.deref_mut-node.ensures.value (
-      omega (arith, right_shorter n.left n.block n.right c.args.self.now is, c.decreases),
+      omega (arith, right_shorter n.left.0 n.block n.right.0 c.args.self.now.0 is, c.decreases),
       (
-        right_rises n.left n.block n.right c.args.self.now is c.requires.rising,
+        right_rises n.left.0 n.block n.right.0 c.args.self.now.0 is c.requires.rising,
         omega (arith, parts, c.requires.fits),
       ),
     )
@@ -65,7 +65,7 @@ returns-then-block-addr-clause-number t c =
     let n = c.in-Some.top.value in
     let is = c.in-Some.ensures.taken in
     let more : n.block.addr < c.args.addr = rw (← c.deref.ensures) c.if-block-addr.true in
-    rw (at_right n.left n.block n.right c.args.self.now is c.args.addr c.requires.rising more)
+    rw (at_right n.left.0 n.block n.right.0 c.args.self.now.0 is c.args.addr c.requires.rising more)
     (rw c.deref_mut-node.ensures.value at c.remove-number-then-block-addr.ensures.number)
 
 pub returns-then-block-addr-clause-gap : goal.returns-then-block-addr-clause-gap
@@ -73,7 +73,7 @@ returns-then-block-addr-clause-gap t c =
     let n = c.in-Some.top.value in
     let is = c.in-Some.ensures.taken in
     let more : n.block.addr < c.args.addr = rw (← c.deref.ensures) c.if-block-addr.true in
-    rw (without_right_is n.left n.block n.right c.args.self.now is c.args.addr c.args.gap.now
+    rw (without_right_is n.left.0 n.block n.right.0 c.args.self.now.0 is c.args.addr c.args.gap.now
     c.requires.rising more) refl
 
 pub returns-then-block-addr-clause-blocks : goal.returns-then-block-addr-clause-blocks
@@ -82,7 +82,7 @@ returns-then-block-addr-clause-blocks t c =
     let is = c.in-Some.ensures.taken in
     let more : n.block.addr < c.args.addr = rw (← c.deref.ensures) c.if-block-addr.true in
     rw (
-      without_right_is n.left n.block n.right c.args.self.now is c.args.addr c.args.gap.now
+      without_right_is n.left.0 n.block n.right.0 c.args.self.now.0 is c.args.addr c.args.gap.now
           c.requires.rising more,
       c.from-then-block-addr.ensures,
       c.settled-then-block-addr.ensures.blocks,
@@ -95,14 +95,14 @@ pub overflow_add-block : goal.overflow_add-block
 overflow_add-block t c =
     let n = c.in-Some.top.value in
     let is = c.in-Some.ensures.taken in
-    let parts = spanned_parts n.left n.block n.right c.args.self.now is in
+    let parts = spanned_parts n.left.0 n.block n.right.0 c.args.self.now.0 is in
     rw c.deref.ensures (omega (arith, parts, c.requires.fits))
 
 pub grow_last-requires : goal.grow_last-requires
 grow_last-requires t c =
     let n = c.in-Some.top.value in
     let is = c.in-Some.ensures.taken in
-    let parts = spanned_parts n.left n.block n.right c.args.self.now is in
+    let parts = spanned_parts n.left.0 n.block n.right.0 c.args.self.now.0 is in
     rw (c.deref.ensures, c.deref_mut-2.ensures.value)
     (record { fits = omega (arith, parts, c.requires.fits) })
 
@@ -112,7 +112,7 @@ returns-clause-number t c =
     let is = c.in-Some.ensures.taken in
     let same : n.block.addr ≡ c.args.addr = rw (← c.deref.ensures)
     (omega (arith, c.if-addr-block.false, c.if-block-addr.false)) in
-    rw (at_here n.left n.block n.right c.args.self.now is c.args.addr c.requires.rising same, c.deref.ensures)
+    rw (at_here n.left.0 n.block n.right.0 c.args.self.now.0 is c.args.addr c.requires.rising same, c.deref.ensures)
     refl
 
 pub returns-clause-gap : goal.returns-clause-gap
@@ -122,7 +122,7 @@ returns-clause-gap t c =
     let same : n.block.addr ≡ c.args.addr = rw (← c.deref.ensures)
     (omega (arith, c.if-addr-block.false, c.if-block-addr.false)) in
     rw (
-      without_here_is n.left n.block n.right c.args.self.now is c.args.addr c.args.gap.now c.requires.rising
+      without_here_is n.left.0 n.block n.right.0 c.args.self.now.0 is c.args.addr c.args.gap.now c.requires.rising
           same,
       c.grow_last.ensures.gap,
       c.deref.ensures,
@@ -136,11 +136,25 @@ returns-clause-blocks t c =
     let same : n.block.addr ≡ c.args.addr = rw (← c.deref.ensures)
     (omega (arith, c.if-addr-block.false, c.if-block-addr.false)) in
     rw (
-      without_here_is n.left n.block n.right c.args.self.now is c.args.addr c.args.gap.now c.requires.rising
+      without_here_is n.left.0 n.block n.right.0 c.args.self.now.0 is c.args.addr c.args.gap.now c.requires.rising
           same,
-      c.joined.ensures,
+      c.joined.ensures.blocks,
       c.into_inner-left.ensures,
       c.grow_last.ensures.blocks,
       c.deref.ensures,
       c.deref_mut-2.ensures.value,
     ) refl
+
+pub settled-requires-clause-low : goal.settled-requires-clause-low
+settled-requires-clause-low t c =
+    let balanced = c.in-Some.ensures.balanced in
+    let shorter = rw c.deref_mut.ensures.value at c.remove-number.ensures.height in
+    rw c.deref_mut.ensures.value (omega (arith, balanced.height, balanced.fits, shorter))
+
+pub settled-requires-then-block-addr-clause-low :
+    goal.settled-requires-then-block-addr-clause-low
+settled-requires-then-block-addr-clause-low t c =
+    let balanced = c.in-Some.ensures.balanced in
+    let shorter = rw c.deref_mut-node.ensures.value at
+    c.remove-number-then-block-addr.ensures.height in
+    rw c.deref_mut-node.ensures.value (omega (arith, balanced.height, balanced.fits, shorter))

@@ -2,12 +2,12 @@ use Rattle.std.proofs.Common.{◌≡◌, ◌<◌, ◌≤◌, length, max, Some, 
 use Rattle.guest.specs.Heaps.{Heap, rounded}
 use Rattle.guest.specs.LiveBlocks.{first_place, most_free}
 use Rattle.guest.proofs.HeapBlocks.{has_room, least, made-laid, nowhere, roomy}
-use Rattle.guest.proofs.Tiles.{tiled-fit}
+use Rattle.guest.proofs.Tiles.{tiled-fit, tiled-rise}
 use Rattle.guest.proofs.heap.GuestHeap.alloc.Goals as goal
 
 pub returns-then-bytes-from-clause-place : goal.returns-then-bytes-from-clause-place
 returns-then-bytes-from-clause-place c =
-    let live = c.self.inside.live in
+    let live = c.self.inside.live.0 in
     let heap : Heap = record {
       start = c.self.inside.start;
       end = c.self.inside.end;
@@ -25,7 +25,7 @@ returns-then-bytes-from-clause-place c =
 
 pub returns-in_err-reserve-clause-settled : goal.returns-in_err-reserve-clause-settled
 returns-in_err-reserve-clause-settled c =
-    let live = c.self.inside.live in
+    let live = c.self.inside.live.0 in
     let heap : Heap = record {
       start = c.self.inside.start;
       end = c.self.inside.end;
@@ -43,14 +43,19 @@ returns-in_err-reserve-clause-settled c =
     λ none. absurd (roomy heap c.self.inside.gap c.args.size live c.self.invariant room held
     (rw (← c.self.view_is) at none))
 
+pub insert-requires-clause-rising : goal.insert-requires-clause-rising
+insert-requires-clause-rising c =
+    tiled-rise c.self.inside.start c.self.inside.gap c.self.inside.end c.self.inside.live.0
+    c.self.invariant.tiled
+
 pub insert-requires-clause-ends : goal.insert-requires-clause-ends
 insert-requires-clause-ends c =
-    tiled-fit c.self.inside.start c.self.inside.gap c.self.inside.end c.self.inside.live
+    tiled-fit c.self.inside.start c.self.inside.gap c.self.inside.end c.self.inside.live.0
     (let r = c.self.ranges in omega arith) c.self.invariant.tiled
 
 pub invariant_of-self-in-Ok : goal.invariant_of-self-in-Ok
 invariant_of-self-in-Ok c =
-    let live = c.self.inside.live in
+    let live = c.self.inside.live.0 in
     let heap : Heap = record {
       start = c.self.inside.start;
       end = c.self.inside.end;
@@ -73,7 +78,7 @@ invariant_of-self-in-Ok c =
 
 pub returns-in-Ok-clause-place : goal.returns-in-Ok-clause-place
 returns-in-Ok-clause-place c =
-    let live = c.self.inside.live in
+    let live = c.self.inside.live.0 in
     let heap : Heap = record {
       start = c.self.inside.start;
       end = c.self.inside.end;
@@ -87,7 +92,7 @@ returns-in-Ok-clause-place c =
 
 pub returns-in-Err-clause-settled : goal.returns-in-Err-clause-settled
 returns-in-Err-clause-settled c =
-    let live = c.self.inside.live in
+    let live = c.self.inside.live.0 in
     let heap : Heap = record {
       start = c.self.inside.start;
       end = c.self.inside.end;

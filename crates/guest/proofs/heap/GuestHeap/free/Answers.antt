@@ -10,18 +10,18 @@ use Rattle.guest.proofs.heap.GuestHeap.free.Goals as goal
 
 pub remove-requires-clause-rising : goal.remove-requires-clause-rising
 remove-requires-clause-rising c =
-    tiled-rise c.self.inside.start c.self.inside.gap c.self.inside.end c.self.inside.live
+    tiled-rise c.self.inside.start c.self.inside.gap c.self.inside.end c.self.inside.live.0
     c.self.invariant.tiled
 
 pub remove-requires-clause-fits : goal.remove-requires-clause-fits
 remove-requires-clause-fits c =
-    let span = tiled-span c.self.inside.start c.self.inside.gap c.self.inside.end c.self.inside.live
+    let span = tiled-span c.self.inside.start c.self.inside.gap c.self.inside.end c.self.inside.live.0
     c.self.invariant.tiled in
     let r = c.self.ranges in omega (arith, span)
 
 pub invariant_of-self : goal.invariant_of-self
 invariant_of-self c =
-    let live = c.self.inside.live in
+    let live = c.self.inside.live.0 in
     let none : number_at live c.args.addr ≡ None = sym c.remove.ensures.number ∙ c.in_default.is in
     rw (c.remove.ensures.gap, c.remove.ensures.blocks)
     (kept-laid c.self.inside.start c.self.inside.gap c.self.inside.end c.args.addr live
@@ -29,7 +29,7 @@ invariant_of-self c =
 
 pub returns-in_default-clause-live : goal.returns-in_default-clause-live
 returns-in_default-clause-live c =
-    let live = c.self.inside.live in
+    let live = c.self.inside.live.0 in
     let none : number_at live c.args.addr ≡ None = sym c.remove.ensures.number ∙ c.in_default.is in
     let gone = no_place lives_at (number_at live) c.self.inside.blocks.items c.args.addr
     c.self.invariant.index none in
@@ -41,7 +41,7 @@ returns-in_default-clause-live c =
 
 pub index_mut-requires : goal.index_mut-requires
 index_mut-requires c =
-    let live = c.self.inside.live in
+    let live = c.self.inside.live.0 in
     let found : number_at live c.args.addr ≡ Some c.in-Some.number =
     sym c.remove.ensures.number ∙ c.in-Some.is in
     let within = passes_within (lives_at c.args.addr) c.self.inside.blocks.items c.in-Some.number
@@ -50,7 +50,7 @@ index_mut-requires c =
 
 pub invariant_of-self-2 : goal.invariant_of-self-2
 invariant_of-self-2 c =
-    let live = c.self.inside.live in
+    let live = c.self.inside.live.0 in
     let heap : Heap = record {
       start = c.self.inside.start;
       end = c.self.inside.end;
@@ -64,7 +64,7 @@ invariant_of-self-2 c =
 
 pub returns-clause-live : goal.returns-clause-live
 returns-clause-live c =
-    let live = c.self.inside.live in
+    let live = c.self.inside.live.0 in
     let found : number_at live c.args.addr ≡ Some c.in-Some.number =
     sym c.remove.ensures.number ∙ c.in-Some.is in
     rw (← c.self.view_is) (
@@ -75,7 +75,7 @@ returns-clause-live c =
 
 pub returns-clause-freed : goal.returns-clause-freed
 returns-clause-freed c =
-    let live = c.self.inside.live in
+    let live = c.self.inside.live.0 in
     let found : number_at live c.args.addr ≡ Some c.in-Some.number =
     sym c.remove.ensures.number ∙ c.in-Some.is in
     let index = c.self.invariant.index in

@@ -1,5 +1,6 @@
 use Rattle.std.proofs.Common.{◌∙◌, arith, add-one, subst, sym}
 use Rattle.shelf.specs.OnTheirWay.{AreApart}
+use Rattle.shelf.proofs.Lasting.{stays_then}
 use Rattle.shelf.proofs.OutputLists.{Moves, Stops, begun_at, finished_all, finished_more}
 use Rattle.shelf.proofs.OutputLists.{finished_stops, name_at, outputs_written}
 use Rattle.shelf.proofs.outputs.Outputs.finish.Goals as goal
@@ -60,7 +61,7 @@ loop-place-preserved g c =
     (g.S.Shelf.outside c.args.shelf.now) mid new c.loop-place.invariant c.self.invariant
     (omega (arith, c.loop-place.invariant.long, c.len-place-end.ensures))
     (sym c.index_mut-file.ensures.value) moves
-    c.in-Ok.ensures.begun c.in-Ok.ensures.kept)
+    c.in-Ok.ensures.begun c.in-Ok.ensures.kept c.finish.ensures.stays)
 
 pub returns-in-Err-clause-tells : goal.returns-in-Err-clause-tells
 returns-in-Err-clause-tells g c =
@@ -69,6 +70,11 @@ returns-in-Err-clause-tells g c =
 pub returns-in-Err-clause-gives : goal.returns-in-Err-clause-gives
 returns-in-Err-clause-gives g c =
     c.in-Err.ensures.only.given ∙ c.loop-place.invariant.gives
+
+pub returns-in-Err-clause-stays : goal.returns-in-Err-clause-stays
+returns-in-Err-clause-stays g c =
+    stays_then (g.S.Shelf.outside c.args.shelf.now) (g.S.Shelf.outside c.loop-place.shelf)
+    (g.S.Shelf.outside c.finish.new.shelf) c.loop-place.invariant.stays c.finish.ensures.stays
 
 pub returns-clause-nothing_waits : goal.returns-clause-nothing_waits
 returns-clause-nothing_waits g c =

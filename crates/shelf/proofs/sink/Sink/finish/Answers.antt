@@ -1,4 +1,5 @@
 use Rattle.shelf.specs.OneFile.{Waiting}
+use Rattle.shelf.proofs.Lasting.{stays_added, stays_cut, stays_same}
 use Rattle.shelf.proofs.Fronts.{on_err, front_of_sent}
 use Rattle.shelf.proofs.sink.Sink.finish.Goals as goal
 
@@ -14,3 +15,16 @@ returns-in_err-append-clause-front g c =
     (g.S.Shelf.outside c.args.shelf.now)
     (g.S.Shelf.outside c.append.new.self)
     c.deref.ensures.value sunk c.in_err-append.ensures.appends))
+
+pub returns-then-is_empty-clause-stays : goal.returns-then-is_empty-clause-stays
+returns-then-is_empty-clause-stays g c = stays_same (g.S.Shelf.outside c.args.shelf.now)
+
+pub returns-in_err-append-clause-stays : goal.returns-in_err-append-clause-stays
+returns-in_err-append-clause-stays g c =
+    stays_cut c.self.inside.name.now c.deref.result.now (g.S.Shelf.outside c.args.shelf.now)
+    (g.S.Shelf.outside c.append.new.self) c.in_err-append.ensures.appends
+
+pub returns-clause-stays : goal.returns-clause-stays
+returns-clause-stays g c =
+    stays_added c.self.inside.name.now c.deref.result.now (g.S.Shelf.outside c.args.shelf.now)
+    (g.S.Shelf.outside c.append.new.self) c.in_ok-append.ensures.appends

@@ -1,3 +1,4 @@
+use Rattle.shelf.proofs.Lasting.{stays_same}
 use Rattle.shelf.proofs.Fronts.{on_err, front_of_more}
 use Rattle.shelf.proofs.sink.Sink.put.Goals as goal
 
@@ -10,3 +11,8 @@ returns-in_err-extend_from_slice-clause-front g c =
 
 pub finish-requires : goal.finish-requires
 finish-requires g c = rw (← c.self.view_is) at c.requires
+
+pub returns-in_err-extend_from_slice-clause-stays :
+    goal.returns-in_err-extend_from_slice-clause-stays
+returns-in_err-extend_from_slice-clause-stays g c =
+    stays_same (g.S.Shelf.outside c.args.shelf.now)

@@ -1,4 +1,8 @@
-use Rattle.std.proofs.Common.{List, [], ap, length, refl}
+use Rattle.std.proofs.Common.{List, [], ap, length, refl, subst}
+use Rattle.shelf.specs.Files.{AreCut, one_file}
+use Rattle.shelf.specs.OnTheirWay.{IsOutputs}
+use Rattle.trace_format.specs.declared.record.Header.{Header}
+use Rattle.trace_format.specs.Writing.{begun_with}
 use Rattle.trace_files.proofs.Movings.{has_begun, no_file_there, none_begun_there, none_new}
 use Rattle.shelf.specs.OneFile.{Waiting}
 use Rattle.trace_files.proofs.mover.Mover.begin.Goals as goal
@@ -27,8 +31,14 @@ returns-in-Ok-clause-moved g c = λ table before has.
     has_begun table c.args.self.now.name.now c.args.self.now before
     (g.S.Shelf.outside c.args.shelf.now) has c.args.version c.args.header _
     (g.S.Shelf.outside c.begin_trace.new.shelf) refl refl refl c.in-Ok.ensures.writer
-    (c.in-Ok.ensures.outputs [] before has.outputs)
+    (subst (λ (h : Header). IsOutputs c.begin_trace.new.self
+    (one_file c.args.self.now.name.now (begun_with c.args.version h [])) before
+    (g.S.Shelf.outside c.begin_trace.new.shelf)) c.narrowed.ensures.value
+    (c.in-Ok.ensures.outputs [] before has.outputs)) c.requires.plain
 
 pub returns-in-Err-clause-cut : goal.returns-in-Err-clause-cut
 returns-in-Err-clause-cut g c = λ table before has.
-    c.in-Err.ensures.cut [] before has.outputs
+    subst (λ (h : Header). AreCut
+    (one_file c.args.self.now.name.now (begun_with c.args.version h [])) before
+    (g.S.Shelf.outside c.begin_trace.new.shelf) c.in-Err.error) c.narrowed.ensures.value
+    (c.in-Err.ensures.cut [] before has.outputs)

@@ -1,0 +1,5 @@
+pub mod PageLaws
+pub mod PushLaws
+pub mod StampLaws
+pub mod AnswerLaws
+pub mod Worked

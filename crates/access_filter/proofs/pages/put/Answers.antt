@@ -1,0 +1,1 @@
+-- The page of the stamp is there, and only this stamp of it changes.

@@ -1,0 +1,4 @@
+pub mod Stamps
+pub mod Pages
+pub mod Rules
+pub mod Standing

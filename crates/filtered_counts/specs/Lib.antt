@@ -1,0 +1,4 @@
+pub mod Laws
+pub mod SameCounts
+pub mod SameHarts
+pub mod Witnesses

@@ -1,0 +1,11 @@
+pub mod FilterLaws
+pub mod Passing
+pub mod GoodTraces
+pub mod Worked
+pub mod FilterFiles
+pub mod ManyRecords
+pub mod OnItsWay
+pub mod Sited
+pub mod Stopping
+pub mod Filterings
+pub mod Refusals

@@ -1,0 +1,4 @@
+pub mod Files
+pub mod FilterPass
+pub mod Filtering
+pub mod Passages
