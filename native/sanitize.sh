@@ -32,10 +32,12 @@ void *__wrap_predator_realloc(const char *name, void *old, unsigned long size) {
 void __wrap_predator_free(void *it) { free(it); }
 char *__wrap_predator_strdup(const char *name, const char *text) { return strdup(text); }
 C
-gcc "${strict[@]}" -DPREDATOR_RUNTIME "$here/tries/writer.c" "$here/lib/compat.c" "$here"/tool/{trace,objects,sites,nameless}.c heap.c \
+gcc "${strict[@]}" -DPREDATOR_RUNTIME "$here/tries/writer.c" "$here/lib/compat.c" "$here"/tool/{trace,places,records,filter,objects,sites,nameless}.c heap.c \
     "${heap[@]}" -o writer && gcc "${strict[@]}" "$here/tool/mend.c" -o mend || exit 1
 # (what it has at its end is the program's until that is over)
 export ASAN_OPTIONS=$ASAN_OPTIONS:detect_leaks=0
+still=()
+if setarch -R true 2>/dev/null; then still=(setarch -R); fi
 for seed in 1 2 3; do
     timeout 60 ./writer "$seed" "$seed" 100000 >said 2>&1
     expect_equal "a trace of seed $seed" 0 "$?"
@@ -43,11 +45,24 @@ for seed in 1 2 3; do
     timeout 60 ./writer pcs "$seed" 100000 pcs >said 2>&1
     expect_equal "a trace of seed $seed with instructions" 0 "$?"
     expect_equal "its end, and instructions that have not one row each" "exit 7 0" "$("$judge" end pcs 2>&1) $("$judge" untold pcs 2>&1)"
+    # (its own code lies at the same addresses each time)
+    timeout 60 "${still[@]}" ./writer pcs "$seed" 100000 pcs >said 2>&1
+    for k in 6 12 16; do
+        timeout 60 "${still[@]}" ./writer filtered "$seed" 100000 $k >said 2>&1
+        expect_equal "a filtered trace of seed $seed" 0 "$?"
+        "$here/../tools/judge_filter.py" pcs defined --near $((1 << k)) >said 2>&1
+        if [ ${#still[@]} -gt 0 ]; then
+            expect_equal "what is left out of seed $seed by 2^$k" same "$(cmp filtered defined 2>&1 && echo same)"
+        else
+            skip_checks 1 "what is left out of seed $seed by 2^$k: the writer lies elsewhere each time"
+        fi
+    done
 done
 timeout 60 ./writer all 4 4000000 >said 2>&1
 expect_equal "more regions than there are places: $(tail -n 1 said)" "0 part" "$? $("$judge" end all 2>&1)"
 ./writer whole 5 2000 >said 2>&1
 ./writer pcs 5 2000 pcs >said 2>&1
+./writer filtered 5 500 12 >said 2>&1
 cuts() { # FILE: where it is cut
     local size
     size=$(stat -c %s "$1")
@@ -64,7 +79,7 @@ while read -r file cut; do
     else
         expect_equal "a file that is cut at $cut" "0 part same" "$status $("$judge" end short 2>&1) $(cmp -s short piped && echo same)"
     fi
-done < <(cuts whole; cuts pcs)
+done < <(cuts whole; cuts pcs; cuts filtered)
 head -c 300000 /dev/urandom >noise
 ./mend noise >said 2>&1
 expect_equal "a file that is no trace" 1 "$?"
@@ -88,5 +103,7 @@ for name in counters kinds locks heap; do
     [ -z "$parts" ] || continue
     timeout 100 native/predator-native --quantum 7 --trace t -- "./$name" >said 2>&1
     expect_equal "$name: its status, and its end" "$status exit $status" "$? $("$judge" end t 2>&1)"
+    timeout 100 native/predator-native --quantum 7 --filtered --trace t -- "./$name" >said 2>&1
+    expect_equal "$name, filtered: its status, and its end" "$status exit $status" "$? $("$judge" end t 2>&1)"
 done
 finish_checks

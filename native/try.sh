@@ -176,10 +176,13 @@ else
     skip_checks 1 "a static program: it can't be linked here"
 fi
 rm -f t t3 w same* whole part
+. "$here/tries/filtered.sh"
 if [ "${1:-}" = --short ]; then
     finish_checks
     exit
 fi
+
+. "$here/tries/spans.sh"
 
 # What is refused before the program runs.
 refused() { # NAME STATUS PART WORDS ..
@@ -518,6 +521,9 @@ if /usr/bin/python3 -c 'import elftools, jinja2' 2>/dev/null && command -v llvm-
     done
     . "$here/tries/names.sh"
     . "$here/tries/stages.sh"
+    . "$here/tries/perf.sh"
+    . "$here/tries/jit.sh"
+    . "$here/tries/bad.sh"
 else
     skip_checks 1 "view: its packages aren't installed (Debian: python3-pyelftools python3-jinja2 llvm)"
 fi

@@ -115,6 +115,22 @@ typedef struct Free {
 static Free *freed[48];
 static UChar *room, *room_end;
 
+/* Where the system finds room for nothing else by itself, so that the program's own memory lies
+   where it does without this. */
+#define EMPTY_FROM 0x200000000000UL
+
+void *predator_empty_memory(SizeT size)
+{
+    static SizeT used;
+    void *it = mmap((void *)(EMPTY_FROM + used), size, PROT_READ | PROT_WRITE,
+                    MAP_PRIVATE | MAP_ANONYMOUS | MAP_NORESERVE, -1, 0);
+    if (it == MAP_FAILED)
+        return 0;
+    used += (size + (1 << 21)) & ~((1UL << 21) - 1);
+    madvise(it, size, MADV_NOHUGEPAGE); /* (what isn't touched isn't to be there) */
+    return it;
+}
+
 void *predator_malloc(const HChar *name, SizeT size)
 {
     UInt rank = 5;

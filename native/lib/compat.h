@@ -100,6 +100,8 @@ void predator_printf(const HChar *format, ...) PRINTF_CHECK(1, 2);
 void *predator_malloc(const HChar *, SizeT);
 void *predator_realloc(const HChar *, void *, SizeT);
 void predator_free(void *);
+void *predator_empty_memory(SizeT); /* pages that take no memory until they are written, or none */
+#define EMPTY_MEMORY(size) predator_empty_memory(size)
 HChar *predator_strdup(const HChar *, const HChar *);
 
 /* Ordered sets. An element's key is its first word. */

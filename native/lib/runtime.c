@@ -5,8 +5,9 @@
 
    The environment says what is done: PREDATOR_TRACE is the trace, PREDATOR_TABLE the table back,
    PREDATOR_QUANTUM the length of a turn, PREDATOR_ALL=1 records while one thread lives too,
-   PREDATOR_PCS=1 tells each access's instruction, PREDATOR_MOST ends the trace after so many
-   accesses, PREDATOR_MAX_BYTES after so many bytes. native/predator-native sets them. */
+   PREDATOR_PCS=1 tells each access's instruction, PREDATOR_NEAR=K filters the trace by regions of
+   2^K bytes (6 to 16), PREDATOR_MOST ends the trace after so many accesses, PREDATOR_MAX_BYTES
+   after so many bytes. native/predator-native sets them. */
 #include "runtime.h"
 
 Hart harts[MOST_PLACES + 1]; /* (the last is nobody's) */
@@ -427,6 +428,8 @@ void __attribute__((constructor)) begin(void)
     trace_max_bytes = number_of("PREDATOR_MAX_BYTES", 1, 1L << 62, 0);
     records_all = number_of("PREDATOR_ALL", 0, 1, 0);
     trace_pcs = number_of("PREDATOR_PCS", 0, 1, 0);
+    trace_near = number_of("PREDATOR_NEAR", 0, 16, 0);
+    trace_pcs = trace_pcs || trace_near;
     first_thread();
     if (path && *path && !(trace_begin(path, table && *table ? table : 0) && trace_start()))
         _Exit(125);

@@ -158,6 +158,7 @@ ULong __wrap_vgPlain_di_notify_mmap(Addr addr, Bool any_kind, Int fd)
 {
     const HChar *path = trace_pcs ? mapped_file(addr) : NULL;
     ULong handle;
+    write_noted(); /* (the file's symbols stand behind what was done before) */
     VG_(clo_read_inline_info) = path && has_debug_information(path);
     handle = __real_vgPlain_di_notify_mmap(addr, any_kind, fd);
     VG_(clo_read_inline_info) = trace_pcs; /* what was read is asked for */

@@ -8,10 +8,12 @@ enum {
     ALLOC_BYTES = 25,
     FREE_BYTES = 5,
     SYMBOL_HEAD_BYTES = 12,
-    END_BYTES = 25
+    END_BYTES = 25,
+    FILTERED_END_BYTES =
+        END_BYTES + 8 /* of version 4, with the number of accesses that were filtered */
 };
-/* An access has 8 bytes in version 1. In later versions it has a tag, a hart, and one number, or in
-   version 3 two, of at most LONGEST_NUMBER bytes each. */
+/* An access has 8 bytes in version 1. In later versions it has a tag, a hart, and one number, or
+   from version 3 on two, of at most LONGEST_NUMBER bytes each. */
 enum { ACCESS_BYTES = 8, LONGEST_NUMBER = 5, LONGEST_ACCESS = 2 + 2 * LONGEST_NUMBER };
 
 /* What a record begins with. */

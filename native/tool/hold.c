@@ -10,7 +10,10 @@
    TOKEN is -1, or with `--child` a pipe with one byte, which the process that is recorded takes.
    Then a guard stands between this process and the program: what outlives the program becomes a
    child of the guard's, gets the signals that come, and is waited for too. Where this process is
-   killed, the program is killed with it; or the guard is told, and kills all of them. */
+   killed, the program is killed with it; or the guard is told, and kills all of them.
+
+   Where one of the words is `--switch=?`, SIGUSR2 is counted in a file of memory, whose descriptor
+   takes the place of the `?`. */
 #define _GNU_SOURCE
 #include <errno.h>
 #include <fcntl.h>
@@ -18,12 +21,14 @@
 #include <stdio.h>
 #include <stdlib.h>
 #include <string.h>
+#include <sys/mman.h>
 #include <sys/prctl.h>
 #include <sys/wait.h>
 #include <unistd.h>
 
 #define LEFT_ALONE    SIGRTMAX /* what the guard gets where this process is killed */
 #define MOST_CHILDREN 4096
+#define SWITCH        "--switch=?"
 
 static sigset_t taken, before;
 static struct sigaction child_before;
@@ -139,6 +144,35 @@ static int number_in(int pipe)
     return read(pipe, text, sizeof text - 1) > 0 ? atoi(text) : 128 + SIGKILL;
 }
 
+/* The file in which SIGUSR2 is counted, or -1 where no word asks for it. */
+static int switch_file = -1;
+
+static void open_switch(char **words)
+{
+    static char word[32];
+    unsigned none = 0;
+    while (*words && strcmp(*words, SWITCH) != 0)
+        words++;
+    if (!*words)
+        return;
+    switch_file = memfd_create("predator-switch", 0);
+    if (switch_file < 0 || pwrite(switch_file, &none, sizeof none, 0) != sizeof none) {
+        perror("predator native: a file of memory");
+        exit(126);
+    }
+    snprintf(word, sizeof word, "--switch=%d", switch_file);
+    *words = word;
+    sigaddset(&taken, SIGUSR2);
+}
+
+static void flip_switch(void)
+{
+    static unsigned flips;
+    flips++;
+    if (pwrite(switch_file, &flips, sizeof flips, 0) != sizeof flips)
+        perror("predator native: a file of memory");
+}
+
 int main(int argc, char **argv)
 {
     int token, feed, told, replayed, status = 0, number, how;
@@ -153,6 +187,7 @@ int main(int argc, char **argv)
     sigemptyset(&taken);
     for (int it = 0; it < 6; it++)
         sigaddset(&taken, (int[]){SIGTERM, SIGHUP, SIGINT, SIGQUIT, SIGCHLD, LEFT_ALONE}[it]);
+    open_switch(argv + 5);
     sigprocmask(SIG_BLOCK, &taken, &before);
     sigaction(SIGCHLD, &(struct sigaction){.sa_handler = SIG_DFL}, &child_before);
     program = token < 0 ? start_program(argv + 5) : start(LEFT_ALONE);
@@ -177,6 +212,8 @@ int main(int argc, char **argv)
         if (child < 0)
             break;
         number = sigwaitinfo(&taken, 0);
+        if (number == SIGUSR2)
+            flip_switch();
         /* (an interrupt from the terminal has come to the program already) */
         if (program > 0 && (number == SIGTERM || number == SIGHUP))
             kill(program, number);

@@ -37,13 +37,13 @@ static size_t number_size(const unsigned char *it, size_t count)
     return 0;
 }
 
-/* The same of an access of a later version: its tag, its hart, and one number, or in version 3 two.
- */
+/* The same of an access of a later version: its tag, its hart, and one number, or from version 3 on
+   two. */
 static size_t access_size(const unsigned char *it, size_t count)
 {
     size_t size = 2, own;
     int numbers;
-    for (numbers = version - '1'; numbers > 0; numbers--) {
+    for (numbers = version == '2' ? 1 : 2; numbers > 0; numbers--) {
         own = size < count ? number_size(it + size, count - size) : 0;
         if (own == 0)
             return 0;
@@ -52,6 +52,8 @@ static size_t access_size(const unsigned char *it, size_t count)
     return size;
 }
 
+static size_t end_size(void) { return version == '4' ? FILTERED_END_BYTES : END_BYTES; }
+
 /* The size of the record that begins here, or 0 where that isn't told yet or it is no record. */
 static size_t size_of(const unsigned char *it, size_t count)
 {
@@ -59,7 +61,7 @@ static size_t size_of(const unsigned char *it, size_t count)
     case TAG_ALLOC:
         return ALLOC_BYTES;
     case TAG_END:
-        return END_BYTES;
+        return end_size();
     case TAG_FREE:
         return FREE_BYTES;
     case TAG_SYMBOL:
@@ -91,7 +93,7 @@ static size_t whole(const unsigned char *from, size_t count)
             return 0;
         version = from[7];
         state =
-            memcmp(from, "PRDTRC0", 7) == 0 && '1' <= version && version <= '3' ? GOES_ON : STRANGE;
+            memcmp(from, "PRDTRC0", 7) == 0 && '1' <= version && version <= '4' ? GOES_ON : STRANGE;
         place = HEADER_BYTES;
     }
     while (state == GOES_ON && place < count) {
@@ -120,11 +122,12 @@ static int put(int file, const unsigned char *from, size_t count)
 
 static int put_end(int file)
 {
-    unsigned char end[END_BYTES] = {TAG_END, OUTCOME_PART};
+    unsigned char end[FILTERED_END_BYTES] = {TAG_END, OUTCOME_PART};
     int it;
+    /* (of a filtered trace nobody knows any more how many were left out) */
     for (it = 0; it < 8; it++)
-        end[17 + it] = accesses >> (8 * it);
-    return put(file, end, END_BYTES);
+        end[17 + it] = end[END_BYTES + it] = accesses >> (8 * it);
+    return put(file, end, end_size());
 }
 
 /* Reads a trace, and copies it to a file where there is one, but for a last record that isn't
@@ -188,7 +191,8 @@ int main(int argc, char **argv)
         return say(argv[1], "this is no trace that was cut");
     if (ftruncate(file, place) != 0 || lseek(file, place, SEEK_SET) < 0 || !put_end(file))
         return say(argv[1], strerror(errno));
-    printf("%s: cut at byte %llu, behind %llu accesses, where it ends now\n", argv[1],
-           (unsigned long long)place, (unsigned long long)accesses);
+    printf("%s: cut at byte %llu, behind %llu accesses, where it ends now%s\n", argv[1],
+           (unsigned long long)place, (unsigned long long)accesses,
+           version == '4' ? "; how many were left out isn't known" : "");
     return 0;
 }

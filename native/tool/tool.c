@@ -1,103 +1,37 @@
-/* The tool: which accesses a thread makes, and where its turn ends.
-
-   Each access is noted in a buffer by a few instructions of the translated code itself: one word
-   with its address, its size and whether it writes. Before the code leaves a block it looks whether
-   the turn's accesses are used up, and if so has valgrind believe that its own count of blocks is.
-   What is in the buffer belongs to one thread, and is written to the trace before another one runs.
- */
+/* The tool: which accesses of a thread are recorded, and where its turn ends. */
 #include "tool.h"
 
 #include "requests.h"
-
-#define ADDRESS_BITS 48
-#define SIZE_SHIFT   48
-#define WRITES       (1UL << 63)
-#define SLACK        65536 /* accesses: more than one block of code can note */
 
 static ULong quantum = 100;
 static const HChar *trace_path, *table_path;
 static Bool records_all, marked_only;
 
-static UInt stride = 1; /* words of each access in the buffer */
-static ULong *buffer, *noted, *limit,
-    *most; /* the buffer, its next free word, the end of the turn, and where the buffer is full */
-static ThreadId noted_of; /* the thread whose accesses are in it */
+static ThreadId noted_of; /* the thread whose accesses were noted */
 static Bool turn_is_over;
 static Bool begins[MOST_THREADS + 1]; /* threads that haven't run yet */
-static Bool instruments;              /* code that is translated now notes its accesses */
+/* What code does that is translated now. */
+static enum { RUNS, COUNTS, NOTES } code;
 static UInt live, started; /* threads, and calls of PREDATOR_START without one of PREDATOR_STOP */
 static Int exit_code = -1;
 static Bool has_preload, had_threads;
 
-/* ---- Instructions, by their numbers from 1 on ---- */
-
-typedef struct {
-    Addr addr;
-    UInt place; /* in the trace, once it was told */
-} Instruction;
-
-typedef struct {
-    Addr addr;
-    UInt number;
-} Numbered;
-
-static Instruction *instructions;
-static UInt instruction_count, instruction_room;
-static OSet *numbers;
-
-static UInt number_of(Addr addr)
-{
-    Numbered *it = VG_(OSetGen_Lookup)(numbers, &addr);
-    if (it)
-        return it->number;
-    if (instruction_count + 1 >= instruction_room) {
-        instruction_room = instruction_room ? 2 * instruction_room : 4096;
-        instructions = VG_(realloc)("predator.instructions", instructions,
-                                    instruction_room * sizeof *instructions);
-    }
-    it = VG_(OSetGen_AllocNode)(numbers, sizeof *it);
-    it->addr = addr;
-    it->number = ++instruction_count;
-    VG_(OSetGen_Insert)(numbers, it);
-    instructions[it->number] = (Instruction){addr, 0};
-    return it->number;
-}
-
-static UInt pc_of(ULong number)
-{
-    Instruction *it = &instructions[number];
-    if (!it->place)
-        it->place = trace_pc(it->addr);
-    return it->place;
-}
-
 /* ---- Recording ---- */
 
-static void write_noted(void)
-{
-    ULong *it;
-    if (trace_records && noted_of > 0)
-        for (it = buffer; it < noted && trace_records; it += stride) {
-            ULong word = *it;
-            UInt pc = stride > 1 ? pc_of(it[1]) : 0;
-            trace_access(noted_of - 1, word >> 63, word & ((1UL << ADDRESS_BITS) - 1),
-                         word >> SIZE_SHIFT & 0x7fff, pc);
-        }
-    limit -= noted - buffer;
-    if (limit < buffer)
-        limit = buffer;
-    noted = buffer;
-}
+void write_noted(void) { notes_write(noted_of); }
 
 static void begin_turn(void)
 {
-    limit = trace_records ? noted + stride * quantum : most;
+    notes_turn(noted_of, trace_records ? quantum : 0);
     turn_is_over = False;
 }
 
-static void translate_with_notes(Bool notes)
+static void translate(UInt does)
 {
-    instruments = notes;
+    if (code == does)
+        return;
+    code = does;
+    notes_forget();
     VG_(discard_translations)(4096, ~0UL - 8191, "predator");
 }
 
@@ -110,180 +44,64 @@ static Bool is_taken(void)
     return True;
 }
 
+/* Whether accesses are recorded now, but for the parts that the call asks for. */
+static Bool would_record(void)
+{
+    return trace_is_open() && (marked_only ? started > 0 : records_all || live >= 2);
+}
+
 static void judge_recording(void)
 {
-    Bool records = trace_is_open() && (marked_only ? started > 0 : records_all || live >= 2);
+    Bool records = would_record() && spans_record();
+    if (trace_is_open() && !spans_record()) /* (else it is to go on soon) */
+        translate(spans_count() ? COUNTS : RUNS);
     if (records == trace_records || (records && child_waits() && !is_taken()))
         return;
     write_noted();
-    if (records && !instruments)
-        translate_with_notes(True);
-    trace_records = records;
     if (records)
+        translate(NOTES);
+    trace_records = records;
+    if (records) {
         trace_resume();
+        spans_resume();
+    }
     begin_turn();
 }
 
 static void on_start(ThreadId tid, ULong blocks)
 {
+    if (noted_of != tid || begins[tid])
+        write_noted();
     if (begins[tid])
         stack_begins(tid);
     begins[tid] = False;
     if (noted_of != tid) {
-        write_noted();
         noted_of = tid;
         begin_turn();
     } else if (turn_is_over) {
         begin_turn();
     }
+    if (spans_are_asked() || spans_switch >= 0) {
+        if (spans_window)
+            write_noted();
+        spans_look(would_record());
+        judge_recording();
+    }
     if (tid > MOST_HARTS && trace_records)
         trace_stop("threads", "more than 256 threads live at a time");
-    if (instruments && !trace_is_open()) { /* nothing is written any more: the program goes on as
-                                              fast as valgrind can */
-        translate_with_notes(False);
+    if (code != RUNS && !trace_is_open()) { /* nothing is written any more: the program goes on as
+                                               fast as valgrind can */
+        translate(RUNS);
         begin_turn();
     }
 }
 
 static void on_stop(ThreadId tid, ULong blocks)
 {
-    if (noted >= limit)
+    if (notes_turn_is_over())
         turn_is_over = True;
-    if (noted >= most)
+    if (notes_are_full())
         write_noted();
-}
-
-/* ---- The code that notes ---- */
-
-typedef struct {
-    IRSB *out;
-    IRExpr *base; /* the next free word, as it stood when the first of `count` accesses was noted */
-    UInt count;
-    Addr addr; /* the instruction, and its number once that was asked for */
-    UInt number;
-} Notes;
-
-static IRExpr *number(ULong value) { return IRExpr_Const(IRConst_U64(value)); }
-
-static IRExpr *named(IRSB *out, IRType type, IRExpr *what)
-{
-    IRTemp temp = newIRTemp(out->tyenv, type);
-    addStmtToIRSB(out, IRStmt_WrTmp(temp, what));
-    return IRExpr_RdTmp(temp);
-}
-
-static IRExpr *loaded(IRSB *out, void *from)
-{
-    return named(out, Ity_I64, IRExpr_Load(Iend_LE, Ity_I64, number((Addr)from)));
-}
-
-static void set_noted(Notes *it, IRExpr *value)
-{
-    IRSB *out = it->out;
-    IRExpr *counter, *over;
-    addStmtToIRSB(out, IRStmt_Store(Iend_LE, number((Addr)&noted), value));
-    over = named(out, Ity_I1, IRExpr_Binop(Iop_CmpLE64U, loaded(out, &limit), value));
-    counter =
-        named(out, Ity_I32, IRExpr_Get(offsetof(VexGuestArchState, host_EvC_COUNTER), Ity_I32));
-    counter = named(out, Ity_I32, IRExpr_ITE(over, IRExpr_Const(IRConst_U32(0)), counter));
-    addStmtToIRSB(out, IRStmt_Put(offsetof(VexGuestArchState, host_EvC_COUNTER), counter));
-    it->base = NULL;
-    it->count = 0;
-}
-
-/* What was noted so far counts: before the block may be left. */
-static void settle(Notes *it)
-{
-    if (it->count > 0)
-        set_noted(it, named(it->out, Ity_I64,
-                            IRExpr_Binop(Iop_Add64, it->base, number(8 * stride * it->count))));
-}
-
-static void store_word(Notes *it, UInt at, IRExpr *word)
-{
-    IRExpr *place =
-        at == 0 ? it->base
-                : named(it->out, Ity_I64, IRExpr_Binop(Iop_Add64, it->base, number(8 * at)));
-    addStmtToIRSB(it->out, IRStmt_Store(Iend_LE, place, word));
-}
-
-static void note_word(Notes *it, IRExpr *word)
-{
-    if (it->base == NULL)
-        it->base = loaded(it->out, &noted);
-    store_word(it, stride * it->count, word);
-    if (stride > 1) {
-        if (it->number == 0)
-            it->number = number_of(it->addr);
-        store_word(it, stride * it->count + 1, number(it->number));
-    }
-    it->count++;
-}
-
-static ULong head(Bool writes, UInt size)
-{
-    return (writes ? WRITES : 0) | (ULong)size << SIZE_SHIFT;
-}
-
-static void note(Notes *it, Bool writes, IRExpr *addr, UInt size)
-{
-    note_word(it,
-              named(it->out, Ity_I64, IRExpr_Binop(Iop_Or64, addr, number(head(writes, size)))));
-}
-
-/* An access that is made where `guard` holds. */
-static void note_where(Notes *it, IRExpr *guard, Bool writes, IRExpr *addr, UInt size)
-{
-    IRExpr *from, *behind;
-    settle(it);
-    from = loaded(it->out, &noted);
-    it->base = from;
-    note(it, writes, addr, size);
-    behind = named(it->out, Ity_I64, IRExpr_Binop(Iop_Add64, from, number(8 * stride)));
-    set_noted(it, named(it->out, Ity_I64, IRExpr_ITE(guard, behind, from)));
-}
-
-/* A compare-and-swap is one write where it found what it expected, and else a read. */
-static void note_swap(Notes *it, const IRCAS *swap)
-{
-    static const IROp equals[4] = {Iop_CasCmpEQ8, Iop_CasCmpEQ16, Iop_CasCmpEQ32, Iop_CasCmpEQ64};
-    IRType type = typeOfIRExpr(it->out->tyenv, swap->dataLo);
-    UInt size = sizeofIRType(type), rank = size == 8 ? 3 : size / 2;
-    IRExpr *same =
-        named(it->out, Ity_I1, IRExpr_Binop(equals[rank], IRExpr_RdTmp(swap->oldLo), swap->expdLo));
-    if (swap->dataHi) {
-        IRExpr *high = named(it->out, Ity_I1,
-                             IRExpr_Binop(equals[rank], IRExpr_RdTmp(swap->oldHi), swap->expdHi));
-        IRExpr *both = named(it->out, Ity_I64, IRExpr_Unop(Iop_1Uto64, high));
-        IRExpr *low = named(it->out, Ity_I64, IRExpr_Unop(Iop_1Uto64, same));
-        both = named(it->out, Ity_I64, IRExpr_Binop(Iop_And64, both, low));
-        same = named(it->out, Ity_I1, IRExpr_Unop(Iop_64to1, both));
-        size *= 2;
-    }
-    IRExpr *kind = named(it->out, Ity_I64,
-                         IRExpr_ITE(same, number(head(True, size)), number(head(False, size))));
-    note_word(it, named(it->out, Ity_I64, IRExpr_Binop(Iop_Or64, swap->addr, kind)));
-}
-
-static void note_helper(Notes *it, const IRDirty *call)
-{
-    if (call->mFx == Ifx_None)
-        return;
-    if (call->mFx == Ifx_Read || call->mFx == Ifx_Modify)
-        note_where(it, call->guard, False, call->mAddr, call->mSize);
-    if (call->mFx == Ifx_Write || call->mFx == Ifx_Modify)
-        note_where(it, call->guard, True, call->mAddr, call->mSize);
-}
-
-/* The address of the compare-and-swap of the instruction that begins at a statement, or none: an
-   atomic operation is translated into a load and a compare-and-swap, and is one access. */
-static const IRExpr *swap_of(const IRSB *in, Int from)
-{
-    Int it;
-    for (it = from + 1; it < in->stmts_used && in->stmts[it]->tag != Ist_IMark; it++)
-        if (in->stmts[it]->tag == Ist_CAS)
-            return in->stmts[it]->Ist.CAS.details->addr;
-    return NULL;
 }
 
 static Addr own_text;
@@ -299,61 +117,13 @@ static IRSB *instrument(VgCallbackClosure *closure, IRSB *in, const VexGuestLayo
                         const VexGuestExtents *extents, const VexArchInfo *host, IRType guest_word,
                         IRType host_word)
 {
-    Notes notes = {deepCopyIRSBExceptStmts(in), NULL, 0, 0, 0};
-    const IRExpr *swap = NULL;
-    Int it = 0;
+    Int it;
     for (it = 0; it < in->stmts_used; it++)
         in->stmts[it] = ticks_instead(in->stmts[it]);
     core_unknown_code(in);
-    if (!instruments || is_own(closure->readdr))
+    if (code == RUNS || is_own(closure->readdr))
         return in;
-    it = 0;
-    while (it < in->stmts_used && in->stmts[it]->tag != Ist_IMark)
-        addStmtToIRSB(notes.out, in->stmts[it++]);
-    for (; it < in->stmts_used; it++) {
-        IRStmt *one = in->stmts[it];
-        if (one->tag == Ist_IMark) {
-            swap = swap_of(in, it);
-            notes.addr = one->Ist.IMark.addr;
-            notes.number = 0;
-        }
-        if (one->tag == Ist_Exit)
-            settle(&notes);
-        addStmtToIRSB(notes.out, one);
-        switch (one->tag) {
-        case Ist_WrTmp: {
-            const IRExpr *data = one->Ist.WrTmp.data;
-            if (data->tag == Iex_Load && !(swap && eqIRAtom(swap, data->Iex.Load.addr)))
-                note(&notes, False, data->Iex.Load.addr, sizeofIRType(data->Iex.Load.ty));
-            break;
-        }
-        case Ist_Store:
-            note(&notes, True, one->Ist.Store.addr,
-                 sizeofIRType(typeOfIRExpr(in->tyenv, one->Ist.Store.data)));
-            break;
-        case Ist_LoadG: {
-            IRType whole, read;
-            typeOfIRLoadGOp(one->Ist.LoadG.details->cvt, &whole, &read);
-            note_where(&notes, one->Ist.LoadG.details->guard, False, one->Ist.LoadG.details->addr,
-                       sizeofIRType(read));
-            break;
-        }
-        case Ist_StoreG:
-            note_where(&notes, one->Ist.StoreG.details->guard, True, one->Ist.StoreG.details->addr,
-                       sizeofIRType(typeOfIRExpr(in->tyenv, one->Ist.StoreG.details->data)));
-            break;
-        case Ist_CAS:
-            note_swap(&notes, one->Ist.CAS.details);
-            break;
-        case Ist_Dirty:
-            note_helper(&notes, one->Ist.Dirty.details);
-            break;
-        default:
-            break;
-        }
-    }
-    settle(&notes);
-    return notes.out;
+    return code == NOTES ? notes_code(in) : spans_code(in);
 }
 
 /* ---- What happens beside ---- */
@@ -412,6 +182,7 @@ static Bool on_request(ThreadId tid, UWord *words, UWord *result)
 
 static void on_map(Addr addr, SizeT size, Bool reads, Bool writes, Bool runs, ULong handle)
 {
+    notes_mapped(addr, size);
     if (handle == 0)
         return;
     trace_library();
@@ -427,7 +198,7 @@ static void on_map(Addr addr, SizeT size, Bool reads, Bool writes, Bool runs, UL
 
 static void on_fork_child(ThreadId tid)
 {
-    noted = buffer;
+    notes_drop();
     processor_give_back();
     if (!child_follows()) {
         trace_leave();
@@ -503,12 +274,22 @@ static Bool on_option(const HChar *word)
         quantum = number;
     else if (VG_BINT_CLO(word, "--most", number, 1, 1L << 40))
         trace_most = number;
+    else if (VG_BINT_CLO(word, "--near", number, 6, 16))
+        trace_near = number;
+    else if (VG_BINT_CLO(word, "--switch", number, 0, 1L << 30))
+        spans_switch = number;
     else if (VG_BINT_CLO(word, "--child", number, 0, 1L << 30))
         child_token = number;
     else if (VG_BINT_CLO(word, "--root", number, 1, 1L << 30))
         child_root = number;
     else
-        return VG_STR_CLO(word, "--trace", trace_path) || VG_STR_CLO(word, "--table", table_path) ||
+        return VG_BINT_CLO(word, "--skip", spans_skip, 1, 1L << 40) ||
+               VG_BINT_CLO(word, "--skip-ms", spans_skip_ms, 1, 1L << 40) ||
+               VG_BINT_CLO(word, "--for-ms", spans_for_ms, 1, 1L << 40) ||
+               VG_BINT_CLO(word, "--window", spans_window, 1, 1L << 40) ||
+               VG_BINT_CLO(word, "--every", spans_every, 1, 1L << 40) ||
+               VG_BOOL_CLO(word, "--paused", spans_paused) ||
+               VG_STR_CLO(word, "--trace", trace_path) || VG_STR_CLO(word, "--table", table_path) ||
                VG_BOOL_CLO(word, "--all", records_all) ||
                VG_BOOL_CLO(word, "--marked", marked_only) || VG_BOOL_CLO(word, "--pcs", trace_pcs);
     return True;
@@ -525,13 +306,19 @@ static void print_usage(void)
      "    --all=yes|no        accesses are recorded while one thread lives, too [no]\n"
      "    --marked=yes|no     only between PREDATOR_START and PREDATOR_STOP [no]\n"
      "    --pcs=yes|no        each access has its instruction [no]\n"
+     "    --near=K            redundant accesses are left out, by regions of 2^K bytes, from 6 to "
+     "16\n"
+     "    --skip=N --skip-ms=N     recording begins behind N accesses, or milliseconds\n"
+     "    --for-ms=N          and ends so many milliseconds later\n"
+     "    --window=N --every=M     N accesses of each M are recorded\n"
+     "    --paused=yes|no     it begins once it is switched on [no]\n"
+     "    --switch=FD         so often was it switched (set by predator native)\n"
      "    --child=FD --root=PID   a descendant is recorded (set by predator native)\n");
 }
 
 static void after_options(void)
 {
     VexControl *vex = &VG_(clo_vex_control);
-    ULong room = quantum > SLACK ? quantum : SLACK;
     /* A turn ends at the end of a block of code, so blocks are short where turns are. */
     vex->guest_max_insns = quantum / 4 < 1 ? 1 : quantum / 4 > 50 ? 50 : quantum / 4;
     vex->guest_chase = False;
@@ -539,18 +326,18 @@ static void after_options(void)
     /* No load is left out because nothing is made of it. */
     vex->iropt_register_updates_default = VexRegUpdAllregsAtEachInsn;
     launcher = VG_(getppid)();
-    stride = trace_pcs ? 2 : 1;
-    numbers = VG_(OSetGen_Create)(0, NULL, VG_(malloc), "predator.numbers", VG_(free));
-    buffer = VG_(malloc)("predator.buffer", stride * (room + 2 * SLACK) * sizeof *buffer);
-    noted = buffer;
-    most = buffer + stride * room;
+    trace_pcs = trace_pcs || trace_near > 0;
+    notes_begin(quantum);
     begin_turn();
     if (trace_path == NULL || !trace_begin(trace_path, table_path))
         VG_(exit)(125);
     child_begin();
     if (!child_waits() && !trace_start())
         VG_(exit)(125);
-    instruments = records_all && !child_waits();
+    spans_begin();
+    code = !spans_record()                 ? (spans_count() ? COUNTS : RUNS)
+           : records_all && !child_waits() ? NOTES
+                                           : RUNS;
     judge_recording();
     if (!child_waits())
         processor_take();
@@ -561,7 +348,10 @@ static void at_end(Int code)
     write_noted();
     if (child_waits())
         return;
-    if (trace_is_open() && trace_accesses == 0)
+    if (trace_is_open() && spans_are_asked())
+        VG_(printf)
+    ("predator native: a part of the run was recorded: %llu accesses\n", trace_whole);
+    if (trace_is_open() && trace_accesses == 0 && !spans_are_asked())
         VG_(printf)
     ("predator native: no access was recorded: %s\n",
      marked_only   ? "no PREDATOR_START was reached"

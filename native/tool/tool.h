@@ -68,10 +68,21 @@ static inline const HChar *mapped_file(Addr addr)
 #define MAPPED_FILE(addr) mapped_file(addr)
 
 /* Numbers of Linux that valgrind's headers don't name. */
-enum { SCHED_BATCH = 3, ETIMEDOUT = 110, PR_SET_PDEATHSIG = 1 };
+enum { SCHED_BATCH = 3, ETIMEDOUT = 110, PR_SET_PDEATHSIG = 1, VKI_O_NOFOLLOW = 0400000 };
 
 #define CALL(number, a, b, c, d)                                                                   \
     VG_(do_syscall)(number, (UWord)(a), (UWord)(b), (UWord)(c), (UWord)(d), 0, 0, 0, 0)
+
+/* Pages that take no memory until they are written, or none. */
+enum { MADV_NOHUGEPAGE = 15 };
+static inline void *empty_memory(SizeT size)
+{
+    void *it = VG_(am_shadow_alloc)(size);
+    if (it)
+        CALL(__NR_madvise, it, size, MADV_NOHUGEPAGE, 0);
+    return it;
+}
+#define EMPTY_MEMORY(size) empty_memory(size)
 
 /* More threads than a trace has harts, so that the tool can say so and the program go on. */
 #define MOST_THREADS 2000
@@ -127,6 +138,32 @@ Bool child_follows(void); /* whether one that was forked may be */
 void child_becomes(Bool another); /* the process is about to become another program, or did not */
 
 #include "trace.h"
+
+/* tool.c: what the running thread has noted goes to the trace. */
+void write_noted(void);
+
+/* notes.c: how code notes its accesses, and what it has noted. */
+void notes_begin(ULong quantum);
+IRSB *notes_code(IRSB *block);
+void notes_forget(void); /* all code is translated anew */
+void notes_mapped(Addr addr, SizeT size);
+void notes_write(ThreadId of); /* what that thread has noted goes to the trace, if it records */
+void notes_drop(void);
+void notes_turn(ThreadId of, ULong turn); /* it has so many accesses, or as many as there is room */
+Bool notes_turn_is_over(void);
+Bool notes_are_full(void);
+
+/* spans.c: which parts of a run are recorded. */
+extern ULong spans_skip, spans_skip_ms, spans_for_ms, spans_window, spans_every;
+extern Int spans_switch; /* a file with the number of times that it was switched, or -1 */
+extern Bool spans_paused;
+void spans_begin(void);
+Bool spans_are_asked(void);
+Bool spans_record(void);            /* now is such a part */
+Bool spans_count(void);             /* or it comes behind some accesses */
+void spans_look(Bool would_record); /* whether that has changed */
+void spans_resume(void);            /* recording begins or goes on */
+IRSB *spans_code(IRSB *block);      /* with its accesses counted */
 
 void stack_begins(ThreadId tid); /* nameless.c: a thread is about to run for the first time */
 

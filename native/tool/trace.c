@@ -1,16 +1,8 @@
-/* What is written: the trace, version 1 of docs/FORMATS.md or with instructions version 3, and the
-   table back.
-
-   Addresses of 64 bits become 32 while the program runs. Regions of 1 MiB get places of 1 MiB and 4
-   KiB in the order of their first touch, so what lies side by side in a region stays so, and no two
-   regions become neighbours. Instructions that are told with accesses get numbers from the other
-   end on, so that data lies where it does without; one behind the other, so that the next one is
-   mostly near. */
+/* What is written: the trace, version 1 of docs/FORMATS.md, with instructions version 3, or
+   filtered version 4; and the table back. */
 #include "parts.h"
 
-#define FIRST        0x10000UL
-#define MOST_REGIONS 4080 /* the last place ends below 2^32 */
-#define PIECE        (1 << 20)
+#define PIECE (1 << 20)
 #ifndef FILE_IS_KEPT /* valgrind keeps the tool's files from the program */
 #define FILE_IS_KEPT(fd) True
 #define KEEP_FILE(fd)
@@ -23,39 +15,27 @@
 #define PROGRAM_PATH program_path()
 #endif
 
-ULong trace_accesses, trace_most, trace_max_bytes;
+ULong trace_accesses, trace_whole, trace_most, trace_max_bytes;
 Bool trace_records, trace_pcs;
 
-/* A file that is written from its front. What stands of the trace is a whole trace after each
-   piece: behind each piece stands an end, where the file can be written so. It is taken away before
-   the next piece is written, so at any moment, also where a kill comes in the middle of a write,
-   the file has the first bytes of the trace, or these and an end. */
-typedef struct {
-    Int fd;
-    const HChar *path;
-    UChar *bytes;
-    UInt count;
-    ULong length; /* what stands in the file, without the end */
-    Bool seeks;
-} File;
-
-static File trace = {-1}, table = {-1};
+File trace_file = {-1};
+static File table = {-1};
 
 /* So much is gathered of the trace before it is written: less than a piece where the trace is to
    end soon, for a lack of room. */
 #define LEAST_ROOM 8192
-static UInt room = PIECE;
+UInt trace_room = PIECE;
 static ULong most_bytes = NO_DISK; /* what the trace and the address map may take */
 
 static void limit_room(void)
 {
-    ULong own = trace.length + table.length + table.count;
-    room = own + 2 * LEAST_ROOM > most_bytes              ? LEAST_ROOM
-           : most_bytes - own - LEAST_ROOM < (ULong)PIECE ? most_bytes - own - LEAST_ROOM
-                                                          : PIECE;
+    ULong own = trace_file.length + table.length + table.count;
+    trace_room = own + 2 * LEAST_ROOM > most_bytes              ? LEAST_ROOM
+                 : most_bytes - own - LEAST_ROOM < (ULong)PIECE ? most_bytes - own - LEAST_ROOM
+                                                                : PIECE;
 }
 
-Bool trace_has(Int fd) { return fd >= 0 && (fd == trace.fd || fd == table.fd); }
+Bool trace_has(Int fd) { return fd >= 0 && (fd == trace_file.fd || fd == table.fd); }
 
 /* The number of a descriptor that a path names as /dev/fd/N, or -1. It is taken over, and not
    opened once more: the program must not inherit it. */
@@ -168,13 +148,16 @@ void spell(UChar *at, ULong value, UInt bytes)
         at[it] = value >> (8 * it);
 }
 
-static void spell_end(UChar *at, UInt outcome, UInt value)
+static UInt spell_end(UChar *at, UInt outcome, UInt value)
 {
     VG_(memset)(at, 0, END_BYTES);
     at[0] = TAG_END;
     at[1] = outcome;
     spell(at + 5, value, 4);
     spell(at + 17, trace_accesses, 8);
+    if (trace_near)
+        spell(at + END_BYTES, trace_whole, 8);
+    return trace_near ? FILTERED_END_BYTES : END_BYTES;
 }
 
 static void file_flush(File *it)
@@ -191,13 +174,13 @@ static void file_flush(File *it)
     }
 }
 
-static ULong whole_accesses; /* how many of them stand in the file */
+static ULong written_accesses, written_whole; /* how many of them stand in the file */
 
 /* What is written takes at most half of what is free on its disk, and no more than was asked for.
  */
 static void judge_room(void)
 {
-    ULong own = trace.length + table.length + table.count, free = bytes_free(trace.fd),
+    ULong own = trace_file.length + table.length + table.count, free = bytes_free(trace_file.fd),
           most = free == NO_DISK ? NO_DISK : (own + free) / 2;
     Bool by_call = trace_max_bytes > 0 && trace_max_bytes <= most;
     if (by_call)
@@ -224,7 +207,7 @@ static void show_progress(void)
         return;
     shown = now;
     VG_(printf)
-    ("\rrecording: %llu accesses, %llu MB\033[K\r", trace_accesses, trace.length / 1000000);
+    ("\rrecording: %llu accesses, %llu MB\033[K\r", trace_whole, trace_file.length / 1000000);
 }
 
 static void end_progress(void)
@@ -238,51 +221,56 @@ static void end_progress(void)
 static void trace_piece(Bool is_last, UInt outcome, UInt value)
 {
     UWord error;
-    UInt end = trace.seeks || is_last ? END_BYTES : 0;
-    if (trace.fd < 0)
+    UInt end;
+    if (trace_file.fd < 0)
         return;
-    spell_end(trace.bytes + trace.count, outcome, value);
-    if (trace.seeks && FILE_IS_KEPT(trace.fd))
-        CALL(__NR_ftruncate, trace.fd, trace.length, 0, 0);
-    all_written(trace.fd, trace.bytes, trace.count + end, &error);
+    end = spell_end(trace_file.bytes + trace_file.count, outcome, value);
+    if (!trace_file.seeks && !is_last)
+        end = 0;
+    if (trace_file.seeks && FILE_IS_KEPT(trace_file.fd))
+        CALL(__NR_ftruncate, trace_file.fd, trace_file.length, 0, 0);
+    all_written(trace_file.fd, trace_file.bytes, trace_file.count + end, &error);
     if (error == 0) {
-        if (trace.seeks)
-            VG_(lseek)(trace.fd, -(Off64T)end, VKI_SEEK_CUR);
-        trace.length += trace.count;
-        trace.count = 0;
-        whole_accesses = trace_accesses;
+        if (trace_file.seeks)
+            VG_(lseek)(trace_file.fd, -(Off64T)end, VKI_SEEK_CUR);
+        trace_file.length += trace_file.count;
+        trace_file.count = 0;
+        written_accesses = trace_accesses;
+        written_whole = trace_whole;
         if (!is_last) {
             show_progress();
-            if (trace.seeks)
+            if (trace_file.seeks)
                 judge_room();
         }
         return;
     }
     end_progress();
-    VG_(printf)("predator native: %s: %s\n", trace.path, VG_(strerror)(error));
-    if (!FILE_IS_KEPT(trace.fd)) { /* nothing was written, and what stands is whole */
-        trace_accesses = whole_accesses;
+    VG_(printf)("predator native: %s: %s\n", trace_file.path, VG_(strerror)(error));
+    if (!FILE_IS_KEPT(trace_file.fd)) { /* nothing was written, and what stands is whole */
+        trace_accesses = written_accesses;
+        trace_whole = written_whole;
         VG_(printf)
         ("predator native: the program closed the trace, which ends after %llu accesses, and goes "
          "on\n",
-         trace_accesses);
-    } else if (trace.seeks) { /* back to the last whole piece, and its end */
-        UChar bytes[END_BYTES];
-        trace_accesses = whole_accesses;
-        spell_end(bytes, OUTCOME_PART, 0);
-        VG_(lseek)(trace.fd, trace.length, VKI_SEEK_SET);
-        CALL(__NR_ftruncate, trace.fd, trace.length, 0, 0);
-        if (trace.length == 0 || all_written(trace.fd, bytes, END_BYTES, &error) < END_BYTES)
-            VG_(printf)("predator native: %s: what stands there is no whole trace\n", trace.path);
-        else
+         trace_whole);
+    } else if (trace_file.seeks) { /* back to the last whole piece, and its end */
+        UChar bytes[FILTERED_END_BYTES];
+        trace_accesses = written_accesses;
+        trace_whole = written_whole;
+        end = spell_end(bytes, OUTCOME_PART, 0);
+        VG_(lseek)(trace_file.fd, trace_file.length, VKI_SEEK_SET);
+        CALL(__NR_ftruncate, trace_file.fd, trace_file.length, 0, 0);
+        if (trace_file.length == 0 || all_written(trace_file.fd, bytes, end, &error) < end)
             VG_(printf)
-        ("predator native: the trace ends after %llu accesses, and the program goes on\n",
-         trace_accesses);
+        ("predator native: %s: what stands there is no whole trace\n", trace_file.path);
+        else VG_(printf)(
+            "predator native: the trace ends after %llu accesses, and the program goes on\n",
+            trace_whole);
     } else {
         VG_(printf)
         ("predator native: what was written of the trace has no end, and the program goes on\n");
     }
-    file_drop(&trace);
+    file_drop(&trace_file);
     trace_records = False;
     table_text("end %llu %s\n", trace_accesses, "error");
     file_flush(&table);
@@ -290,12 +278,12 @@ static void trace_piece(Bool is_last, UInt outcome, UInt value)
 
 void trace_put(const UChar *bytes, UInt count)
 {
-    if (trace.count + count > room)
+    if (trace_file.count + count > trace_room)
         trace_flush();
-    if (trace.fd < 0)
+    if (trace_file.fd < 0)
         return;
-    VG_(memcpy)(trace.bytes + trace.count, bytes, count);
-    trace.count += count;
+    VG_(memcpy)(trace_file.bytes + trace_file.count, bytes, count);
+    trace_file.count += count;
 }
 
 void table_text(const HChar *format, ...)
@@ -321,88 +309,13 @@ void table_text(const HChar *format, ...)
     limit_room();
 }
 
-/* ---- Places of regions ---- */
-
-Region regions[MOST_REGIONS];
-UInt region_count;
-static ULong code_end = 1UL << 32; /* the lowest number that an instruction has */
-static UInt region_hash[16384];    /* an index and 1, or 0 */
-static struct {
-    Addr region;
-    UInt index;
-} near_regions[256]; /* the same for what was used last, index and 1 */
-
-static ULong place_of_region(UInt index) { return FIRST + index * (REGION + PAGE); }
-
-static UInt region_slot(Addr region)
-{
-    UInt at = ((region >> 20) * 0x9E3779B97F4A7C15UL) >> 50;
-    while (region_hash[at] != 0 && regions[region_hash[at] - 1].region != region)
-        at = (at + 1) % 16384;
-    return at;
-}
-
-Int region_of(Addr addr, Bool places)
-{
-    Addr region = addr & ~(REGION - 1);
-    UInt near = (region >> 20) % 256;
-    if (near_regions[near].region == region && near_regions[near].index)
-        return near_regions[near].index - 1;
-    UInt slot = region_slot(region);
-    if (region_hash[slot] == 0) {
-        if (!places)
-            return -1;
-        if (region_count == MOST_REGIONS || place_of_region(region_count) + REGION > code_end) {
-            trace_stop("addresses", "more than 4080 MiB of addresses were touched");
-            return -1;
-        }
-        Region *it = &regions[region_count];
-        it->region = region;
-        it->place = place_of_region(region_count);
-        region_hash[slot] = ++region_count;
-        symbols_of(it);
-        blocks_of(it);
-    }
-    near_regions[near].region = region;
-    near_regions[near].index = region_hash[slot];
-    return region_hash[slot] - 1;
-}
-
-UInt folded(UInt index, Addr addr)
-{
-    Region *it = &regions[index];
-    UInt offset = addr & (REGION - 1), page = offset / PAGE;
-    if (!(it->pages[page / 64] >> (page % 64) & 1)) {
-        it->pages[page / 64] |= 1UL << (page % 64);
-        table_text("0x%08x 0x%lx\n", it->place + page * (UInt)PAGE, it->region + page * PAGE);
-        tell_file(it->region + page * PAGE);
-    }
-    return it->place + offset;
-}
-
-UInt code_number(void)
-{
-    if (code_end - 1 < place_of_region(region_count)) {
-        trace_stop("addresses", "more than 4080 MiB of addresses were touched");
-        return 0;
-    }
-    return --code_end;
-}
-
-SizeT part_of(Addr region, Addr addr, SizeT size, Addr *first)
-{
-    Addr from = addr > region ? addr : region,
-         to = addr + size < region + REGION ? addr + size : region + REGION;
-    *first = from;
-    return from < to ? to - from : 0;
-}
 /* ---- The whole ---- */
 
 Bool trace_begin(const HChar *path, const HChar *table_path)
 {
     const HChar *own = PROGRAM_PATH;
     HChar name[VG_(strlen)(path) + 8];
-    if (!file_open(&trace, path, True))
+    if (!file_open(&trace_file, path, True))
         return False;
     if (table_path == NULL && VG_(strncmp)(path, "/dev/", 5) != 0) {
         VG_(sprintf)(name, "%s.table", path);
@@ -412,6 +325,8 @@ Bool trace_begin(const HChar *path, const HChar *table_path)
         return False;
     began = milliseconds();
     shown = is_terminal(2) ? began : 0;
+    if (!filter_begin())
+        return False;
     objects_begin();
     nameless_begin();
     table_text("program %s%s%s\n", own[0] == '/' ? "" : VG_(get_startup_wd)(),
@@ -422,16 +337,17 @@ Bool trace_begin(const HChar *path, const HChar *table_path)
 Bool trace_start(void)
 {
     UChar header[HEADER_BYTES] = "PRDTRC01";
-    header[7] = trace_pcs ? '3' : '1';
+    header[7] = trace_near ? '4' : trace_pcs ? '3' : '1';
     spell(header + 16, MOST_HARTS, 2);
+    spell(header + 18, trace_near, 2);
     trace_put(header, HEADER_BYTES);
     trace_flush();
-    return trace.fd >= 0;
+    return trace_file.fd >= 0;
 }
 
-Int trace_fd(Bool of_table) { return of_table ? table.fd : trace.fd; }
+Int trace_fd(Bool of_table) { return of_table ? table.fd : trace_file.fd; }
 
-Bool trace_is_open(void) { return trace.fd >= 0; }
+Bool trace_is_open(void) { return trace_file.fd >= 0; }
 
 void trace_flush(void)
 {
@@ -442,14 +358,15 @@ void trace_flush(void)
 /* What the table says last: how many accesses the trace has, and why it ends. */
 static void finish(UInt outcome, UInt value, const HChar *word)
 {
-    if (trace.fd < 0)
+    if (trace_file.fd < 0)
         return;
     end_progress();
+    tell_made_code();
     table_text("end %llu %s\n", trace_accesses, word);
     file_flush(&table);
     trace_piece(True, outcome, value);
     trace_records = False;
-    file_drop(&trace);
+    file_drop(&trace_file);
     file_drop(&table);
 }
 
@@ -470,18 +387,18 @@ void trace_becomes(Bool another)
 
 void trace_stop(const HChar *word, const HChar *why)
 {
-    if (trace.fd < 0)
+    if (trace_file.fd < 0)
         return;
     end_progress();
     VG_(printf)
     ("predator native: %s: the trace ends here, after %llu accesses, and the program goes on\n",
-     why, trace_accesses);
+     why, trace_whole);
     finish(OUTCOME_PART, 0, word);
 }
 
 void trace_leave(void)
 {
-    file_drop(&trace);
+    file_drop(&trace_file);
     file_drop(&table);
     trace_records = False;
 }
@@ -491,129 +408,4 @@ void trace_resume(void)
     if (libraries_came)
         read_libraries();
     tell_untold();
-}
-
-/* ---- Accesses ---- */
-
-/* The pages that were touched last, each by its last address, with their first address in the
- * trace. */
-static struct {
-    Addr last;
-    UInt place;
-} near_pages[1024];
-
-/* What the address is in the trace, or 0 where it gets no place. */
-static __attribute__((noinline)) UInt place_anew(Addr addr)
-{
-    UInt near = addr / PAGE % 1024;
-    Int index = region_of(addr, True);
-    if (index < 0)
-        return 0;
-    near_pages[near].place = folded(index, addr) - addr % PAGE;
-    near_pages[near].last = addr | (PAGE - 1);
-    return near_pages[near].place + addr % PAGE;
-}
-
-static inline UInt place_of(Addr addr)
-{
-    UInt near = addr / PAGE % 1024;
-    return near_pages[near].last == (addr | (PAGE - 1)) ? near_pages[near].place + addr % PAGE
-                                                        : place_anew(addr);
-}
-
-static inline void put_plain(UInt hart, Bool writes, UInt addr, UInt size)
-{
-    ULong record =
-        (writes ? TAG_WRITE : TAG_READ) | (ULong)hart << 8 | (ULong)addr << 24 | (ULong)size << 56;
-    /* (records of blocks have odd sizes) */
-    __builtin_memcpy(trace.bytes + trace.count, &record, sizeof record);
-    trace.count += ACCESS_BYTES;
-}
-
-/* Spells a number that stands for the one before it, in groups of seven bits. */
-static inline UChar *put_step(UChar *at, UInt number, UInt *before)
-{
-    UInt step = number - *before, rest = step << 1 ^ (UInt)((Int)step >> 31);
-    *before = number;
-    while (rest >= 128) {
-        *at++ = rest | 128;
-        rest >>= 7;
-    }
-    *at++ = rest;
-    return at;
-}
-
-static UInt last_addr, last_pc[MOST_HARTS];
-
-static inline void put_sited(UInt hart, Bool writes, UInt addr, UInt size, UInt pc)
-{
-    UChar *at = trace.bytes + trace.count;
-    *at++ = (writes ? TAG_WRITE_OF_SIZE : TAG_READ_OF_SIZE) | size;
-    *at++ = hart;
-    at = put_step(at, addr, &last_addr);
-    at = put_step(at, pc, &last_pc[hart]);
-    trace.count = at - trace.bytes;
-}
-
-/* One of 1, 2, 4 or 8 bytes that lies whole in a place, which is most of them. That of 8 is two:
-   what is put behind one that isn't, doesn't count. */
-static inline void put_whole(UInt hart, Bool writes, UInt place, UInt size, UInt pc)
-{
-    Bool two = size == 8;
-    UInt piece = two ? 4 : size;
-    if (trace_pcs) {
-        put_sited(hart, writes, place, piece, pc);
-        UInt other = (writes ? TAG_WRITE_OF_SIZE : TAG_READ_OF_SIZE) | 4 | hart << 8 |
-                     8 << 16; /* 4 bytes farther, by the same instruction */
-        __builtin_memcpy(trace.bytes + trace.count, &other, sizeof other);
-        last_addr += two ? 4 : 0;
-        trace.count += two ? 4 : 0;
-    } else {
-        put_plain(hart, writes, place, piece);
-        put_plain(hart, writes, place + 4, 4);
-        trace.count -= two ? 0 : ACCESS_BYTES;
-    }
-    trace_accesses += 1 + two;
-}
-
-static __attribute__((noinline)) void put_pieces(UInt hart, Bool writes, Addr addr, UInt size,
-                                                 UInt pc)
-{
-    while (size > 0) {
-        UInt piece = addr % 4 == 0 && size >= 4 ? 4 : addr % 2 == 0 && size >= 2 ? 2 : 1;
-        UInt place = place_of(addr);
-        if (place == 0 || !trace_records)
-            return;
-        if (trace.count + LONGEST_ACCESS > room)
-            trace_flush();
-        if (trace.fd < 0)
-            return;
-        if (trace_pcs)
-            put_sited(hart, writes, place, piece, pc);
-        else
-            put_plain(hart, writes, place, piece);
-        if (++trace_accesses == trace_most)
-            trace_stop("most", "that many accesses were asked for");
-        addr += piece;
-        size -= piece;
-    }
-}
-
-void trace_access(UInt hart, Bool writes, Addr addr, UInt size, UInt pc)
-{
-    if (hart >= MOST_HARTS) {
-        trace_stop("threads", "more than 256 threads live at a time");
-        return;
-    }
-    if (libraries_came)
-        read_libraries();
-    UInt near = addr / PAGE % 1024;
-    Bool is_whole = size <= 8 && (size & (size - 1)) == 0 &&
-                    (addr & ((size < 4 ? size : 4) - 1)) == 0 && addr % PAGE + size <= PAGE;
-    Bool goes_on = trace_records && (trace_most == 0 || trace_accesses + 2 < trace_most) &&
-                   trace.count + 2 * LONGEST_ACCESS <= room;
-    if (is_whole && goes_on && near_pages[near].last == (addr | (PAGE - 1)))
-        put_whole(hart, writes, near_pages[near].place + addr % PAGE, size, pc);
-    else
-        put_pieces(hart, writes, addr, size, pc);
 }

@@ -5,7 +5,8 @@
 
 #define MOST_HARTS 256
 
-extern ULong trace_accesses;
+extern ULong trace_accesses; /* so many stand in the trace */
+extern ULong trace_whole;    /* and so many were made: more where it is filtered */
 /* False where a file can't be written. Without a table's path it is that of the trace with
  * `.table`; a path /dev/fd/N is taken over. */
 Bool trace_begin(const HChar *path, const HChar *table);
@@ -30,8 +31,9 @@ void trace_block(ThreadId tid, Addr addr, SizeT size);
 void trace_free(ThreadId tid, Addr addr);
 void trace_revive(ThreadId tid, Addr addr); /* the last block that this thread freed lives on */
 extern Bool trace_records;                  /* accesses are recorded now */
-extern Bool trace_pcs;        /* each with its instruction; said before the trace begins */
-extern ULong trace_most;      /* the trace ends after so many, or 0 */
+extern Bool trace_pcs;   /* each with its instruction; said before the trace begins */
+extern UInt trace_near;  /* of a filtered trace its k, or 0: filter.h; said before it begins, too */
+extern ULong trace_most; /* the trace ends after so many, or 0 */
 extern ULong trace_max_bytes; /* its file and the table's take no more than so much, or 0 */
 
 /* How much is free on the disk of a file, or NO_DISK where it is on none. */

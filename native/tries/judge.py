@@ -1,9 +1,10 @@
 #!/usr/bin/env python3
-"""The answers to what the tries of native/ ask of a trace of version 1 or 3. It judges: it reads the bytes by
+"""The answers to what the tries of native/ ask of a trace of version 1, 3 or 4. It judges: it reads the bytes by
 docs/FORMATS.md alone, and shares no code with the program, with view/ and with tools/.
 
     judge.py end TRACE            the end of a complete trace: `exit CODE` or `part`
     judge.py accesses TRACE       the number of accesses
+    judge.py whole TRACE          that of a filtered trace before it was filtered
     judge.py taken TRACE NAME     how many writes to the 64-byte line at a symbol found it in the cache of
                                   another hart
     judge.py word TRACE NAME AT   `READS WRITES HARTS` of the 4-byte word AT bytes after a symbol; an access
@@ -19,6 +20,7 @@ docs/FORMATS.md alone, and shares no code with the program, with view/ and with 
                                   there, the innermost first
     judge.py untold TRACE         how many distinct instructions have not exactly one row of their own in
                                   TRACE.table
+    judge.py plain TRACE FILE     writes a filtered trace as one of version 3 to FILE
     judge.py each TRACE           bytes for each access, times 100
 """
 
@@ -46,10 +48,13 @@ def decode_distance(data, place, before):
 def read_records(trace, all_of_it):
     with open(trace, "rb") as file:
         data = file.read()
-    if data[:8] not in (b"PRDTRC01", b"PRDTRC03"):
-        sys.exit("no trace of version 1 or 3")
+    if data[:8] not in (b"PRDTRC01", b"PRDTRC03", b"PRDTRC04"):
+        sys.exit("no trace of version 1, 3 or 4")
     place, accesses, access = 20, 0, struct.Struct("<HIB").unpack_from
-    harts, whole, has_pcs = struct.unpack_from("<H", data, 16)[0], len(data), data[7:8] == b"3"
+    harts, whole, has_pcs = struct.unpack_from("<H", data, 16)[0], len(data), data[7:8] != b"1"
+    end_size = 33 if data[7:8] == b"4" else 25
+    if (struct.unpack_from("<H", data, 18)[0] in range(6, 17)) != (end_size == 33):
+        sys.exit("a wrong header")
     last, pcs = 0, {}
     while place < whole:
         tag = data[place]
@@ -87,9 +92,12 @@ def read_records(trace, all_of_it):
             outcome, cause, hart, value, steps, total = struct.unpack_from(
                 "<BBHIQQ", data, place + 1
             )
-            if total != accesses or place + 25 != len(data) or (cause, hart, steps) != (0, 0, 0):
+            if (total, place + end_size) != (accesses, whole) or (cause, hart, steps) != (0, 0, 0):
                 sys.exit(f"a wrong end at {place}")
-            yield "end", outcome, value, accesses
+            filtered = struct.unpack_from("<Q", data, whole - 8)[0] if end_size == 33 else accesses
+            if filtered < accesses:
+                sys.exit(f"a wrong end at {place}")
+            yield "end", outcome, value, accesses, filtered
             return
         else:
             sys.exit(f"no record at {place}")
@@ -189,13 +197,23 @@ def count_unnamed(trace):
     return sum(sum(own[0] == "site" for own in sites_by_pc.get(it, [])) != 1 for it in pcs)
 
 
+def write_plain(trace, to):
+    with open(trace, "rb") as file:
+        data = file.read()
+    with open(to, "wb") as file:
+        file.write(b"PRDTRC03" + data[8:18] + bytes(2) + data[20:-8])
+
+
 def main(words):
     if len(words) < 2:
         sys.exit(__doc__)
     what, *names = words[0], *words[2:]
-    if what in ("end", "accesses"):
-        *_, (_, outcome, value, accesses) = read_records(words[1], False)
-        print(accesses if what == "accesses" else {0: f"exit {value}", 4: "part"}[outcome])
+    if what == "plain":
+        write_plain(words[1], *names)
+    elif what in ("end", "accesses", "whole"):
+        *_, (_, outcome, value, accesses, filtered) = read_records(words[1], False)
+        ends = {0: f"exit {value}", 4: "part"}[outcome]
+        print({"end": ends, "accesses": accesses, "whole": filtered}[what])
     elif what in ("alike", "sites", "untold"):
         print(
             {"alike": are_alike, "sites": list_sites, "untold": count_unnamed}[what](
@@ -203,7 +221,7 @@ def main(words):
             )
         )
     elif what == "each":
-        *_, (_, _, _, accesses) = read_records(words[1], False)
+        accesses = [*read_records(words[1], False)][-1][3]
         print(round(100 * os.path.getsize(words[1]) / accesses))
     else:
         all_records = list(read_records(words[1], what not in ("blocks", "place")))

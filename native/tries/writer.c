@@ -1,6 +1,7 @@
 /* Drives what writes a trace, as the runtime does, with made-up harts, accesses and blocks (native/sanitize.sh):
 
-       writer TRACE SEED STEPS [pcs]      ends by exit with code 7, or where all regions have their places */
+       writer TRACE SEED STEPS [pcs | K]   ends by exit with code 7, or where all regions have their places; with instructions, or filtered by
+                                           regions of 2^K bytes, few harts touch few blocks */
 #include "../lib/compat.h"
 
 #include <stdlib.h>
@@ -40,11 +41,12 @@ static SizeT size(UInt which) { return which < BLOCKS - LARGE ? 1 + draw(10240) 
 int main(int count, char **words)
 {
     trace_pcs = count == 5;
+    trace_near = trace_pcs ? strtoul(words[4], NULL, 10) : 0;
     if ((count != 4 && count != 5) || !trace_begin(words[1], NULL) || !trace_start())
         return 1;
     drawn = strtoul(words[2], NULL, 10);
     for (long left = strtol(words[3], NULL, 10); left > 0 && trace_is_open(); left--) {
-        UInt hart = draw(MOST_HARTS), which = draw(BLOCKS);
+        UInt hart = draw(trace_pcs ? 3 : MOST_HARTS), which = draw(trace_pcs && draw(2) ? 4 : BLOCKS);
         switch (draw(20)) {
         case 0:
             trace_block(1 + hart, place(which), size(which));
