@@ -141,7 +141,7 @@ make_cxx() {
     local into=$1 headers=$2 it
     shift 2
     for it in "$here"/cxx/*.cpp; do
-        clang --driver-mode=g++ "${machine[@]}" -O2 "${sections[@]}" "${named[@]}" -std=c++20 -fno-exceptions -fno-rtti \
+        clang --driver-mode=g++ "${machine[@]}" -O2 "${sections[@]}" "${named[@]}" -std=c++20 -fno-exceptions -frtti \
             -fno-asynchronous-unwind-tables -nostdinc++ -isystem "$here/cxx/include" -isystem "$headers" "${over_c[@]}" "${careful[@]}" "$@" \
             -c "$it" -o "$into/parts/cxx-$(basename "${it%.*}").o"
     done

@@ -69,7 +69,7 @@ try_completion() {
     completes "--sources --sarif" view r --s
     completes "--sources --sarif --settings --set --schedule" view run p --s
     completes "--sources --sarif --settings --set --size --shift --save" view replay t --s
-    completes "--sources --sarif --settings --set --size --shift" view native p --s
+    completes "--sources --sarif --skip --settings --set --size --shift" view native p --s
     completes "" view run p --ma
     completes "--sources --sarif --settings --set --schedule" view "$here/built/counters.elf" --s
     completes "--map" view r --ma

@@ -147,13 +147,19 @@ void __shared_mutex_base::unlock_shared()
     }
 }
 
-shared_timed_mutex::shared_timed_mutex() : __base() {}
-void shared_timed_mutex::lock() { __base.lock(); }
-bool shared_timed_mutex::try_lock() { return __base.try_lock(); }
-void shared_timed_mutex::unlock() { __base.unlock(); }
-void shared_timed_mutex::lock_shared() { __base.lock_shared(); }
-bool shared_timed_mutex::try_lock_shared() { return __base.try_lock_shared(); }
-void shared_timed_mutex::unlock_shared() { __base.unlock_shared(); }
+// (the member's name has changed with version 16)
+#if _LIBCPP_VERSION < 16000
+#define TIMED_BASE __base
+#else
+#define TIMED_BASE __base_
+#endif
+shared_timed_mutex::shared_timed_mutex() : TIMED_BASE() {}
+void shared_timed_mutex::lock() { TIMED_BASE.lock(); }
+bool shared_timed_mutex::try_lock() { return TIMED_BASE.try_lock(); }
+void shared_timed_mutex::unlock() { TIMED_BASE.unlock(); }
+void shared_timed_mutex::lock_shared() { TIMED_BASE.lock_shared(); }
+bool shared_timed_mutex::try_lock_shared() { return TIMED_BASE.try_lock_shared(); }
+void shared_timed_mutex::unlock_shared() { TIMED_BASE.unlock_shared(); }
 
 // The state of a flag: 0 before the first call, 1 while one runs, and all bits once one returned.
 void __call_once(volatile unsigned long &state, void *argument, void (*function)(void *))

@@ -49,7 +49,9 @@ for source in "$tries"/*.cpp; do
     expect_status "$name for this machine" 0 g++ -std=c++20 -O1 -pthread "$source" -o host
     expect_status "$name: what it prints here" 0 ./host
     cp out expected
-    expect_status "$name as a guest" 0 "$cxx" -Wall -Wextra -Werror "$source" -o "$name.elf"
+    flags=(-Wall -Wextra -Werror)
+    [ "$name" != types ] || flags+=(-frtti)
+    expect_status "$name as a guest" 0 "$cxx" "${flags[@]}" "$source" -o "$name.elf"
     for ((seed = 0; seed < seeds; seed++)); do
         for quantum in 3 100; do
             expect_status "$name at seed $seed, quantum $quantum" 0 "$predator" run "$name.elf" --set "quantum=$quantum,seed=$seed" --output printed
@@ -59,7 +61,7 @@ for source in "$tries"/*.cpp; do
     done
 done
 
-expect_status "ends" 0 "$cxx" "$tries/ends.cpp" -o ends.elf
+expect_status "ends" 0 "$cxx" -frtti "$tries/ends.cpp" -o ends.elf
 while read -r which text; do
     expect_status "ends $which" 0 "$top/guest/words.py" ends.elf one.elf "$which"
     expect_status "ends $which" 0 "$predator" run one.elf --output printed
@@ -77,5 +79,7 @@ done <<'T'
 8 bad_any_cast
 9 basic_string
 a terminate: a thread was neither joined nor detached
+b std::bad_cast
+c std::bad_typeid
 T
 finish_checks

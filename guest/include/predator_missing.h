@@ -26,6 +26,6 @@
 #define PREDATOR_NO_SHARED PREDATOR_MISSING(shared, "there are no shared libraries: link what is wanted into the program")
 #define PREDATOR_NO_REMAP PREDATOR_MISSING(remap, "a mapping can't be made larger or moved: map another one, and copy")
 #define PREDATOR_NO_EXCEPTION PREDATOR_MISSING(exception, "C++ has no exceptions here: build with -fno-exceptions")
-#define PREDATOR_NO_TYPEINFO PREDATOR_MISSING(typeinfo, "C++ has no type information here: build with -fno-rtti")
+#define PREDATOR_NO_TYPEINFO PREDATOR_MISSING(typeinfo, "type information needs LLVM's C++ library (Debian: libc++-14-dev); or build with -fno-rtti")
 
 #endif

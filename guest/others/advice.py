@@ -107,10 +107,10 @@ class Study:
             check=True,
             capture_output=True,
         )
-        told = subprocess.run(
+        text = subprocess.run(
             [PROGRAM, "misses", trace], check=True, capture_output=True, text=True
         ).stdout
-        found = re.search(r"^total cold \d+ useful (\d+) useless (\d+)$", told, re.MULTILINE)
+        found = re.search(r"^total cold \d+ useful (\d+) useless (\d+)$", text, re.MULTILINE)
         return int(found[2]), int(found[1])
 
     def run_view(self, program):

@@ -30,8 +30,8 @@ mkdir -p "$out" && cd "$out" || exit 1
 : >config.h
 passed=0 failed=0
 
-# told WHAT STATUS: counts it, and says what was said where the status isn't 0.
-told() {
+# record_status WHAT STATUS: counts a check, and shows its output if the status isn't 0.
+record_status() {
     if [ "$2" = 0 ]; then
         passed=$((passed + 1)) && echo "passed: $1"
     else
@@ -44,7 +44,7 @@ built() {
     local what=$1
     shift
     "$@" >said 2>&1 </dev/null
-    told "$what" $?
+    record_status "$what" $?
 }
 
 # refused WHAT REASON COMMAND ..: the command fails, and says why.
@@ -52,7 +52,7 @@ refused() {
     local what=$1 reason=$2
     shift 2
     ! "$@" >said 2>&1 </dev/null && grep -q -F "$reason" said
-    told "$what" $?
+    record_status "$what" $?
 }
 
 # ran WHAT PROGRAM END LINE [WORD ..]: it ends by exit with this code, or as a deadlock or by its budget, and puts out a line that has this text.
@@ -65,7 +65,7 @@ ran() {
     printf 'quantum = 10\nmemory = 67108864\n%s' "${MORE:-}" >settings
     "$predator" run --settings settings --output put "$elf" "$@" >said 2>&1
     grep -q -x "outcome $end" said && { [ -z "$line" ] || grep -q -F -e "$line" put; }
-    told "$what" $?
+    record_status "$what" $?
 }
 
 # coded WHAT CODE PROGRAM [WORD ..]: the one line behind the report, on standard error, says that it ended with this code.
@@ -76,19 +76,19 @@ coded() {
     "$predator" run --settings settings --output put "$elf" "$@" >said 2>&1
     [ "$(sed '1,/^end$/d' said)" = "predator: the program ended with exit code $code" ] &&
         "$predator" run --settings settings --output put "$elf" "$@" 2>/dev/null | cmp - <(sed '/^end$/q' said)
-    told "$what" $?
+    record_status "$what" $?
 }
 
 # holds WHAT TEXT COUNT: so many lines of what the last program put out have this text.
 holds() {
     [ "$(grep -c -F -e "$2" put)" = "$3" ]
-    told "$1" $?
+    record_status "$1" $?
 }
 
 # whole WHAT PATTERN: each line of what the last program put out is as the pattern says.
 whole() {
     ! grep -q -v -x -E -e "$2" put
-    told "$1" $?
+    record_status "$1" $?
 }
 
 # viewed WHAT STATUS TEXT [WORD ..] PROGRAM: `predator view run` of it ends so, and its screen has this text.
@@ -98,13 +98,13 @@ viewed() {
     printf 'quantum = 10\nmemory = 67108864\n' >settings
     "$predator" view run --settings settings "$@" >said 2>&1
     [ $? = "$wanted" ] && grep -q -F -e "$text" said
-    told "$what" $?
+    record_status "$what" $?
 }
 
 # said WHAT PATTERN: a line of what the last run or refusal said is as the pattern says.
 said() {
     grep -q -x -E -e "$2" said
-    told "$1" $?
+    record_status "$1" $?
 }
 
 # told_apart WHAT PROGRAM LINE [WORD ..]: without --output, what it puts out goes to standard error, and the report is that of the run before.
@@ -113,7 +113,7 @@ told_apart() {
     shift 3
     sed '/^end$/q' said >report
     "$predator" run --settings settings "$elf" "$@" 2>said | cmp - report && grep -q -F -e "$line" said
-    told "$what" $?
+    record_status "$what" $?
 }
 
 # missed WHAT PATTERN SITE PROGRAM [WORD ..]: on a line with misses stands an object as the pattern says, whose first call site is as said.
@@ -126,7 +126,7 @@ missed() {
     # shellcheck disable=SC2094
     "$predator" misses trace >misses 2>&1
     awk -v object="$object" -v site="$site" 'is_it && $1 == "site" && $3 ~ site { found = 1 } { is_it = $0 ~ object } END { exit !found }' misses
-    told "$what" $?
+    record_status "$what" $?
 }
 
 # as_native WHAT SOURCES ..: what the last program put out is what the same sources do on this machine.
@@ -134,7 +134,7 @@ as_native() {
     local what=$1
     shift
     c++ -pthread -w "$@" -o native >said 2>&1 && ./native >wanted && cmp put wanted >said 2>&1
-    told "$what" $?
+    record_status "$what" $?
 }
 
 # What a test of glibc's wants beside itself. (Names of glibc's that mean nothing to another compiler, or no more than others do, are words here,

@@ -37,9 +37,9 @@ PREDICTED = ["rte_ring", "rte_ring-together", "kt_for-apart"]
 MOVED = {"rte_ring-together": ("rte_ring-together-at-24", 24)}
 
 
-def count_false_sharing(told, base, size):
+def count_false_sharing(text, base, size):
     """The useless misses of all lines of a text of misses that lie in a range."""
-    found = re.findall(r"^line (\S+) cold \d+ useful \d+ useless (\d+)$", told, re.MULTILINE)
+    found = re.findall(r"^line (\S+) cold \d+ useful \d+ useless (\d+)$", text, re.MULTILINE)
     return sum(int(count) for at, count in found if base <= int(at, 16) < base + size)
 
 
@@ -154,8 +154,8 @@ def main(words):
     parts["others predicted"] = markdown_table(
         heads, [prediction_row(it, runs) for it in PREDICTED if it in runs]
     )
-    for name, told in parts.items():
-        print(f"\n== {name}\n\n{told}")
+    for name, text in parts.items():
+        print(f"\n== {name}\n\n{text}")
     for fault in wrong:
         print(fault)
     if "--renew" in words:

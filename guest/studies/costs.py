@@ -42,7 +42,7 @@ def source_place(path, pc, name):
     words = ["llvm-symbolizer", f"--obj={path}", "--output-style=JSON", f"{pc:#x}"]
     ran = subprocess.run(words, stdout=subprocess.PIPE, text=True, check=True)
     frames = json.loads(ran.stdout)[0]["Symbol"]
-    # (the compiler gives some inlined code no line, and then the call's is told)
+    # (the compiler gives some inlined code no line, and then the line of the call stands)
     lines = [
         f"`{os.path.basename(frame['FileName'])}:{frame['Line']}`"
         for frame in frames
@@ -88,19 +88,19 @@ class Build:
 
     def explain_line(self, settings):
         start = self.line.start if self.line else 0
-        told = program_output(
+        text = program_output(
             "explain", self.path, address_text(self.base), "64", str(start), "--settings", settings
         )
-        self.count = int(re.search(r"^line .* count (\d+)$", told, re.MULTILINE)[1])
+        self.count = int(re.search(r"^line .* count (\d+)$", text, re.MULTILINE)[1])
         if self.line and self.count != self.line.count:
             self.wrong.append(
                 f"{self.path}: the report counts {self.line.count} of {address_text(self.base)},"
                 f" and explain {self.count}"
             )
-        found = re.search(r"^pair (\S+) (\S+) taken (\d+) same (\d+)$", told, re.MULTILINE)
+        found = re.search(r"^pair (\S+) (\S+) taken (\d+) same (\d+)$", text, re.MULTILINE)
         if found is None:
             return None
-        names = dict(re.findall(r"^site (\S+) .* (\S+)$", told, re.MULTILINE))
+        names = dict(re.findall(r"^site (\S+) .* (\S+)$", text, re.MULTILINE))
         places = [source_place(self.path, int(it, 16), names[it]) for it in found.groups()[:2]]
         return [*reversed(places), *found.groups()[2:]]
 
@@ -108,8 +108,8 @@ class Build:
 class MissLine:
     """A line of the text of misses."""
 
-    def __init__(self, told):
-        words = told.split()
+    def __init__(self, line):
+        words = line.split()
         self.base, self.useful, self.useless = int(words[1], 16), int(words[5]), int(words[7])
 
 
@@ -141,8 +141,8 @@ def main(words):
         "costs": markdown_table(["Build", "Cold", "True sharing", "False sharing"], costs),
         "conflicts": markdown_table(heads, fights),
     }
-    for name, told in parts.items():
-        print(f"\n== {name}\n\n{told}")
+    for name, text in parts.items():
+        print(f"\n== {name}\n\n{text}")
     for fault in wrong:
         print(fault)
     if "--renew" in words:

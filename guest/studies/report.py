@@ -124,7 +124,7 @@ class Run:
 
 
 def recount_differences(trace, size, report):
-    """The observed lines that a report and the recount tell otherwise, of either."""
+    """The observed lines that a report and its recount disagree on, from both."""
     counted = {base: (start, count) for base, start, count in recount_lines(trace, size)}
     observed = {it.base: (it.start, it.count) for it in report.lines_of_kind("observed")}
     return [

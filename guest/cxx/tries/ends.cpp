@@ -6,10 +6,16 @@
 #include <optional>
 #include <string>
 #include <thread>
+#include <typeinfo>
 #include <variant>
 #include <vector>
 
 struct Shared : std::enable_shared_from_this<Shared> {
+};
+struct Base {
+    virtual ~Base() = default;
+};
+struct Derived : Base {
 };
 
 int main(int, char **words)
@@ -44,9 +50,18 @@ int main(int, char **words)
         return std::any_cast<int>(std::any());
     case '9':
         return std::string().at(2);
-    case 'a':
+    case 'a': {
         std::thread left([] {});
         return 0;
+    }
+    case 'b': {
+        Base base;
+        return &dynamic_cast<Derived &>(base) != nullptr;
+    }
+    case 'c': {
+        Base *volatile nothing = nullptr;
+        return typeid(*nothing) == typeid(Base);
+    }
     }
     return 1;
 }

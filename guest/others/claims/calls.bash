@@ -9,7 +9,7 @@ marked() {
     local what=$1 elf=$2
     shift 2
     "$here/claims/marks.py" "$elf" trace "$@" >said 2>&1
-    told "$what" $?
+    record_status "$what" $?
 }
 
 # traced WHAT PROGRAM LINE [WORD ..]: as `ran` with exit 0, with its trace kept.
@@ -19,7 +19,7 @@ traced() {
     printf 'quantum = 10\nmemory = 67108864\n%s' "${MORE:-}" >settings
     "$predator" run --settings settings --trace trace --output put "$elf" "$@" >said 2>&1
     grep -q -x "outcome exit 0" said && grep -q -F -e "$line" put
-    told "$what" $?
+    record_status "$what" $?
 }
 
 # The calls that the kit makes, each answer against the table. (The memory of `ran` ends there.)
@@ -55,7 +55,7 @@ answers() {
     shift
     for it; do
         grep -q -x -E "calls: $it [1-9][0-9]*, 0 wrong" put
-        told "$what: $it" $?
+        record_status "$what: $it" $?
     done
 }
 
@@ -65,16 +65,16 @@ laid_out() {
     "$predator" check "$elf" >said 2>&1
     python3 - >placed 2>&1 <<'PYTHON'
 import sys
-told = [line.split() for line in open("said")]
-code, data = [(int(it[1], 0), int(it[2]), it[3]) for it in told if it[0] == "segment"]
-heap, stacks = [[int(at, 0) for at in it[1:]] for it in told if it[0] in ("heap", "stacks")]
+rows = [line.split() for line in open("said")]
+code, data = [(int(it[1], 0), int(it[2]), it[3]) for it in rows if it[0] == "segment"]
+heap, stacks = [[int(at, 0) for at in it[1:]] for it in rows if it[0] in ("heap", "stacks")]
 page = lambda at: (at + 4095) // 4096 * 4096
 top = 0x10000 + (16 << 20)
 print(code, data, heap, stacks)
 wanted = [(0x10000, "r-x"), (page(sum(code[:2])), "rw-"), [page(sum(data[:2])), top - 8 * 65536], [top - 8 * 65536, top]]
 sys.exit([(code[0], code[2]), (data[0], data[2]), heap, stacks] != wanted)
 PYTHON
-    told "$what: its parts lie where they are said to" $?
+    record_status "$what: its parts lie where they are said to" $?
 }
 
 # Where the parts of a program lie, and what each hart has for itself.
@@ -104,7 +104,7 @@ ends = {addr: [top - hart * stack for hart in range(8) if (top - hart * stack - 
 print(blocks, ends)
 sys.exit(len(blocks) < int(sys.argv[2]) or not all(ends.values()))
 PYTHON
-    told "$what: each hart's own lie at the upper end of its stack" $?
+    record_status "$what: each hart's own lie at the upper end of its stack" $?
 }
 
 # Nothing is cleared: neither a block that was freed nor the stack of a hart that starts.
@@ -267,9 +267,9 @@ claim_default() {
             built "default: ${it%%/*}'s ${it##*/} with '$words'" "$cc" -c $words "$fetched/$it" -o "default$words.o"
         done
         cmp default.o "default-O2 -g.o" >said 2>&1
-        told "default: ${it%%/*}'s ${it##*/} is as with -O2 -g" $?
+        record_status "default: ${it%%/*}'s ${it##*/} is as with -O2 -g" $?
         ! cmp -s default.o default-O1.o && ! cmp -s default.o default-g0.o
-        told "default: and not as with -O1 or -g0" $?
+        record_status "default: and not as with -O1 or -g0" $?
     done
 }
 
@@ -304,7 +304,7 @@ with open("trace", "rb") as file:
 print(sum(below), "of", len(below))
 sys.exit(not any(below[:-1000]))
 PYTHON
-    told "$1" $?
+    record_status "$1" $?
 }
 
 # A stack that grows too far runs into the next one, and the last one into the heap. (What the second program finds of strings is left aside.)

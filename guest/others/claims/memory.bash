@@ -24,7 +24,7 @@ claim_sbrk() {
         -o dlmalloc-own.elf
     ran "sbrk: dlmalloc as malloc runs" dlmalloc-own.elf 0 whole
     ! llvm-nm dlmalloc-own.elf | grep -q predator_keeps_sizes
-    told "sbrk: dlmalloc as malloc has the kit's place" $?
+    record_status "sbrk: dlmalloc as malloc has the kit's place" $?
     bash_malloc sbrk
 }
 
@@ -99,7 +99,7 @@ fronts() {
     [ ${#it[@]} = 2 ] && grep -q "^object block $(printf '0x%08x %d' ${it[0]}) born" said &&
         grep -q "^object block $(printf '0x%08x %d' $((${it[1]% *} - 16)) $((${it[1]#* } + 16))) born" said &&
         ! grep -q "^object block $(printf '0x%08x %d' ${it[1]}) born" said
-    told "$what: 2^19 of its blocks are known as they are" $?
+    record_status "$what: 2^19 of its blocks are known as they are" $?
 }
 
 # float, double and division of 64 bits, in programs that check what comes out.
@@ -113,7 +113,7 @@ claim_floats() {
         ran "floats: gnulib's test-$it" "test-$it.elf" 0 ""
     done
     llvm-nm test-strtoull.elf | grep -q __udivdi3
-    told "floats: gnulib's test-strtoull divides by a function" $?
+    record_status "floats: gnulib's test-strtoull divides by a function" $?
 }
 
 # A variable that is put apart, by a word before it: NAME is 256 bytes and more from any other.
@@ -124,7 +124,7 @@ alone() {
     llvm-nm -n --radix=d "$elf" | awk -v name="$name" '
         $2 ~ /[bBdD]/ { if ($3 == name || was == name) near += $1 - at < 256; seen += $3 == name; at = $1; was = $3 }
         END { exit !seen || near }'
-    told "$what lies apart" $?
+    record_status "$what lies apart" $?
 }
 
 claim_alone() {
@@ -148,11 +148,11 @@ claim_wide() {
             PTHREAD_CFLAGS="-pthread $lines -DR_REPEAT=2000" "ck_pr_$it"
         ran "8 bytes: Concurrency Kit's ck_pr_$it" "ck/regressions/ck_pr/validate/ck_pr_$it" 0 "ck_pr_${it}_64"
         llvm-nm "ck/regressions/ck_pr/validate/ck_pr_$it" | grep -q "__atomic_.*_8$"
-        told "8 bytes: Concurrency Kit's ck_pr_$it has the kit's" $?
+        record_status "8 bytes: Concurrency Kit's ck_pr_$it has the kit's" $?
     done
     ran "8 bytes: DPDK's ring for many on both sides" "$studies/rte_ring-hts.elf" 0 1999000
     llvm-nm "$studies/rte_ring-hts.elf" | grep -q "__atomic_.*_8$"
-    told "8 bytes: DPDK's ring has the kit's" $?
+    record_status "8 bytes: DPDK's ring has the kit's" $?
 }
 
 # Accesses at no multiple of their size, which are traps; as bytes, by memcpy or packed, they are none.
@@ -160,14 +160,14 @@ claim_places() {
     local it words=(-I "$fetched/zstd/lib/common" -DXXH_FORCE_ALIGN_CHECK=0 "$here/claims/xxhash.c")
     built "places: valgrind's tc19_shadowmem is built" "$cc" $lines -O1 -w -I "$valgrind" -I "$valgrind/include" \
         "$valgrind/helgrind/tests/tc19_shadowmem.c" -o shadowmem.elf
-    viewed "places: valgrind's tc19_shadowmem is stopped, and its line told" 3 "tc19_shadowmem.c:" --fail-above 1000000 shadowmem.elf
+    viewed "places: valgrind's tc19_shadowmem is stopped, with its line" 3 "tc19_shadowmem.c:" --fail-above 1000000 shadowmem.elf
     for it in 0 1; do
         built "places: zstd's xxHash of kind $it is built" "$cc" $lines "-DXXH_FORCE_MEMORY_ACCESS=$it" "${words[@]}" -o xxhash.elf
         ran "places: zstd's xxHash of kind $it" xxhash.elf 0 "3 "
         as_native "places: zstd's xxHash of kind $it does what it does here" "${words[@]}"
     done
     built "places: zstd's xxHash by casts is built" "$cc" $lines -DXXH_FORCE_MEMORY_ACCESS=2 "${words[@]}" -o xxhash.elf
-    viewed "places: zstd's xxHash by casts is stopped, and its line told" 3 "xxhash.h:" --fail-above 1000000 xxhash.elf
+    viewed "places: zstd's xxHash by casts is stopped, with its line" 3 "xxhash.h:" --fail-above 1000000 xxhash.elf
 }
 
 # A free of what is no block, by programs that mean it.

@@ -13,7 +13,7 @@ claim_cxx() {
     ran "C++: pugixml runs in four threads" pugixml.elf 0 "0: "
     as_native "C++: pugixml does what it does here" "${pugi[@]}"
     llvm-nm pugixml.elf | grep -q __cxa_guard_acquire
-    told "C++: its query is a static of a function" $?
+    record_status "C++: its query is a static of a function" $?
     built "C++: TinyXML-2 is built" "$cxx" $lines -O1 -DPREDATOR_REFUSE_AT_RUN "${tiny[@]}" -o tinyxml2.elf
     ran "C++: TinyXML-2 runs in four threads" tinyxml2.elf 0 "0: "
     as_native "C++: TinyXML-2 does what it does here" "${tiny[@]}"
@@ -25,7 +25,7 @@ claim_cxx() {
     ran "C++: valgrind's local_static, two threads with a static of a function" it.elf 0 "Done."
     holds "C++: local_static's was made before each look at it" 42 10
     llvm-nm it.elf | grep -q __cxa_guard_acquire
-    told "C++: local_static's is one" $?
+    record_status "C++: local_static's is one" $?
     # (each thread its document, which has a destructor)
     for it in pugixml tinyxml2; do
         sed 's/^    \(pugi::xml_document\|tinyxml2::XMLDocument\) document;/    static thread_local&/' "$here/claims/$it.cc" >"$it.cc"
@@ -62,7 +62,7 @@ explained() {
     read -r -a line < <("$predator" run --settings settings --output put "$elf" "$@" 2>/dev/null | sed -n '/^line observed /{s///;p;q;}')
     [ ${#line[@]} -gt 5 ] && "$predator" explain --settings settings "$elf" "${line[0]}" "${line[1]}" "${line[3]}" "$@" >said 2>&1 &&
         grep -q "^line .* count ${line[5]}$" said
-    told "$what" $?
+    record_status "$what" $?
 }
 
 # What reads files is refused where it is called, with the reason; and at run time where the build says so.
@@ -84,7 +84,7 @@ other processes|sysdeps/pthread/tst-fork1|there is one process, and no other
 files|sysdeps/pthread/tst-mutex4|there are no files but an empty stdin, stdout and stderr
 END
     mkdir -p valgrind-headers/sys && : >valgrind-headers/sys/syscall.h
-    # (what a signal is told beside its number isn't in the C library's header)
+    # (what a signal handler gets beside the number isn't in the C library's header)
     local words=(-O1 -w -Dsa_sigaction=sa_handler -DSIGRTMAX=31 -I valgrind-headers -I . -I "$valgrind")
     while IFS='|' read -r what test why; do
         refused "refusals: $what, in valgrind's ${test##*/}" "$why" "$cc" -c "${words[@]}" "$valgrind/$test.c" -o no.o
@@ -117,7 +117,7 @@ claim_addresses() {
     refused "addresses: of files, in SQLite's table" "error: 'unlink' can't be had: there are no files but an empty stdin, stdout and stderr" \
         "$cc" $lines -I "$studies/sqlite3" "$here/sqlite.c" sqlite3.o -o no.elf
     [ "$(grep -c "aSyscall" said)" = 11 ]
-    told "addresses: SQLite's are eleven" $?
+    record_status "addresses: SQLite's are eleven" $?
 }
 
 # Functions in headers, which nobody calls in one program, and which are refused in another that calls them.
@@ -154,7 +154,7 @@ claim_small() {
     ran "small: the counter" small-ck.elf 5 "counted 2000"
     ran "small: the sum" small-gnulib.elf 5 "counted 1114"
     ! llvm-nm small-ck.elf small-gnulib.elf | grep -q -E " (exit|printf|__libc_init_array)$"
-    told "small: neither has a library" $?
+    record_status "small: neither has a library" $?
 }
 
 # shown WHAT FILE LINE COUNT: so many results of false sharing in sharing.sarif stand at this line of the file.
@@ -168,7 +168,7 @@ print(record["version"], places)
 found = [it for it in places if it["artifactLocation"]["uri"].endswith("/" + name) and it["region"]["startLine"] == line]
 sys.exit(record["version"] != "2.1.0" or len(found) != count)
 END
-    told "$1" $?
+    record_status "$1" $?
 }
 
 # A build's test of sharing.
@@ -211,7 +211,7 @@ claim_worst() {
             kt_for | ck_anderson) ((one > ten)) ;;
             *) ((0 < one && one < ten)) ;;
         esac
-        told "turns: of $it, $one useless misses with one step and $ten with ten" $?
+        record_status "turns: of $it, $one useless misses with one step and $ten with ten" $?
     done
 }
 
@@ -230,7 +230,7 @@ claim_checks() {
     built "checks: CMake builds them" cmake --build ctest
     built "checks: TinyXML-2 and pugixml by ctest" ctest --test-dir ctest -E kt_for
     grep -q -F "tests passed, 0 tests failed out of 2" said
-    told "checks: ctest ran both" $?
+    record_status "checks: ctest ran both" $?
     refused "checks: kt_for by ctest is above 100" "kt_for_sharing (Failed)" ctest --test-dir ctest -R kt_for
 }
 
@@ -308,7 +308,7 @@ claim_configure() {
     ran "configure: liburcu's test_rwlock" urcu/tests/benchmark/test_rwlock 0 "SUMMARY" -- 4 1 1
     ran "configure: liburcu's test_mutex" urcu/tests/benchmark/test_mutex 0 "SUMMARY" -- 4 1 1
     xz_all
-    ran "make: xzdec tells its version" "$made/src/xzdec/xzdec" 0 "xzdec (XZ Utils)" -- --version
+    ran "make: xzdec prints its version" "$made/src/xzdec/xzdec" 0 "xzdec (XZ Utils)" -- --version
     # (xz makes a pipe before it looks at its words)
     ran "make: xz is refused as it runs" "$made/src/xz/xz" 134 "can't be had: there is one process, and no other" -- --version
 }
@@ -323,5 +323,5 @@ claim_cmake() {
         built "CMake: $it is built" cmake --build "cmake-$it"
     done
     [ -f "$studies/zstd/lib/libzstd.a" ]
-    told "CMake: zstd's library, by build.sh" $?
+    record_status "CMake: zstd's library, by build.sh" $?
 }

@@ -5,15 +5,15 @@
 # shellcheck disable=SC2154,SC2086,SC2206,SC2046
 
 claim_harts() {
-    local told="pthread_create: each of the 8 harts is in use, so there is none for another thread: the settings may have more, as harts = 16"
+    local advice="pthread_create: each of the 8 harts is in use, so there is none for another thread: the settings may have more, as harts = 16"
     built "harts: kt_for with nine threads is built" "$cc" $lines -DTHREADS=9 -I "$fetched/minimap2" "$fetched/minimap2/kthread.c" \
         "$here/kt_for.c" -o kt_for-9.elf
-    ran "harts: kt_for says at once what would help" kt_for-9.elf 0 "$told"
+    ran "harts: kt_for says at once what would help" kt_for-9.elf 0 "$advice"
     said "harts: and so does the line behind its report" "predator: the last thread could not start: all 8 harts are in use .*"
     MORE="harts = 16" ran "harts: kt_for with that" kt_for-9.elf 0 ""
     ! grep -q pthread_create put
-    told "harts: nothing is told then" $?
-    ran "harts: liburcu's qsbr says at once what would help" "$studies/urcu_qsbr.elf" 1 "$told" -- 8 1 1
+    record_status "harts: no advice then" $?
+    ran "harts: liburcu's qsbr says at once what would help" "$studies/urcu_qsbr.elf" 1 "$advice" -- 8 1 1
     said "harts: and so does the line behind liburcu's report" "predator: the last thread could not start: all 8 harts are in use .*"
     MORE="harts = 16" ran "harts: liburcu's qsbr with that" "$studies/urcu_qsbr.elf" 0 "nr_readers   8" -- 8 1 1
 }
@@ -29,12 +29,12 @@ claim_clock() {
     cp put first
     ran "clock: liburcu's benchmark once more" "$studies/urcu_qsbr.elf" 0 "" -- 2 1 1
     cmp put first >said 2>&1
-    told "clock: it counts the same in its second" $?
+    record_status "clock: it counts the same in its second" $?
     ran "clock: liblzma once more" xz-timed.elf 0 ""
     cp put first
     ran "clock: liblzma a third time" xz-timed.elf 0 ""
     cmp put first >said 2>&1
-    told "clock: it takes as many turns" $?
+    record_status "clock: it takes as many turns" $?
 }
 
 # late WHAT FUNCTION LEAST MOST SOURCE WORD ..: how many steps more it takes where the first call of the function is late by 200,000 steps,
@@ -51,7 +51,7 @@ late() {
     more=$((steps[1] - steps[0]))
     echo "$more steps more" >said
     ((least <= more && more <= most))
-    told "$what: $more steps more" $?
+    record_status "$what: $more steps more" $?
 }
 
 # Who waits makes no step: the run is longer by what was late, whoever waits for it, but for some steps by which turns are other ones. With a
@@ -101,7 +101,7 @@ claim_barriers() {
     glibc barriers sysdeps/pthread/tst-{barrier3,barrier4}
     valgrind barriers helgrind/tests/bar_trivial "x = 2"
     valgrind barriers drd/tests/pth_barrier_thr_cr "Done."
-    # (who is told that a round is over destroys the barrier at once; valgrind's sleeps before that)
+    # (the thread that ends a round destroys the barrier at once; valgrind's sleeps before that)
     local more=("$here/claims/ended.c" -Wl,--wrap=pthread_barrier_destroy,--wrap=pthread_create,--wrap=predator_wait)
     built "barriers: glibc's tst-barrier4, whose barriers end, is built" "$cc" $lines "${glibc_words[@]}" "$glibc/sysdeps/pthread/tst-barrier4.c" \
         glibc.a "${more[@]}" -o ended.elf
@@ -171,7 +171,7 @@ claim_processors() {
     MORE="harts = 12" ran "processors: gnulib's nproc by a set" nproc-set.elf 0 "12 harts"
     xz_all
     grep -q "define TUKLIB_CPUCORES_SCHED_GETAFFINITY 1" xz-configure/config.h
-    told "processors: xz's configure finds sets of harts" $?
+    record_status "processors: xz's configure finds sets of harts" $?
     built "processors: liblzma's count is built" "$cc" $lines -I "$fetched/xz/src/liblzma/api" "$here/claims/harts.c" \
         xz-configure/src/liblzma/.libs/liblzma.a -o cputhreads.elf
     MORE="harts = 12" ran "processors: liblzma's count" cputhreads.elf 0 "12 harts"
@@ -206,7 +206,7 @@ counts = [seen.count((at, is_write)) for at in (0, 4) for is_write in (False, Tr
 print(times, counts)
 sys.exit(times == 0 or counts[:3] != [times // 2, times, times // 2 * 3] or len(seen) != sum(counts))
 END
-    told "$what: reads and writes of its mutex" $?
+    record_status "$what: reads and writes of its mutex" $?
 }
 
 # What a report sees of a mutex that nobody else wants.

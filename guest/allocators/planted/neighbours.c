@@ -1,0 +1,3 @@
+// Neighbouring small blocks go to different threads.
+#define NEIGHBOURS
+#include "pools.c"
