@@ -33,11 +33,14 @@ from view.reading.recording import record_program, keep_run_trace  # noqa: E402
 from view.reading.reports import Report, Symbol  # noqa: E402
 from view.output.screen import Paint, counted, screen, width_of_screen  # noqa: E402
 from view.names.source_lines import Sources  # noqa: E402
+from view.model.explained_lines import explain  # noqa: E402
+from view.model.fine_grain import begin_fine_run  # noqa: E402
 from view.model.miss_rates import Worth  # noqa: E402
 
 if TYPE_CHECKING:
     from view.names.fields import Program
     from view.names.native import NativeProgram
+    from view.model.trace_uses import UsesFuture
 
 ABOVE, ENDED = 1, 3
 
@@ -158,14 +161,31 @@ def check_seen(view: View) -> None:
         check_name(name, view.naming)
 
 
-def trial_of(view: View, predator: Predator | None) -> Callable[[list[DataObject]], None] | None:
+def read_ahead(view: View, predator: Predator | None) -> "UsesFuture":
+    """Begins to read who uses which words of the trace."""
+    from view.model.trace_uses import begin_reading
+
+    return begin_reading(view, predator)
+
+
+def count_bytes(view: View, predator: Predator | None, reading: "UsesFuture") -> None:
+    """Has the misses of lines counted by bytes where threads use different bytes of words."""
+    from view.model.byte_sharing import count_mixed_lines
+    from view.model.trace_uses import read_uses_once
+
+    count_mixed_lines(view, predator, read_uses_once(view, predator, reading))
+
+
+def trial_of(
+    view: View, predator: Predator | None, reading: "UsesFuture"
+) -> Callable[[list[DataObject]], None] | None:
     """What tries the repairs of some objects once their misses are counted, or none where no type is known."""
     program = view.naming.program
     if program is None or program.dwarf is None:
         return None
-    from view.repairs.trials import begin_reading, try_objects
+    from view.repairs.trials import try_objects
 
-    return functools.partial(try_objects, view, predator, reading=begin_reading(view, predator))
+    return functools.partial(try_objects, view, predator, reading=reading)
 
 
 def look(call: Call) -> View:
@@ -196,8 +216,11 @@ def found(call: Call, predator: Predator | None, passes: Passes | None) -> View:
     memory = stack_memory(call, predator, native_of(program))
     view = View(call, report, Naming(report, program, sources, call.options["type"], memory))
     view.worth = Worth(view, miss_rates.begin_count(call, predator, (report.size, report.offset)))
-    trial = trial_of(view, predator)
+    reading = read_ahead(view, predator)
+    fine = begin_fine_run(call, report.accesses, lambda own, quiet: found(own, quiet, None))
+    trial = trial_of(view, predator, reading)
     view.count_misses(predator, passes)
+    count_bytes(view, predator, reading)
     view.look_for_overflow(predator)
     if report.outcome in ("deadlock", "budget"):
         from view.model.waiting_harts import note_waiting
@@ -206,14 +229,13 @@ def found(call: Call, predator: Predator | None, passes: Passes | None) -> View:
     view.group_by_objects()
     check_seen(view)
     first = view.listed_objects()[: call.number_option("top", TOP)]
-    view.explain(predator, first)
+    explain(view, predator, first)
     first = view.listed_objects()[: call.number_option("top", TOP)]
     if trial:
         trial(first)
-        view.rank_by_trials(first)
-        first = view.listed_objects()[: len(first)]
     view.place_objects(predator, first)
     view.note_unmatched_options()
+    view.fine = fine.result() if fine else None
     return view
 
 
@@ -244,6 +266,9 @@ def status_of(view: View) -> int:
         return ENDED
     if view.missing_harts:
         say(view.missing_harts)
+        return ENDED
+    if not view.report.accesses:
+        say("nothing was recorded, so there is nothing to test")
         return ENDED
     return ABOVE if is_above(view) else 0
 
@@ -312,7 +337,12 @@ def outputs(view: View) -> None:
     if "html" in options:
         from view.output.page import page
 
-        write(options["html"], page(view))
+        text = page(view)
+        if "live" in options:
+            from view.output.page_app import add_app
+
+            text = add_app(text, view.call)
+        write(options["html"], text)
 
 
 def show(call: Call) -> int:
@@ -351,15 +381,28 @@ def tell(view: View, old: comparison.Before | None) -> None:
     if old is not None:
         for row in comparison.compare_views(view, old, view.call.options["against"]):
             print(row)
+    if "perf" in view.call.options:
+        from view.reading.perf_samples import perf_rows
+
+        print(*perf_rows(view, view.call.options["perf"]), sep="\n")
 
 
 def main(words: list[str]) -> int:
     # (millions of lines live as long as the call, and none goes round in a ring)
     gc.disable()
+    # (Python has no stream for a file that was closed when the program began)
+    output: object = sys.stdout
+    if output is None:
+        say("standard output is closed")
+        return 2
     for stream in (sys.stdout, sys.stderr):
         if isinstance(stream, io.TextIOWrapper):
             stream.reconfigure(errors="backslashreplace")
     try:
+        if words[:1] == ["--page-app"]:
+            from view.output.page_app import write_app
+
+            return write_app(words[1:])
         call = Call(words)
         if "help" in call.options:
             print(HELP)

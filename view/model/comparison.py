@@ -150,8 +150,30 @@ def pair_objects(old: Sequence[Record], new: Sequence[Record]) -> Iterator[Pair]
     for at, own in enumerate((old, new)):
         for obj in own:
             groups.setdefault(re.sub(r" #\d+$", "", obj["key"]), ([], []))[at].append(obj)
-    for before, after in groups.values():
-        yield from match_same(before, after)
+    pairs = [it for before, after in groups.values() for it in match_same(before, after)]
+    yield from match_types(pairs)
+
+
+def match_types(pairs: Sequence[Pair]) -> Iterator[Pair]:
+    """The pairs, and objects without the other one as a pair where they alone have a type: a repair may change their name."""
+    gone: dict[str, list[Record]] = {}
+    new: dict[str, list[Record]] = {}
+    for before, after in pairs:
+        alone, found = (gone, before) if after is None else (new, after)
+        if found and (before is None or after is None) and found.get("type"):
+            alone.setdefault(found["type"], []).append(found)
+    joined = {
+        type_name: (own[0], new[type_name][0])
+        for type_name, own in gone.items()
+        if len(own) == len(new.get(type_name, [])) == 1
+    }
+    yield from joined.values()
+    known = {id(it) for pair in joined.values() for it in pair}
+    yield from (
+        (before, after)
+        for before, after in pairs
+        if id(before if after is None else after) not in known
+    )
 
 
 def column(number: int | None) -> str:
@@ -172,12 +194,27 @@ class Row(NamedTuple):
         return not any(it for own in self.numbers for it in own)
 
 
-def row(before: Record | None, after: Record | None, names: Sequence[str]) -> Row:
-    """What became of an object."""
+def holders(name: str, objects: Sequence[Record]) -> list[str]:
+    """The objects that have a field of a name."""
+    field = re.compile(rf"[.]{re.escape(name)}(?![\w])")
+    return [
+        it["name"] for it in objects if any(field.search(word["field"]) for word in it["words"])
+    ]
+
+
+def row(
+    before: Record | None,
+    after: Record | None,
+    names: Sequence[str],
+    objects: Sequence[Record] = (),
+) -> Row:
+    """What became of an object; `objects` are all of now."""
     numbers = [(before[it] if before else None, after[it] if after else None) for it in names]
     name = (after or before or {})["name"]
     if before is None or after is None:
-        return Row(numbers, f"{name} ({'gone' if before else 'new'})")
+        moved = holders(name, objects) if before else []
+        where = f"moved to {listing(moved)}" if moved else "gone" if before else "new"
+        return Row(numbers, f"{name} ({where})")
     return Row(numbers, name + describe_move(before, after))
 
 
@@ -223,7 +260,10 @@ def compare_views(view: View, old: Before, path: str) -> Iterator[str]:
     yield plain(f"against {path}:")
     if old.outcome != view.report.outcome:
         yield plain(f"the outcome was {old.outcome} and is {view.report.outcome}")
-    rows = [row(before, after, names) for before, after in pair_objects(olds, new["objects"])]
+    rows = [
+        row(before, after, names, new["objects"])
+        for before, after in pair_objects(olds, new["objects"])
+    ]
     rows = sorted(
         (it for it in rows if not it.is_empty()), key=lambda row: (-row.weight(), row.text)
     )

@@ -4,7 +4,7 @@ import re
 from typing import Sequence
 
 from view.model.object_keys import FileKey
-from view.names.naming import BEGINNINGS, THREAD_LOCALS, Naming
+from view.names.naming import BEGINNINGS, KIT, THREAD_LOCALS, Naming
 from view.model.objects import DataObject
 from view.reading.reports import Block, Site, Symbol
 
@@ -12,8 +12,7 @@ from view.reading.reports import Block, Site, Symbol
 LIBRARIES = re.compile(
     r"(?:^|/)(?:lib(?:c|m|dl|rt|pthread|resolv|gcc_s)[.-][^/]*|ld-linux[^/]*|vgpreload_[^/]*)$|^\["
 )
-# Sources of the kit for guests, and names that are kept for a C library.
-KIT = re.compile(r"(?:^|/)guest/(?:(?:calls|library|pthread)\.c|start\.S|clib/[^/]*)$")
+# Names that are kept for a C library.
 RESERVED = re.compile(r"__|_[A-Z]")
 
 

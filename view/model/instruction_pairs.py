@@ -9,7 +9,7 @@ import struct
 import subprocess
 from typing import TYPE_CHECKING, Iterable, Mapping, NamedTuple, Sequence
 
-from view.reading.reports import InstructionPair, Word
+from view.reading.reports import InstructionPair
 
 if TYPE_CHECKING:
     from view.names.fields import Program
@@ -18,9 +18,6 @@ if TYPE_CHECKING:
 # The kinds of invalidations: by an atomic instruction, which waits for the line; of a line that the victim reads, or that is read to be
 # written, so that a load waits; by a write after a write, for which a store buffer waits; and those whose instructions aren't known.
 ATOMIC, LOAD, STORE, UNKNOWN = KINDS = ("atomic", "load", "store", "unknown")
-# An invalidation for which no instruction waits counts as one part in so many of another; with fewer reads than one for so many writes a
-# line is hardly read.
-HIDDEN_COST_DIVISOR = 10
 # A function is looked through from its start up to an instruction that lies so far in it; functions so near to each other in one call.
 FAR, NEAR = 1 << 16, 1 << 12
 # No instruction has more bytes. (Of one with a prefix llvm-objdump shows the prefix alone where it is to stop behind that.)
@@ -246,8 +243,8 @@ def count_kinds(
     return found
 
 
-def describe_kinds(kinds: Mapping[str, int], is_read: bool = True) -> str:
-    """The same in words, or nothing where no instruction is known; `is_read` says whether threads read the line."""
+def describe_kinds(kinds: Mapping[str, int]) -> str:
+    """The same in words, or nothing where no instruction is known."""
     if sum(kinds.values()) == kinds.get(UNKNOWN, 0):
         return ""
     own = (
@@ -256,25 +253,4 @@ def describe_kinds(kinds: Mapping[str, int], is_read: bool = True) -> str:
         (kinds[ATOMIC], "by atomic instructions"),
         (kinds[UNKNOWN], "by unknown instructions"),
     )
-    hidden = (
-        ""
-        if is_read or kinds[STORE] * 2 < sum(kinds.values())
-        else "; the line is hardly read, so store buffers hide most of them"
-    )
-    return ", ".join(f"{count:,} {what}" for count, what in own if count) + hidden
-
-
-def cost_weight(kinds: Mapping[str, int], is_read: bool) -> float:
-    """How much invalidations cost, as a part of as many for which an instruction waits: on a line that is read a later load waits."""
-    total = sum(kinds.values())
-    return (
-        (total - kinds[STORE] + kinds[STORE] / HIDDEN_COST_DIVISOR) / total
-        if total and not is_read
-        else 1.0
-    )
-
-
-def is_read(words: Iterable[Word]) -> bool:
-    """Whether a line is loaded from more than seldom, by its words."""
-    reads, writes = (sum(it) for it in zip((0, 0), *((it.reads, it.writes) for it in words)))
-    return reads * HIDDEN_COST_DIVISOR > writes
+    return ", ".join(f"{count:,} {what}" for count, what in own if count)

@@ -4,7 +4,17 @@ program counts. docs/VIEW.md says when it holds."""
 import concurrent.futures
 from typing import TYPE_CHECKING, NamedTuple, Optional, Sequence, cast
 
-from view.model.rate_bands import BANDS, LATENCY, STEP, Band, at_most, band_of
+from view.model.rate_bands import (
+    BANDS,
+    LATENCY,
+    NOT_WORTH,
+    STEP,
+    WORTH,
+    Band,
+    at_most,
+    band_of,
+    is_worth,
+)
 from view.reading.calls import Call, option_width
 from view.model.object_keys import Key
 from view.names.naming import Naming
@@ -134,15 +144,18 @@ class Worth:
         of = self.view.report.steps or self.view.report.accesses
         return 1000 * useless / of if of and self.view.misses else None
 
+    def is_of_study(self) -> bool:
+        """Whether the interleaving is that of the studies, or isn't known."""
+        call = self.view.call
+        if call.recorded_quantum is not None:
+            return call.recorded_quantum == USUAL
+        _, quantum, is_plain = settings_of(call)
+        return call.action != "run" or is_plain and quantum == USUAL
+
     def band(self, useless: int) -> Band | None:
         """The band of so many false-sharing misses, or none where the studies have no such interleaving."""
-        rate, (_, quantum, is_plain) = self.rate(useless), settings_of(self.view.call)
-        if (
-            rate is None
-            or self.unit() != "instructions"
-            or self.view.call.action == "run"
-            and not (is_plain and quantum == USUAL)
-        ):
+        rate = self.rate(useless)
+        if rate is None or self.unit() != "instructions" or not self.is_of_study():
             return None
         return BANDS[band_of(rate)]
 
@@ -159,28 +172,34 @@ class Worth:
         )
 
     def total(self) -> str:
-        """The rate of the whole run and its severity, or nothing."""
-        useless = self.view.misses.total["useless"] if self.view.misses else 0
-        rate, band = self.rate(useless), self.band(useless)
-        if rate is None or not useless:
+        """The rate of the whole run, its severity, and whether padding such programs pays; or nothing."""
+        total = self.view.misses.total if self.view.misses else {"useless": 0, "useful": 0}
+        rate, band = self.rate(total["useless"]), self.band(total["useless"])
+        if rate is None or not total["useless"]:
             return ""
         text = f"{rate:.2f} false per 1,000 {self.unit()}"
-        if band is None:
+        if not self.is_of_study():
+            return f"{text} (no time is estimated: the studies have quantum {USUAL})"
+        is_known = self.view.call.action == "run" or self.view.call.recorded_quantum is not None
+        if not is_known and band is None:
             return text
         # (a trace doesn't say at what quantum it was recorded)
-        when = "" if self.view.call.action == "run" else f" if recorded at quantum {USUAL}"
-        return f"{text} ({band.severity}{when}: {band.told})"
+        when = "" if is_known else f"if recorded at quantum {USUAL}"
+        pays = WORTH if is_worth(rate, total["useless"], total["useful"]) else NOT_WORTH
+        severity = " ".join(filter(None, (band.severity if band else "", when)))
+        return f"{text} ({severity + ': ' if severity else ''}{pays})"
 
     def warning(self, thing: DataObject, words: Sequence[WordUse]) -> str:
-        """That padding may not pay, where a fix is named and most misses of the object's worst line are true sharing; or nothing."""
+        """That padding may not pay: where a repair leaves mostly true sharing, or where none was counted and most misses of the object's
+        worst line are true sharing; or nothing."""
         missed, tried = thing.worst_line().missed, self.view.decisive_trial(thing)
-        if (
-            missed is None
-            or not thing.useless
-            or missed.useful <= missed.useless
-            or tried
-            and not tried.is_saving()
-        ):
+        if tried:
+            after = tried.after if tried.is_saving() else None
+            left = after.total["useful"] if after else 0
+            if after is None or 2 * left <= after.all_misses() or left < tried.saved_misses():
+                return ""
+            return "; the time may not fall: most misses that stay are true sharing"
+        if missed is None or not thing.useless or missed.useful <= missed.useless:
             return ""
         return f"; may not pay: most misses on its worst line are true sharing{self.after(thing, words)}"
 

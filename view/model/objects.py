@@ -1,4 +1,4 @@
-"""Puts the lines of a report together by the objects that are fought over, the worst first.
+"""Groups the lines of a report by their contended objects, the worst first.
 
 A line's numbers are told once: under the object that most of the line's accesses went to. The others on it are told beside it."""
 
@@ -61,17 +61,17 @@ Shares = dict[Key, tuple[Holder, float]]
 
 
 class DataObject:
-    """An object that is fought over: a variable, the blocks of a call site, or memory without an object."""
+    """A contended object: a variable, the blocks of a call site, or memory without an object."""
 
     def __init__(self, key: Key, example: Holder) -> None:
         # (the note is shown behind the name, where an object has a row of its own)
         self.key, self.example, self.name, self.note = key, example, "", ""
+        # (of a stack the variables that other threads likely use)
+        self.likely = ""
         self.lines: list[ObjectLine] = []
         self.block_ids: set[int] = set()
         self.neighbours: Counter[Key] = Counter()
         self.useless = self.useful = self.cold = self.count = 0
-        # (how many misses its words would save, each on a line of its own)
-        self.savable_misses = 0
         self.cached_worst_lines: list[ObjectLine] = []
 
     def add(self, spot: ObjectLine) -> None:
@@ -83,8 +83,9 @@ class DataObject:
             self.useful += spot.missed.useful
             self.cold += spot.missed.cold
 
-    def rank(self) -> tuple[int, int, int, int, int]:
-        return -self.savable_misses, -self.useless, -self.useful, -self.count, self.lines[0].base
+    def rank(self) -> tuple[int, int, int, int]:
+        """Its place among others: by the numbers that its row shows."""
+        return -self.useless, -self.useful, -self.count, self.lines[0].base
 
     def worst_lines(self) -> list[ObjectLine]:
         """Its first lines, at most so many as are looked at, the worst first."""
@@ -173,7 +174,7 @@ def contending_objects(
     naming: Naming,
     keys: Sequence[Key] | None = None,
 ) -> Shares:
-    """The keys of the objects that are fought over on a line, each with an object of it and its share of the accesses. Where the keys of
+    """The keys of the contended objects on a line, each with an object of it and its share of the accesses. Where the keys of
     the things are given, and are one, its share isn't looked for."""
     is_one = keys is not None and len({*keys}) < 2
     keys = [object_key(it, naming, 0) for it in things] if keys is None else keys
@@ -342,5 +343,6 @@ def word_uses(spot: ObjectLine, naming: Naming, by_word: Misses | None = None) -
 
 
 def worst_word(words: list[WordUse]) -> WordUse | None:
-    """The word that is written most, or else read most."""
-    return max(words, key=lambda word: (word.writes, word.reads, -word.addr)) if words else None
+    """The word that is written most, or none where none is written."""
+    written = [it for it in words if it.writes]
+    return max(written, key=lambda word: (word.writes, word.reads, -word.addr)) if written else None

@@ -17,8 +17,8 @@ BLOCK_ALIGNMENT_BYTES = 16
 
 
 class PredictedLine(NamedTuple):
-    """A predicted line, its objects by their keys, its useless misses, those of the observed lines that it meets, and whether it is
-    shown."""
+    """A predicted line: its objects by their keys, its false-sharing misses, those of the observed lines that it meets, and whether
+    it is shown."""
 
     line: Line
     keys: dict[Key, Symbol | Block]
@@ -88,7 +88,7 @@ def can_begin_there(line: Line, naming: Naming) -> bool:
 
 
 def observed_false_sharing(lines: Iterable[LineRange], misses: Misses) -> int:
-    """The useless misses of the observed lines that some predicted ones meet, each once."""
+    """The false-sharing misses of the observed lines that some predicted ones meet, each line once."""
     met: set[int] = set()
     for line in lines:
         first = (line.base - misses.offset) // misses.size * misses.size + misses.offset

@@ -6,31 +6,23 @@ import functools
 import os
 import re
 from collections import Counter
-from typing import TYPE_CHECKING, Iterable, Sequence, cast
+from typing import TYPE_CHECKING, Iterable, Mapping, Sequence, cast
 
 from view.repairs import advice
 from view.reading.calls import EXPLAIN, Call
-from view.model.object_keys import Key, BlocksKey, MemoryKey, SymbolKey, key_order
-from view.model.instruction_pairs import (
-    MemoryEffect,
-    is_read,
-    count_kinds,
-    program_effects,
-    cost_weight,
+from view.model.object_keys import (
+    Key,
+    BlocksKey,
+    MemoryKey,
+    SymbolKey,
+    key_order,
 )
-from view.reading.file_kinds import has_pcs
+from view.model.instruction_pairs import MemoryEffect, count_kinds
 from view.model.foreign_objects import is_foreign
+from view.model.object_fixes import ObjectFixes
 from view.names.demangling import short_name
 from view.names.naming import Memory, Naming, address_text
-from view.model.objects import (
-    ObjectLine,
-    DataObject,
-    WordUse,
-    field_name_at,
-    group_lines,
-    word_uses,
-    worst_word,
-)
+from view.model.objects import DataObject, ObjectLine, WordUse, group_lines, word_uses, worst_word
 from view.model.stack_overflow import Overflow, last_bytes_of_file, last_bytes_of_run, find_overflow
 from view.reading.passes import Layout, Passes, first_readers, can_blame, is_brief
 from view.model.predicted_lines import PredictedLine, judge_predicted_lines, choose_layouts
@@ -38,7 +30,6 @@ from view.reading.engine import Predator, Refused, misses_reader, setting_value,
 from view.reading.reports import (
     Blame,
     Block,
-    Explanation,
     Line,
     Misses,
     InstructionPair,
@@ -47,13 +38,17 @@ from view.reading.reports import (
     Symbol,
     LineInvalidations,
 )
-from view.names.unnamed_memory import HEAP, name_by_instructions, go_runtime_keys, join_same_names
+from view.names.unnamed_memory import name_by_instructions, go_runtime_keys, join_same_names
 from view.model.miss_rates import Worth
 
 if TYPE_CHECKING:
+    from view.model.byte_sharing import SharingMisses
     from view.names.native import NativeProgram
+    from view.reading.trace_files import WordUses
     from view.repairs.trial_results import Trial
 
+# An object with fewer misses than one in so many accesses has no row, but for the first one.
+MIN_ACCESS_SHARE_DIVISOR = 1000
 # A miss takes about a hundred times as long as an access: those of one in so many take a hundredth of the time.
 RARE_MISS_DIVISOR = 10_000
 # The file and the line where something is declared or made.
@@ -107,6 +102,13 @@ class View:
         self.every_line: Report | None = None
         self.misses_by_layout: dict[Layout, Misses] = {}
         self.notes: list[str] = []
+        # Who uses which words of the trace, once that was read, or none.
+        self.word_uses: WordUses | None = None
+        self.has_read_uses = False
+        # The same program at a fine quantum, or none.
+        self.fine: View | None = None
+        # How many misses of a line are false sharing by bytes and true sharing by words.
+        self.byte_changes: dict[int, int] = {}
         self.blame: Blame | None = None
         self.invalidations_by_line: dict[int, LineInvalidations] = {}
         self.placements: dict[Key, Placement] = {}
@@ -173,6 +175,25 @@ class View:
             self.notes.append(
                 "the trace is long: fixes were tried on its first part, predicted lines weren't"
                 " counted; --words does both in full"
+            )
+
+    def note_bytes(self, counted: "Mapping[int, SharingMisses]") -> None:
+        """Takes the misses of some lines as they are by bytes. By words and by bytes a line has as many."""
+        if self.misses is None:
+            return
+        for base, own in counted.items():
+            line = self.misses.lines[base]
+            change = own.useless - line.useless
+            if change > 0 and own.useless + own.useful == line.useless + line.useful:
+                self.byte_changes[base] = change
+                line.useless, line.useful = own.useless, own.useful
+                self.misses.total["useless"] += change
+                self.misses.total["useful"] -= change
+        if self.byte_changes:
+            much = sum(self.byte_changes.values())
+            self.notes.append(
+                f"{much:,} of the false-sharing misses are so by bytes alone: threads use different"
+                " bytes of 4-byte words"
             )
 
     def predicted_layouts(self) -> list[Layout]:
@@ -273,57 +294,9 @@ class View:
                     self.objects_by_key[key].name = self.naming.object_name(key, example)
 
     def rank_objects(self) -> None:
-        """Puts the objects in order by the misses that lines of their own could save their words at most."""
-        needed: Counter[int] = Counter()
-        size, offset = self.report.size, self.report.offset
-        words = self.word_misses.lines if self.word_misses else {}
-        for addr, word in words.items():
-            # (two words that are missed as often are of one field, or brought by one load)
-            if addr % 8 != 4 or addr - 4 not in words or words[addr - 4].useful != word.useful:
-                needed[(addr - offset) // size * size + offset] += word.useful
-        for obj in self.objects if self.word_misses or self.blame else ():
-            missed = [
-                (spot.missed.useless, spot.missed.useful, spot.base)
-                for spot in obj.lines
-                if spot.missed
-            ]
-            if self.word_misses:
-                obj.savable_misses = sum(
-                    max(0, min(useless, useless + useful - needed[base]))
-                    for useless, useful, base in missed
-                )
-            else:
-                obj.savable_misses = sum(
-                    min(useless, self.false_sharing_invalidations(base))
-                    for useless, _, base in missed
-                    if useless
-                )
+        """Puts the objects in the order of the numbers that their rows show."""
         self.objects.sort(key=DataObject.rank)
         self.foreign_keys = {it.key for it in self.objects if is_foreign(it, self.naming)}
-
-    def false_sharing_invalidations(self, base: int) -> int:
-        """How often a line is taken for another word than the one for which it was there."""
-        found = self.blame.invalidations(base) if self.blame else None
-        return sum(it.times - it.same_word_times for it in found.pairs) if found else 0
-
-    def rank_by_trials(self, first: Sequence[DataObject]) -> None:
-        """Puts the first objects in order by the misses that their fixes saved on the trace."""
-        if self.trials is None:
-            return
-        places = {
-            it.key: at
-            for at, it in enumerate(sorted(first, key=lambda obj: -self.saved_misses(obj)))
-        }
-        self.objects.sort(key=lambda obj: places.get(obj.key, len(places)))
-
-    def saved_misses(self, thing: DataObject) -> int:
-        """How many misses the best repair of an object saves, as far as that was counted and whole words decide it."""
-        found = (self.trials or {}).get(thing.key)
-        return (
-            found.saved_misses()
-            if found is not None and found.after is not None and not found.mixed_words()
-            else thing.savable_misses
-        )
 
     def chosen_objects(self) -> list[DataObject]:
         """The objects that the call wants to see."""
@@ -403,9 +376,7 @@ class View:
             return ""
         lines = [
             frame.short()
-            for frame in self.naming.sources.frames(
-                self.naming.own_sites(thing.example.sites)[0].addr
-            )
+            for frame in self.naming.own_frames(self.naming.own_sites(thing.example.sites)[0].addr)
             if frame.short()
         ]
         return f", from {lines[-1]}" if len(lines) > 1 else ""
@@ -429,107 +400,10 @@ class View:
             | {it.partition(" made at ")[2].partition(" ")[0] for it in own}
         )
 
-    def explain(self, predator: Predator | None, things: Sequence[DataObject]) -> None:
-        """Explains the invalidations of the first objects' worst lines: by the trace, or by as many runs side by side."""
-        most = self.call.number_option("explain", EXPLAIN)
-        program, trace = self.call.program, self.call.trace_file()
-        if self.blame is not None:
-            found = (self.blame.invalidations(it.worst_line().base) for it in things)
-            self.invalidations_by_line = {it.base: it for it in found if it}
-        elif (
-            predator is not None
-            and most
-            and program is None
-            and trace
-            and has_pcs(trace)
-            and not predator.has_command("blame")
-        ):
-            self.notes.append(
-                "this predator has no command `blame`, so the conflicting instructions are unknown"
-            )
-        elif is_brief(self.call) and "explain" not in self.call.options:
-            self.notes.append(
-                "the trace is long and has no program counters: --explain N finds the instructions"
-                " of N objects, with a run each"
-            )
-        elif program is not None and predator is not None and most:
-            self.explain_by_runs(predator, program, things[:most])
-        shown = None if "words" in self.call.options else 8
-        self.naming.find_lines(
-            {
-                at
-                for it in self.invalidations_by_line.values()
-                for pair in it.pairs[:shown]
-                for at in pair[:2]
-            }
-        )
-        if self.naming.program is not None:
-            self.effects = program_effects(
-                self.naming.program,
-                {
-                    at
-                    for it in self.invalidations_by_line.values()
-                    for pair in it.pairs
-                    for at in pair[:2]
-                },
-            )
-            self.rank_by_cost()
-
-    def rank_by_cost(self) -> None:
-        """Puts the objects whose worst lines are explained in the order of what they save, where an invalidation for which no instruction
-        waits counts less."""
-        own = [
-            at
-            for at, it in enumerate(self.objects)
-            if it.worst_line().base in self.invalidations_by_line
-        ]
-        ranked = sorted(
-            (self.objects[at] for at in own),
-            key=lambda obj: (-obj.savable_misses * self.cost_weight(obj), obj.rank()),
-        )
-        for at, obj in zip(own, ranked):
-            self.objects[at] = obj
-
-    def cost_weight(self, thing: DataObject) -> float:
-        return cost_weight(self.invalidation_kinds(thing) or {}, self.is_read(thing))
-
-    def is_read(self, thing: DataObject) -> bool:
-        """Whether threads read an object's worst line, as far as its words are known."""
-        line = thing.worst_line().line_with_words()
-        return line is None or is_read(line.words())
-
     def invalidation_kinds(self, thing: DataObject) -> dict[str, int] | None:
         """How many invalidations of each kind an object's worst line has, or none where it isn't explained."""
         found = self.invalidations_by_line.get(thing.worst_line().base)
         return count_kinds(found.pairs, self.effects) if found else None
-
-    def explain_by_runs(
-        self, predator: Predator, program: str, things: Sequence[DataObject]
-    ) -> None:
-        spots = [spot for spot in (it.worst_line() for it in things) if spot.base >= 0]
-        if spots and not predator.has_command("explain"):
-            self.notes.append(
-                "this predator has no command `explain`, so the conflicting instructions are"
-                " unknown"
-            )
-            return
-        asked = functools.partial(self.explain_line, predator, program)
-        with concurrent.futures.ThreadPoolExecutor(max_workers=min(4, os.cpu_count() or 1)) as pool:
-            for spot, explained in zip(spots, pool.map(asked, spots)):
-                if isinstance(explained, Refused):
-                    self.notes.append(
-                        f"the conflicting instructions on line {spot.base:#010x} are unknown:"
-                        f" {explained}"
-                    )
-                elif explained.accesses == self.report.accesses and (
-                    spot.line is None or explained.count == spot.line.count
-                ):
-                    self.invalidations_by_line[spot.base] = explained.invalidations
-                else:
-                    self.notes.append(
-                        "the program with these settings makes another trace, so line"
-                        f" {spot.base:#010x} isn't explained"
-                    )
 
     def note_unmatched_options(self) -> None:
         """Notes options that matched nothing: a type for blocks that aren't contended, and a folder without a source of the program."""
@@ -569,25 +443,6 @@ class View:
                 f" ({advice.listing(map(os.path.basename, files))})"
             )
 
-    def explain_line(
-        self, predator: Predator, program: str, spot: ObjectLine
-    ) -> Explanation | Refused:
-        """The text of `explain` for a line, or its refusal."""
-        start, words = spot.line.start if spot.line else 0, self.call.settings_words()
-        try:
-            return predator.explain_line(
-                [
-                    program,
-                    f"{spot.base:#010x}",
-                    str(self.report.size),
-                    str(start),
-                    *words,
-                    *self.call.guest_words,
-                ]
-            )
-        except Refused as refused:
-            return refused
-
     def details(self, thing: DataObject) -> ObjectDetails:
         """What is shown of an object."""
         if thing.key not in self.details_by_key:
@@ -596,7 +451,8 @@ class View:
                 for spot in thing.worst_lines()
                 for word in word_uses(spot, self.naming, self.word_misses)
             ]
-            fix, tried = self.choose_fix(thing, words), self.trial_numbers(thing)
+            fixes = ObjectFixes(self)
+            fix, tried = fixes.choose(thing, words), fixes.numbers(thing)
             explained = self.invalidations_by_line.get(thing.worst_line().base)
             self.details_by_key[thing.key] = ObjectDetails(
                 thing, words, explained, fix, tried, self.declaration(thing)
@@ -640,9 +496,19 @@ class View:
 
     def is_minor(self, thing: DataObject) -> bool:
         """Whether an object behind the first one has hardly any misses, so that it has no row."""
-        if "object" in self.call.options or self.is_clean() or self.objects[0] is thing:
+        first = next(iter(self.chosen_first()), None)
+        if "object" in self.call.options or self.is_clean() or first is thing or not self.misses:
             return False
-        return (thing.useless + thing.useful) * advice.LITTLE < self.total()
+        own = thing.useless + thing.useful
+        return (
+            own * advice.LITTLE < self.total()
+            or own * MIN_ACCESS_SHARE_DIVISOR < self.report.accesses
+        )
+
+    def chosen_first(self) -> list[DataObject]:
+        """The object of the first row, where there is one."""
+        folded = {it.key for it in self.folded_objects()}
+        return [it for it in self.objects if it.key not in folded][:1]
 
     def total(self) -> int:
         """The misses that aren't cold."""
@@ -664,86 +530,14 @@ class View:
         found = (self.trials or {}).get(thing.key)
         return found if found is not None and found.is_decisive() else None
 
-    def choose_fix(self, thing: DataObject, words: list[WordUse]) -> str:
-        """The fix for an object."""
-        tried = self.decisive_trial(thing)
-        if tried:
-            mixed = [field_name_at(it, thing.example, self.naming) for it in tried.mixed_words()]
-            fix = tried.fix(list(dict.fromkeys(mixed)), self.quantum())
-            return fix + self.worth.warning(thing, words)
-        if self.is_little(thing):
-            return advice.little(thing, self.total())
-        if thing.name == HEAP:
-            return advice.of_allocator()
-        names = {key: self.label(self.objects_by_key[key]) for key in thing.neighbours}
-        todo = advice.sentence(
-            thing,
-            words,
-            names,
-            self.needed_alignment(thing),
-            self.misses is not None,
-            self.element_fix(thing),
-            self.quantum(),
-        )
-        placed = advice.placing(
-            self.placements.get(thing.key),
-            lambda addr: field_name_at(addr, thing.example, self.naming),
-            self.naming.memory.owner,
-        )
-        return todo + placed + self.worth.warning(thing, words)
-
-    def trial_numbers(self, thing: DataObject) -> str:
-        """The numbers of the trial of an object's repairs, or nothing."""
-        tried = self.decisive_trial(thing)
-        return tried.outcome(bool(tried.mixed_words())) if tried else ""
-
     def quantum(self) -> int:
         """The quantum of the run, or 0 where that isn't known."""
+        if self.call.recorded_quantum is not None:
+            return self.call.recorded_quantum
         words = self.call.settings_words()
         if self.call.action != "run" or any(it.startswith("--schedule") for it in words):
             return 0
         return setting_value(words, "quantum")
-
-    def needed_alignment(self, thing: DataObject) -> int:
-        """The alignment that keeps apart what is seen, and what is predicted of lines twice as long."""
-        sizes = [it.line.size for it in self.predicted if it.is_shown and thing.key in it.keys]
-        return max([self.report.size, *sizes])
-
-    def element_fix(self, thing: DataObject) -> advice.Element:
-        """A function that gives the code by which each element of an array in an object gets its own line, or nothing."""
-
-        def code_of(array: str) -> str:
-            if self.naming.program is None:
-                return ""
-            from view.names.fields import value_or_default
-
-            return value_or_default(lambda: of_array(array), "")
-
-        def of_array(array: str) -> str:
-            from view.names.fields import type_at_path, element_of
-            from view.repairs.layouts import Shape
-            from view.repairs.candidates import own_lines_code
-
-            program, is_block = self.naming.program, isinstance(thing.example, Block)
-            variable = (
-                program.variable(thing.example.addr)
-                if program and isinstance(thing.example, Symbol)
-                else None
-            )
-            whole = (
-                variable.type
-                if variable
-                else (
-                    self.naming.type_of_block(thing.example)
-                    if isinstance(thing.example, Block)
-                    else None
-                )
-            )
-            of = type_at_path(whole, array.removeprefix(thing.name)) if whole is not None else None
-            of = element_of(of) if element_of(of) is not None else (of if is_block else None)
-            return own_lines_code(Shape(of), self.needed_alignment(thing)) if of is not None else ""
-
-        return code_of
 
     def declaration(self, thing: DataObject) -> Declared | None:
         """The file and line where an object is declared or made, or none."""
@@ -758,7 +552,7 @@ class View:
                 else None
             )
         if isinstance(thing.example, Block) and thing.example.sites and self.naming.sources:
-            place = self.naming.sources.place(self.naming.own_sites(thing.example.sites)[0].addr)
+            place = self.naming.own_place(self.naming.own_sites(thing.example.sites)[0].addr)
             return (place.file, place.line) if place else None
         return None
 

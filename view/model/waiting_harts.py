@@ -8,9 +8,8 @@ from collections import deque
 from typing import Iterable, Iterator
 
 from view.reading.file_kinds import first_bytes, has_pcs
-from view.model.foreign_objects import KIT
 from view.model.view import View
-from view.names.naming import Naming
+from view.names.naming import KIT, Naming
 from view.reading.engine import REPORT_STATUSES, Predator, Refused, add_trace_option
 from view.reading.trace_files import END, HEADER, SIZES, SYMBOL, access_pieces
 

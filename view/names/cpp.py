@@ -1,6 +1,7 @@
-"""What stripped code of C and C++ refers to that its sources have too: a failed assertion hands its file, line and function on, a table of
-virtual functions tells a class, and texts stay as they are. So an instruction is told by what its function refers to, or else by what the
-functions refer to that called it."""
+"""Names for stripped code of C and C++, from what it refers to and its sources contain too.
+
+A failed assertion passes its file, line and function, a table of virtual functions identifies a class, and string literals stay as they
+are. An instruction gets the name of what its function refers to, or else of what the functions that called it refer to."""
 
 import bisect
 import functools
@@ -12,16 +13,16 @@ from view.names.cpp_assertions import Assertion, Assertions
 from view.names.function_ranges import Functions, Range
 from view.names.x86_image import LEA, Image, conditional_jumps, find_jumps, find_numbers
 
-# The strength of what a function refers to, the strongest first. An assertion of many functions, or of a header in several, is inlined.
+# The strength of a landmark, the strongest first. An assertion that many functions refer to, or several in a header, is inlined.
 ASSERTION, CLASS, TEXT, COMMON, MANY = 0, 1, 2, 3, 8
-# So many callers are named, of so many at most, and so many levels are gone up for them, through so many functions.
+# How many callers are named, of how many at most; how many levels up they are searched, through how many functions.
 NAMED, MOST, LEVELS, PASSED = 2, 16, 4, 400
-# A call site is the last byte of a call, which begins less than so many bytes before.
+# A call site is the last byte of a call instruction, which begins less than this many bytes before.
 CALL_SIZE = 8
-# Texts, and how many letters one has and how many are shown.
+# String literals: their pattern, the least number of letters, and how many characters are shown.
 PRINTED, LETTERS, SHOWN, CUT = re.compile(rb"[\x20-\x7e\t\n\r]{6,}"), 6, 60, ".."
 FORMAT = re.compile(r"%[-+ #0-9.*hjlqtzL]*[A-Za-z]")
-# Texts that name nothing: of C++'s own library, of digits, and that there is no memory.
+# Literals that name nothing: those of C++'s own library, digits, and messages about missing memory.
 EMPTY = re.compile(
     r"basic_string(?:_view)?::?|(?:vector|deque|list|array|bitset|(?:unordered_)?(?:map|set))::(?:_|at\b)|%s: __pos|cannot create std::"
     r"|/usr/include/|(?i:\W*(?:out of|not enough|insufficient|no|cannot allocate|virtual)? ?memory(?: exhausted)?\W*$|.*abcdef)"
@@ -29,7 +30,7 @@ EMPTY = re.compile(
 
 
 class Landmark(NamedTuple):
-    """What a function refers to, in words, how strong that is, by how many functions it is referred to, and whether it's a library's."""
+    """A thing that a function refers to: its strength, its description, how many functions refer to it, and whether a library owns it."""
 
     strength: int
     text: str
@@ -38,14 +39,14 @@ class Landmark(NamedTuple):
 
 
 class Landmarks(NamedTuple):
-    """What is told of an instruction: by its own function, or by those that called this, of which there may be more."""
+    """The landmarks of an instruction: its own function's or its callers', of which there may be more."""
 
     landmarks: tuple[Landmark, ...]
     is_called: bool = False
     more: int = 0
 
     def names_source(self) -> bool:
-        """Whether it tells something of the program, and not of a library."""
+        """Whether a landmark belongs to the program rather than a library."""
         return any(not it.is_library for it in self.landmarks)
 
     def text(self) -> str:
@@ -54,7 +55,7 @@ class Landmarks(NamedTuple):
 
 
 def shorten_text(text: str) -> str:
-    """A literal's first line that has letters, cut, or an empty text where it names nothing."""
+    """The first line with letters of a literal, cut to size; empty if it names nothing."""
     lines = (re.sub(r"^[\s:;,.\-]+|\s+$", "", it) for it in re.split(r"[\n\r\t]+", text))
     line = next(
         (it for it in lines if len(re.findall("[A-Za-z]", FORMAT.sub("", it))) >= LETTERS), ""
@@ -65,7 +66,7 @@ def shorten_text(text: str) -> str:
 
 
 class LandmarkFinder:
-    """The landmarks of a program or a library, of which some instructions ran."""
+    """Finds landmarks of a program or a library, some of whose instructions ran."""
 
     def __init__(self, path: str, ran: Iterable[int] = (), image: Image | None = None) -> None:
         self.image, self.executed_pcs = image or Image(path), sorted(ran)
@@ -73,7 +74,7 @@ class LandmarkFinder:
         self.functions = Functions(self.image, self.classes.owners)
 
     def texts_of(self, start: int, end: int) -> Iterator[int]:
-        """The addresses of texts that a part of a function refers to."""
+        """The addresses of literals that a part of a function refers to."""
         code = self.image.bytes(start, end - start)
         references = (
             *find_jumps(code, start, LEA),
@@ -85,7 +86,7 @@ class LandmarkFinder:
 
     @functools.cached_property
     def users(self) -> dict[int, set[int]]:
-        """The functions that refer to what is constant, by their numbers."""
+        """The functions that refer to each constant, by their numbers."""
         found: dict[int, set[int]] = {}
         for at, to in (*self.image.find_references(LEA), *self.image.number_loads):
             if self.image.is_constant(to):
@@ -93,8 +94,8 @@ class LandmarkFinder:
         return found
 
     def assertion_near(self, addr: int, parts: Sequence[Range]) -> Landmark | None:
-        """The assertion whose check is nearest to an instruction of a function, a library's or one of many functions only where there's no
-        other, or none."""
+        """The assertion of a function whose check is nearest to an instruction. A library's, or one of many functions, counts only without
+        another."""
         made: list[tuple[bool, bool, int, Assertion]] = []
         found = [it for part in parts for it in self.assertions.of(*part)]
         jumps = (
@@ -102,7 +103,7 @@ class LandmarkFinder:
             if found
             else {}
         )
-        # (what an assertion's call takes is loaded without a jump)
+        # (the arguments of an assertion's call are loaded without a jump)
         loaded = {at for it in found for at in range(it.begin, it.at + CALL_SIZE)}
         for assertion in found:
             checks = [
@@ -129,7 +130,7 @@ class LandmarkFinder:
         )
 
     def users_of(self, assertion: Assertion) -> int:
-        """How many functions an assertion's own one is inlined in."""
+        """How many functions inline the function of an assertion."""
         return len(self.users.get(assertion.texts[0], ()))
 
     def class_of(self, start: int) -> Landmark | None:
@@ -147,7 +148,7 @@ class LandmarkFinder:
 
     @functools.cache
     def text_in(self, parts: tuple[Range, ...]) -> Landmark | None:
-        """The text of a function that the fewest others refer to, of these the longest, or none."""
+        """The literal of a function that the fewest other functions refer to; of these the longest."""
         asserted = {at for part in parts for it in self.assertions.of(*part) for at in it.texts}
         found: list[tuple[int, int, str]] = []
         for at in {at for part in parts for at in self.texts_of(*part)} - asserted:
@@ -161,7 +162,7 @@ class LandmarkFinder:
         return Landmark(TEXT, f'near the text "{shown}"', users)
 
     def own_landmark(self, addr: int, function: Range) -> Landmark | None:
-        """The strongest that an instruction's function has, or none."""
+        """The strongest landmark of an instruction's function."""
         parts = self.functions.parts(*function)
         assertion = self.assertion_near(addr, parts)
         if assertion and assertion.strength == ASSERTION and not assertion.is_library:
@@ -178,12 +179,12 @@ class LandmarkFinder:
         )
 
     def runs(self, low: int, high: int) -> bool:
-        """Whether an instruction from an address up to another one ran."""
+        """Whether an instruction in a range of addresses ran."""
         at = bisect.bisect_left(self.executed_pcs, low)
         return at < len(self.executed_pcs) and self.executed_pcs[at] < high
 
     def callers(self, start: int) -> Iterator[tuple[int, Range | None]]:
-        """The calls of a function that ran, with the functions that they are in. A jump writes nothing, so its function has to have run."""
+        """The calls of a function that ran, each with its function. A jump writes no return address, so its function must have run."""
         for at in self.functions.calls.get(start, ()):
             if self.runs(at, at + 1):
                 yield at, self.functions.function(at)
@@ -193,13 +194,13 @@ class LandmarkFinder:
                     yield at, function
 
     def callers_landmarks(self, start: int) -> Landmarks | None:
-        """What is told by the functions that called one, or none; functions between that have no landmark are passed."""
+        """The landmarks of the callers of a function; a caller without one is replaced by its own callers."""
         seen, level, lost = {start}, [start], 0
         found: dict[str, tuple[int, Landmark]] = {}
         for number in range(LEVELS):
             above: list[int] = []
             for callee in level if len(seen) <= PASSED else ():
-                # (what so many call is told by none of them)
+                # (none of so many callers identifies a function)
                 if len(found) + lost > MOST:
                     return None
                 calls = list(self.callers(callee))
@@ -222,10 +223,10 @@ class LandmarkFinder:
 
     @functools.cache
     def near(self, addr: int) -> Landmarks | None:
-        """What is told of an instruction, or none. (In Go texts don't end with a zero byte.)"""
+        """The landmarks of an instruction, if any. (Literals of Go don't end with a zero byte.)"""
         function = None if self.image.is_go else self.functions.function(addr)
         own = self.own_landmark(addr, function) if function else None
-        # (what ran before the recording began may have been called from elsewhere)
+        # (code that ran before the recording may have other callers)
         has_run = self.runs(addr - CALL_SIZE + 1, addr + 1)
         called = (
             self.callers_landmarks(function[0])

@@ -1,4 +1,4 @@
-"""The assertions of stripped code of C and C++: one that fails hands its text, file, line and function to `__assert_fail`."""
+"""The assertions in stripped code of C and C++: a failed one passes its text, file, line and function to `__assert_fail`."""
 
 import functools
 import os
@@ -9,18 +9,18 @@ from view.names.x86_image import CALL, THROUGH, Image, find_jumps
 from view.names.demangling import short_name
 
 FAILING = "__assert_fail"
-# What such a call takes is loaded in so many bytes before it.
+# The arguments of such a call are loaded within this many bytes before it.
 LOADED = 64
-# The instructions before the call: `lea` or `mov` of texts, `mov` of the line, and what makes room on the stack.
+# The instructions before the call: `lea` or `mov` of literals, `mov` of the line, and those that make room on the stack.
 LOADS = re.compile(
     rb"(?:\x48\x8d(?:\x0d(?P<function>.{4})|\x35(?P<file>.{4})|\x3d(?P<text>.{4}))|\xba(?P<line>.{4})|\xb9(?P<function_at>.{4})"
     rb"|\xbe(?P<file_at>.{4})|\xbf(?P<text_at>.{4})|[\x50-\x57]|\x41[\x50-\x57]|\x48\x83\xec.|\x66?\x90)+\Z",
     re.DOTALL,
 )
-# What is called may begin before the jump to another file: where calls are checked, and where the number of a symbol is loaded.
+# The called stub may begin before its jump: with a checked entry (endbr64), and with a load of the symbol's number.
 STUB, STUB_SIZE = re.compile(rb"\xf3\x0f\x1e\xfa(?:\x41\xbb.{4})?\xf2?\Z", re.DOTALL), 11
 SOURCE, NAME = re.compile(rb"[^\x00-\x1f\x7f]+\.[A-Za-z+]{1,4}"), re.compile(rb"[\x20-\x7e]+")
-# What is before the folder of a package's sources, as they were compiled.
+# The path before a package's source folder, as it was compiled.
 BUILT = re.compile(
     r"^/(?:.*?/)?(?:build|builddir|usr/src)/(?:reproducible-path/)?[^/]+/|^(?:\.\./)+"
 )
@@ -30,8 +30,8 @@ WITH = re.compile(r" \[(?:with )?(.*)\]$")
 
 
 class Assertion(NamedTuple):
-    """A place of a source that may fail: where code loads what its call takes, that call, the source's line and function, whose name is
-    empty where it isn't known, and where this and the other texts stand."""
+    """An assertion: where the arguments of its call are loaded, the call, its file, line and function (empty if unknown), and the
+    addresses of its literals."""
 
     begin: int
     at: int
@@ -52,12 +52,12 @@ class Assertion(NamedTuple):
 
 
 def path_in_package(file: str) -> str:
-    """A source from its package's folder on."""
+    """A source path without what precedes its package's folder."""
     return BUILT.sub("", os.path.normpath(file))
 
 
 def short_function_name(whole: str) -> str:
-    """A function as `__PRETTY_FUNCTION__` has it, short, with what its templates stand for."""
+    """A function's name from `__PRETTY_FUNCTION__`, short, with its template arguments filled in."""
     given = WITH.search(whole)
     name = whole[: given.start()] if given else whole
     for argument in given[1].split("; ") if given else ():
@@ -75,7 +75,7 @@ class Assertions:
 
     @functools.cached_property
     def failing(self) -> set[int]:
-        """What is called where one fails: the words with the function's address, and the jumps through these."""
+        """What a failed assertion calls: the words with the address of `__assert_fail`, and the jumps through them."""
         slots = self.image.slots(FAILING)
         jumps = (
             {
@@ -109,7 +109,7 @@ class Assertions:
         ]
 
     def assertion(self, at: int, loads: bytes) -> Assertion | None:
-        """The assertion that is called somewhere, by what is loaded before, or none."""
+        """The assertion of a call, from the arguments loaded before it."""
         match = LOADS.search(loads)
         if match is None or not match["line"]:
             return None
@@ -131,7 +131,7 @@ class Assertions:
         )
 
     def loaded_assertion(self, match: re.Match[bytes], begin: int, what: str) -> int:
-        """The address of a text that is loaded, or 0."""
+        """The address of a loaded literal, or 0."""
         if match[what]:
             return begin + match.end(what) + int.from_bytes(match[what], "little", signed=True)
         return int.from_bytes(match[what + "_at"] or b"", "little") if self.image.is_fixed else 0

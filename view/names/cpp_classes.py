@@ -1,5 +1,7 @@
-"""The classes whose virtual functions are in stripped code of C++. A table of virtual functions is behind the word that points to its
-class's typeinfo, and this to the class's name, as long as a program is built with RTTI."""
+"""The classes whose virtual functions are in stripped code of C++.
+
+The word before a table of virtual functions points to the typeinfo of its class, and the typeinfo to the class's name, unless the program
+is built without RTTI."""
 
 import functools
 import re
@@ -9,13 +11,13 @@ from view.names.x86_image import Image
 from view.names.demangling import LONG, bracket_depths, demangle, short_name
 
 NAME, SHOWN = re.compile(rb"\*?[A-Za-z0-9_.$]+"), "typeinfo name for "
-# Of so many classes that have a function in common, and no base of all among them, the first by name is told.
+# If at most this many classes share a function and none of them is a base of all, the first by name stands for them.
 FEW = 4
-# So many functions of a class without an end may be left out of its table: they are zero.
+# At most this many functions of an abstract class may be missing at the start of its table: they are zero.
 LEFT_OUT = 2
-# A typeinfo of a class with several bases has at most so many.
+# The most bases in the typeinfo of a class with several.
 MOST_BASES = 64
-# What is of a library that most programs take their threads or containers from, and of the language itself.
+# Names of the libraries from which most programs take threads and containers, and of the language itself.
 LIBRARY = re.compile(r"(?<![\w:])(?:std|__gnu_cxx|__cxxabiv1|tbb)::[\w:~]+|>::[\w:~]+")
 PLAIN = re.compile(
     r"\b(?:void|bool|w?char(?:\d*_t)?|short|int|long|float|double|unsigned|signed|const|volatile|true|false)\b|\d\w*"
@@ -38,7 +40,7 @@ class Classes:
 
     @functools.cache
     def mangled(self, info: int) -> str:
-        """The name of a class by its typeinfo, or an empty text where that is none."""
+        """The mangled name of a class, from its typeinfo; empty if the address has none."""
         name = self.words.get(info + 8)
         # (a typeinfo's first word points to the functions of its own class)
         if not name or info not in self.words or not self.image.is_constant(name):
@@ -51,7 +53,7 @@ class Classes:
         )
 
     def functions(self, addr: int) -> Iterator[int]:
-        """The functions of a table, but for those that another file has, and those at its beginning that are left out."""
+        """The functions of a table, without those of other files and those missing at its start."""
         left = LEFT_OUT
         while left and addr not in self.words and self.image.bytes(addr, 8) == bytes(8):
             addr, left = addr + 8, left - 1
@@ -74,7 +76,7 @@ class Classes:
 
     @functools.cache
     def with_bases(self, info: int) -> set[int]:
-        """A class and all that are bases of it."""
+        """A class and all of its bases."""
         found, left = {info}, [info]
         while left:
             new = [it for it in self.bases(left.pop()) if it not in found]
@@ -84,10 +86,10 @@ class Classes:
 
     @functools.cache
     def of(self, start: int) -> str:
-        """The class whose virtual function begins at an address, or an empty text."""
+        """The class whose virtual function begins at an address; empty if none does."""
         infos = list(self.owners.get(start, ()))
         common = set(infos).intersection(*map(self.with_bases, infos))
-        # (of a base and what it's derived from the latter has the function first)
+        # (of a class and the base that it inherits the function from, the base has it first)
         chosen = (
             [min(common, key=lambda info: (len(self.with_bases(info)), info))] if common else infos
         )
@@ -97,7 +99,7 @@ class Classes:
 
     @functools.cached_property
     def names(self) -> dict[int, str]:
-        """The names of all classes, which are told by one call."""
+        """The names of all classes, demangled by one call."""
         infos = list({it: None for own in self.owners.values() for it in own})
         names = demangle(["_ZTS" + self.mangled(it) for it in infos])
         return {
@@ -108,12 +110,12 @@ class Classes:
 
 
 def is_library(name: str) -> bool:
-    """Whether a class or a type is of a library or the language, with nothing of the program's in its name."""
+    """Whether a class or type belongs to a library or the language, and its name mentions nothing of the program."""
     return not re.search(r"\w", PLAIN.sub("", LIBRARY.sub("", name)))
 
 
 def template_arguments(name: str) -> list[str]:
-    """What is in the first angle brackets of a name."""
+    """The arguments in the first angle brackets of a name."""
     deep = bracket_depths(name)
     first = next((at for at, it in enumerate(name) if it == "<" and deep[at] == 0), None)
     if first is None:
@@ -129,7 +131,7 @@ def template_arguments(name: str) -> list[str]:
 
 
 def lambda_function(name: str) -> str:
-    """The function with the first lambda that a name has in its brackets, short, or an empty text."""
+    """The function of the first lambda among a name's template arguments, short; empty if there is none."""
     end = name.find(LAMBDA)
     deep = bracket_depths(name)
     if end < 0 or deep[end] == 0:
@@ -143,13 +145,13 @@ def lambda_function(name: str) -> str:
 
 
 def own_argument(name: str) -> str:
-    """Of what a template is made for the first that isn't a library's, whatever of a library's it's in, or an empty text."""
+    """The first template argument that is the program's own, also inside a library's template; empty if there is none."""
     own = next((it for it in template_arguments(name) if not is_library(it)), "")
     return own_argument(own) or own if LIBRARY.match(own) else own
 
 
 def short_class_name(name: str) -> str:
-    """A class's name as short as it still tells something: of a template that is made for a lambda or a class of the program, that too."""
+    """A class's short name; a template keeps the lambda or the class of the program that it is instantiated for."""
     outer = short_name(name.partition("<")[0]).rpartition("::")[2]
     inner = lambda_function(name)
     if inner:

@@ -324,6 +324,10 @@ class Program:
         self.types: dict[str, list[Die]] = {}
         self.pointers: dict[str, Die] = {}
         self.definitions: dict[str, Die] = {}
+        # (functions and variables outside of these, by name)
+        self.functions: dict[str, list[Die]] = {}
+        self.named_variables: dict[str, list[Die]] = {}
+        self.bodies: dict[int, str] | None = None
         self.thread_local_symbols: list[tuple[int, int, str]] | None = None
         try:
             with open(path, "rb") as file:
@@ -398,7 +402,11 @@ class Program:
                 yield from self.dwarf.iter_CUs()
 
     def note(self, die: Die) -> None:
+        if die.tag == "DW_TAG_subprogram" and die_name(die):
+            self.functions.setdefault(die_name(die), []).append(die)
         if die.tag == "DW_TAG_variable":
+            if die_name(die) and "DW_AT_type" in die.attributes:
+                self.named_variables.setdefault(die_name(die), []).append(die)
             at = self.address(die)
             if at is not None:
                 self.variables.setdefault(at, Variable(die))
@@ -427,7 +435,21 @@ class Program:
 
     def variable(self, addr: int) -> Variable | None:
         self.scan_variables()
-        return self.variables.get(addr)
+        return self.variables.get(addr) or self.body_variable(addr)
+
+    def body_variable(self, addr: int) -> Variable | None:
+        """What a compiler has made of the one block that a pointer points to: a variable `NAME.body`, or none."""
+        if self.bodies is None:
+            found = {at: name for (at, _), name in self.symbols().items()}
+            self.bodies = {at: name for at, name in found.items() if name.endswith(".body")}
+        pointers = self.named_variables.get(self.bodies.get(addr, "").removesuffix(".body"), [])
+        for die in pointers if addr in self.bodies else []:
+            kind = bare_type(type_of(die))
+            if kind is not None and kind.tag in POINTERS and size_of(type_of(kind)):
+                variable = Variable(die)
+                variable.type = type_of(kind)
+                return variable
+        return None
 
     def type_named(self, text: str) -> Die:
         """A type by its name, with or without `struct`, qualified or not, or that to which a pointer variable of this name points."""
@@ -438,6 +460,13 @@ class Program:
         if found is None:
             raise Fault(f"{self.path} has no type '{text}', and no pointer variable of that name")
         return found
+
+    def type_like(self, name: str) -> Die:
+        """The type of a qualified name as a demangler has it, which may differ in its arguments; or none."""
+        self.scan_variables()
+        several = self.types.get(last_name(name), [])
+        found = choose_type(several, name)
+        return several[0] if found is None and len(several) == 1 else found
 
     def named(self, *names: str) -> list[tuple[int, str]]:
         """The place and the text of each entry that has one of these names. (llvm-dwarfdump finds it among those of a large library at

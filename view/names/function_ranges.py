@@ -1,6 +1,7 @@
-"""Where functions of stripped code begin and end. The table for unwinding has it, and of exported functions the table of symbols. C and C++
-may be built without the first; then functions begin where they are called, or where their address is taken, as far as that looks like a
-beginning, and end where the next one begins: that is an inference."""
+"""The ranges of functions in stripped code.
+
+The unwind table contains them, and the symbol table those of exported functions. C and C++ may be built without an unwind table. Then a
+function is inferred to begin where a call or a taken address leads to, if that looks like a beginning, and to end where the next begins."""
 
 import bisect
 import functools
@@ -10,23 +11,23 @@ from typing import Iterable, Iterator
 
 from view.names.x86_image import CALL, FAR, JUMP, LEA, NEAR, SHORT, Image, find_jumps
 
-# Functions begin at multiples of this, unless they are made as small as can be.
+# Functions begin at multiples of this, unless they are compiled for size.
 ALIGNED = 16
-# What stands before a function that isn't aligned: the end of the one before, and what fills up; the longest of these.
+# The bytes before an unaligned function: the end of the one before, and padding; the longest of these.
 BEFORE = re.compile(
     rb"(?:\xc3|\x90|\xcc|\x0f\x1f(?:\x00|\x40\x00|\x44\x00\x00|\x80\x00{4}|\x84\x00{5}))\Z"
 )
 LONGEST_BEFORE = 8
-# The end of a function, or a call that doesn't come back, and what fills up behind it; the longest of these.
+# The end of a function, or a call that doesn't return, and the padding behind it; the longest of these.
 FILLED = re.compile(
     rb"(?:\xc3|\xe9.{4}|\xeb.|\xe8.{4}|\x0f\x0b|\xff[\xe0-\xe7]|\xf4)"
     rb"(?:\x90|\xcc|\x66\x90|(?:\x66*\x2e)?\x66?\x0f\x1f(?:\x00|\x40\x00|\x44\x00\x00|\x80\x00{4}|\x84\x00{5}))+\Z",
     re.DOTALL,
 )
 FILLED_SIZE = 24
-# No function that is inferred has more bytes.
+# The largest inferred function, in bytes.
 LARGEST = 1 << 17
-# A table of where a function goes on has at most so many distances.
+# The most distances in a jump table.
 DISTANCE, BRANCHES = struct.Struct("<i"), 512
 
 Range = tuple[int, int]
@@ -40,15 +41,15 @@ class Functions:
 
     @functools.cached_property
     def called_addresses(self) -> set[int]:
-        """The addresses that something is called at."""
+        """The targets of calls."""
         return {to for _, to in self.image.find_references(CALL)}
 
     def is_beginning(self, addr: int) -> bool:
-        """Whether a function may begin at an address that is called."""
+        """Whether a function may begin at the target of a call."""
         return addr % ALIGNED == 0 or self.is_behind(addr)
 
     def outside(self, starts: list[int]) -> Iterator[int]:
-        """Where jumps go that leave a function for an address that looks like a beginning."""
+        """The targets of jumps out of a function to an address that looks like a beginning."""
         for at, to in self.image.find_references(JUMP):
             if (
                 to % ALIGNED == 0
@@ -58,12 +59,12 @@ class Functions:
                 yield to
 
     def is_behind(self, addr: int) -> bool:
-        """Whether what is before an address ends a function, or fills up."""
+        """Whether the bytes before an address end a function or are padding."""
         return bool(BEFORE.search(self.image.bytes(addr - LONGEST_BEFORE, LONGEST_BEFORE)))
 
     @functools.cached_property
     def starts(self) -> list[int]:
-        """Where functions begin, as far as that is known or inferred."""
+        """The known and inferred beginnings of functions."""
         image = self.image
         sure = {*image.unwind_starts[0], *image.exported_functions, *self.known}
         maybe = {it for it in self.called_addresses if self.is_beginning(it)}
@@ -83,11 +84,11 @@ class Functions:
         return sorted(found)
 
     def bare(self, addrs: Iterable[int]) -> set[int]:
-        """Of some addresses those of code that the table for unwinding hasn't."""
+        """The addresses of code that the unwind table doesn't cover."""
         return {it for it in addrs if self.image.is_code(it) and self.image.function(it) is None}
 
     def function(self, addr: int) -> Range | None:
-        """Where the function of an instruction begins and ends, or none."""
+        """The range of an instruction's function."""
         known = self.image.function(addr)
         if known or not self.image.is_code(addr):
             return known
@@ -109,15 +110,15 @@ class Functions:
         )
 
     def split_range(self, start: int, end: int, addr: int) -> Range:
-        """What is around an instruction between two beginnings: a function that is never called may begin between these, behind what fills
-        up, and nothing there jumps to it."""
+        """The range of an instruction between two beginnings: a function that is never called may begin there behind padding, if no jump
+        in between leads to it."""
         begins = self.unreached_starts(start, end)
         at = bisect.bisect_right(begins, addr)
         return begins[at - 1] if at else start, begins[at] if at < len(begins) else end
 
     @functools.cache
     def unreached_starts(self, start: int, end: int) -> list[int]:
-        """Where functions may begin so between two beginnings."""
+        """The places between two beginnings where such a function may begin."""
         code = self.image.bytes(start, end - start)
         places = range((start // ALIGNED + 1) * ALIGNED, end, ALIGNED)
         found = [
@@ -138,7 +139,7 @@ class Functions:
         return [it for it in found if it not in reached]
 
     def branches(self, table: int, start: int, end: int) -> Iterator[int]:
-        """Where a function may go on by a table, which has the distances from there."""
+        """The targets of a jump table, whose entries are distances from the table."""
         for at in range(
             table,
             table + BRANCHES * DISTANCE.size if self.image.is_constant(table) else 0,
@@ -151,17 +152,17 @@ class Functions:
             yield to
 
     def number(self, addr: int) -> int:
-        """Which function an instruction is in, to tell functions apart."""
+        """The number of an instruction's function, which distinguishes functions."""
         return bisect.bisect_right(self.starts, addr)
 
     @functools.cached_property
     def calls(self) -> dict[int, list[int]]:
-        """From where each function is called, as far as that is known."""
+        """The known calls of each function."""
         return self.image.find_calls(self.starts)
 
     @functools.cache
     def parts(self, start: int, end: int) -> list[Range]:
-        """The parts of a function: what seldom runs stands apart, is jumped to and never called. It's told by the table for unwinding."""
+        """The parts of a function: code that seldom runs stands apart and is reached by jumps only. The unwind table contains it."""
         found = [(start, end)]
         for _, to in find_jumps(self.image.bytes(start, end - start), start, FAR):
             part = self.image.function(to) if not start <= to < end else None

@@ -1,5 +1,7 @@
-"""Functions and lines of programs of Go. Their runtime prints tracebacks by a table (`pclntab`) that stays in a stripped program too, and
-inlined functions by trees beside it. What is told is exact; what the table doesn't tell isn't told."""
+"""Functions and lines of Go programs, also stripped ones.
+
+Go's runtime prints tracebacks from a table (`pclntab`) that every program contains, and inlined functions from trees beside it. The names
+are exact; nothing is inferred where the table has no entry."""
 
 import bisect
 import contextlib
@@ -12,24 +14,24 @@ from typing import Iterator, NamedTuple, Sequence
 from view.names.x86_image import Image
 from view.names.source_lines import SourceLine
 
-# How a table's header begins behind the first byte of its magic number: addresses of code go by one byte, and have eight.
+# The header after the first byte of its magic number: code addresses are counted in bytes, and pointers have eight.
 HEAD = b"\xff\xff\xff\0\0\1\x08"
-# So many headers are looked at in a file, and so many words that point to one.
+# The most headers examined in a file, and the most words that point to one.
 HEADERS, POINTERS = 8, 64
-# A table has at most so many functions, and so many steps of its tables of values are taken.
+# The most functions of a table, and the most steps taken in its tables of values.
 FUNCTIONS, STEPS = 1 << 20, 1 << 21
-# A name has at most so many bytes, and inlined calls are within one another at most so often.
+# The most bytes of a name, and the deepest nesting of inlined calls.
 NAME, DEEP = 1 << 12, 256
-# What a function's record has of inlining: which table of values tells the inlined call, and which piece of data is the tree of calls.
+# Inlining in a function's record: the number of the table of inlined calls, and the number of the data that has their tree.
 INDEX, TREE = 2, 3
-# Words of the runtime's record of a module: the slices that lie in the table, how many functions these have, and the code's first word.
+# Words of the runtime's record of a module: the slices within the table, their number of functions, and the bounds of the code.
 SLICES, COUNT, LOWEST, HIGHEST, TEXT = (1, 4, 7, 10, 13, 16), 17, 20, 21, 22
 
 
 class Version(NamedTuple):
-    """How a version of the table is written: the words of its header, the numbers in its list of functions, the record of a function, and
-    that of an inlined call. `data` is the module's word for where trees are, or none where functions have addresses of them.
-    """
+    """The layout of one version of the table: the number of words in the header, the format of the list of functions, of a function's
+    record and of an inlined call. `data` is the module's word with the address of the trees; without one, functions have addresses of
+    their own."""
 
     words: int
     number: str
@@ -51,7 +53,7 @@ class LoadedImage(Image):
 
     @functools.cached_property
     def relocated_words(self) -> dict[int, int]:
-        """The words that the loader makes addresses of the program, where that is moved."""
+        """The words that the loader relocates, in a position-independent program."""
         return {} if self.is_fixed else self.words
 
     def word(self, addr: int) -> int:
@@ -62,7 +64,7 @@ class LoadedImage(Image):
         )
 
     def find_bytes(self, what: bytes) -> Iterator[int]:
-        """Where some bytes stand."""
+        """The addresses of some bytes."""
         for begin, data in self.parts:
             at = data.find(what)
             while at >= 0:
@@ -70,13 +72,13 @@ class LoadedImage(Image):
                 at = data.find(what, at + 1)
 
     def find_pointers(self, to: int) -> Iterator[int]:
-        """The words that are an address."""
+        """The words that contain an address."""
         moved = (addr for addr, it in self.relocated_words.items() if it == to)
         return self.find_bytes(to.to_bytes(8, "little")) if self.is_fixed else moved
 
 
 class Function(NamedTuple):
-    """A function: where it begins, how long it is, and its record, with where its numbers of tables and data are."""
+    """A function: its start, its size, its record, and the address of the numbers behind the record."""
 
     start: int
     size: int
@@ -90,7 +92,7 @@ class Function(NamedTuple):
 
 
 def decode_numbers(data: bytes, at: int) -> Iterator[int]:
-    """Numbers of seven bits a byte, the lowest first; the last byte of each is below 128."""
+    """Decodes numbers of seven bits per byte, the lowest first; the last byte of each is below 128."""
     value = shift = 0
     for byte in memoryview(data)[at:]:
         value |= (byte & 0x7F) << shift
@@ -103,7 +105,7 @@ def decode_numbers(data: bytes, at: int) -> Iterator[int]:
 
 
 class Table:
-    """The table of a program whose header is at an address. Any fault says that there is none."""
+    """The table whose header is at an address. Any exception means that there is none."""
 
     def __init__(self, image: LoadedImage, at: int) -> None:
         self.image, self.left = image, STEPS
@@ -118,14 +120,14 @@ class Table:
             or not 0 < self.count <= FUNCTIONS
             or [first, *places, last] != sorted([first, *places, last])
         ):
-            raise ValueError("it is no header of a table")
+            raise ValueError("not the header of a table")
         self.module = self.module_of(at)
         text = self.module[TEXT] if self.module else image.word(at + 24)
         self.starts, self.records = self.read_functions(0 if self.version.number == "Q" else text)
         self.check()
 
     def module_of(self, at: int) -> Sequence[int]:
-        """The words of the runtime's record of the module, which points to the table; none where it isn't found."""
+        """The words of the runtime's record of the module that points to the table; empty if not found."""
         wanted = [
             self.names,
             self.units,
@@ -145,7 +147,7 @@ class Table:
         return ()
 
     def read_functions(self, text: int) -> tuple[list[int], Sequence[int]]:
-        """Where each function begins and the last one ends, and where the record of each is."""
+        """The start of each function and the end of the last, and the place of each record."""
         size = struct.calcsize(self.version.number)
         found = struct.unpack_from(
             f"<{2 * self.count + 1}{self.version.number}", self.data, self.functions - self.begin
@@ -157,7 +159,7 @@ class Table:
         return [text + it for it in found[::2]], found[1::2]
 
     def check(self) -> None:
-        """Refuses what isn't in order: functions lie one behind the other, in code, and are those of the module."""
+        """Refuses functions that don't ascend, lie outside code, or aren't those of the module."""
         low, high = self.starts[0], self.starts[-1]
         is_code = any(begin <= low and high <= begin + len(code) for begin, code in self.image.code)
         is_module = not self.module or (self.module[LOWEST], self.module[HIGHEST]) == (low, high)
@@ -166,7 +168,7 @@ class Table:
             or not is_module
             or any(it > other for it, other in itertools.pairwise(self.starts))
         ):
-            raise ValueError("its functions aren't in order")
+            raise ValueError("the functions aren't in order")
 
     @functools.cache
     def function(self, at: int) -> Function:
@@ -179,7 +181,7 @@ class Table:
 
     @functools.cache
     def steps(self, table: int) -> tuple[list[int], list[int]]:
-        """A table's values, and where each ends, counted from where its function begins."""
+        """The values of a table, and the end of each, as offsets in the function."""
         ends, values, end, value = list[int](), list[int](), 0, -1
         numbers = decode_numbers(self.data, self.values + table - self.begin)
         for change, size in zip(numbers, numbers):
@@ -193,7 +195,7 @@ class Table:
         return ends, values
 
     def value(self, table: int, addr: int) -> int | None:
-        """What a table tells of a place in its function: -1 if there is no table, and none behind the end of one."""
+        """A table's value at an offset in the function: -1 without a table, and none past its end."""
         if not table:
             return -1
         ends, values = self.steps(table)
@@ -201,7 +203,7 @@ class Table:
         return values[at] if at < len(values) else None
 
     def text(self, begin: int, end: int, offset: int) -> str:
-        """The text at a place of a list of texts, each of which ends with a zero; an empty one where none begins there."""
+        """The text at an offset in a list of zero-terminated texts; empty if none begins there."""
         at, last = begin + offset - self.begin, end - self.begin
         stop = (
             self.data.find(b"\0", at, min(at + NAME, last))
@@ -214,7 +216,7 @@ class Table:
         return self.text(self.names, self.units, offset)
 
     def file(self, own: Function, addr: int) -> str:
-        """The file that a place in a function is of: each unit that was compiled has a list of its files."""
+        """The source file at an offset in a function: each compilation unit has a list of its files."""
         number = self.value(own.files, addr)
         at = self.units + 4 * (own.unit + (number or 0))
         if number is None or number < 0 or at + 4 > self.files:
@@ -234,11 +236,11 @@ class Table:
         )
 
     def index(self, own: Function, addr: int) -> int | None:
-        """Which inlined call a place in a function is of, -1 if of none, or none where that isn't known."""
+        """The inlined call at an offset in a function: -1 if there is none, and none if unknown."""
         return self.value(self.number(own.at + 4 * INDEX), addr) if own.tables > INDEX else -1
 
     def tree(self, own: Function) -> int:
-        """Where a function's inlined calls are, or 0 where that isn't known."""
+        """The address of a function's tree of inlined calls, or 0 if unknown."""
         at = own.at + 4 * own.tables
         if own.pieces <= TREE:
             return 0
@@ -247,15 +249,15 @@ class Table:
         return self.module[self.version.data] + self.number(at + 4 * TREE) if self.module else 0
 
     def call(self, own: Function, index: int) -> tuple[str, int]:
-        """The name of a function that is inlined, and the place of its call; an empty one where that isn't known."""
+        """The name of an inlined function and the offset of its call; an empty name if unknown."""
         tree, how = self.tree(own), self.version.call
         data = self.image.bytes(tree + how.size * index, how.size) if tree else b""
         name, place = how.unpack(data) if any(data) else (0, -1)
         return (self.name(name), place) if place >= 0 else ("", 0)
 
     def frames(self, addr: int) -> list[SourceLine]:
-        """The functions inlined at an address, the innermost first. Where these aren't known it's the line alone: the name of the outer
-        function isn't that of the line."""
+        """The functions inlined at an address, the innermost first. If they are unknown, the line alone: the outer function isn't the one
+        that contains the line."""
         at = bisect.bisect_right(self.starts, addr) - 1
         if not 0 <= at < self.count:
             return []
@@ -266,7 +268,7 @@ class Table:
             name, call = self.call(own, index)
             found.append(self.place(own, name, place))
             outer = self.index(own, call)
-            # (a call comes behind the one that it is in)
+            # (an inlined call has a higher number than the call around it)
             is_known = name and outer is not None and outer < index and len(found) <= DEEP
             place, index = call, outer if is_known else None
         name = self.name(own.name)
@@ -276,7 +278,7 @@ class Table:
 
 
 def find_table(path: str) -> Table | None:
-    """The table of a program, or none: the one that the runtime's record points to, or else the only one."""
+    """The table of a program: the one that the runtime's record points to, or else the only one."""
     image, found = LoadedImage(path), list[Table]()
     for at in itertools.islice(image.find_bytes(HEAD), HEADERS):
         with contextlib.suppress(Exception):

@@ -6,6 +6,7 @@ import re
 from typing import TYPE_CHECKING, Any, Iterable, NamedTuple, Sequence, Union
 
 from view.model.object_keys import Key, BlocksKey, FileKey, MemoryKey, PlaceKey, StackKey, SymbolKey
+from view.names.block_types import BlockTypes
 from view.names.demangling import SymbolNames, short_name
 from view.reading.reports import Block, Report, Site, Symbol
 from view.names.source_lines import SourceLine, Sources
@@ -94,6 +95,14 @@ LANGUAGE_LIBRARIES = (
     "libgcc_s.so.",
 )
 GO_RUNTIME = re.compile(r"(?:runtime|(?:runtime/)?internal/[\w/]+)\.")
+# Sources of the kit for guests.
+KIT = re.compile(r"(?:^|/)guest/(?:(?:calls|library|pthread)\.c|start\.S|clib/[^/]*)$")
+# What Rust's compiler puts behind a function's name.
+RUST_HASH = re.compile(r"::h[0-9a-f]{16}$")
+# Functions without a name of their own, of C++ and Rust.
+UNNAMED = re.compile(
+    r"\{\{?closure|\$u7b\$closure|\{lambda|'lambda|^operator\(\)|::operator\(\)\(|<lambda"
+)
 # Sources of the C library's allocator.
 ALLOCATOR_SOURCES = re.compile(r"(?:^|/)malloc/(?:malloc|arena)\.c$")
 
@@ -148,6 +157,7 @@ class Naming:
         self.names = SymbolNames()
         self.cached_sites_keys: dict[tuple[Site, ...], tuple[str, ...]] = {}
         self.types = [it.partition("=")[::2] for it in types]
+        self.blocks = BlockTypes(self)
 
     def learn_symbols(self, text: str) -> None:
         """Has the names of all symbols in a report told at once."""
@@ -205,16 +215,30 @@ class Naming:
         return self.site_places.get(site.addr) or address_text(site.addr)
 
     def site_line(self, site: Site) -> str:
-        """The file and line of a call site as `arena.c:78`, or an empty text; native reports bring them."""
+        """The file and line of a call site as `arena.c:78`, or an empty text: those of the program itself, where a library is inlined.
+        Native reports bring them."""
+        place = self.own_place(site.addr)
+        if place is not None and place.short():
+            return place.short()
         if site.addr in self.site_places:
             return os.path.basename(self.site_places[site.addr])
+        return ""
+
+    def innermost_line(self, site: Site) -> str:
+        """The line of the innermost function at a call site, or an empty text."""
         place = self.sources.place(site.addr) if self.sources else None
         return place.short() if place else ""
 
+    def own_place(self, addr: int) -> SourceLine | None:
+        """The line of the first function at an address that isn't of a language's own library, or none."""
+        return next((it for it in self.own_frames(addr) if it.file and it.line), None)
+
     def source_function(self, site: Site) -> str:
-        place = self.sources.place(site.addr) if self.sources else None
+        place = self.own_place(site.addr)
+        if place and UNNAMED.search(place.function):
+            return self.frame_name(place)
         return (
-            self.names.remember(place.function)
+            self.names.remember(RUST_HASH.sub("", place.function))
             if place and place.function
             else self.function_name(site)
         )
@@ -223,7 +247,12 @@ class Naming:
         """The functions inlined at an instruction, the innermost first, from the first on that isn't of a language's own library."""
         frames = self.sources.frames(addr) if self.sources else []
         first = next(
-            (at for at, it in enumerate(frames) if it.file and not LIBRARIES.search(it.file)), 0
+            (
+                at
+                for at, it in enumerate(frames)
+                if it.file and not LIBRARIES.search(it.file) and not KIT.search(it.file)
+            ),
+            0,
         )
         return frames[first:]
 
@@ -231,7 +260,7 @@ class Naming:
         """An instruction's line in the source and its function, or its address."""
         sources, frames = self.sources, self.own_frames(addr)
         place = next((it for it in frames if it.file and it.line), None)
-        names = [self.readable_name(it.function) for it in frames if it.function]
+        names = [self.frame_name(it) for it in frames if it.function]
         near = sources.near(addr) if sources and place is None else None
         text = (
             place.short()
@@ -248,6 +277,13 @@ class Naming:
             if beside
             else text
         )
+
+    def frame_name(self, frame: SourceLine) -> str:
+        """The function of a frame, a lambda or a closure by its place."""
+        found = UNNAMED.search(frame.function)
+        if found and frame.short():
+            return f"{'closure' if 'closure' in found[0] else 'lambda'} at {frame.short()}"
+        return self.readable_name(RUST_HASH.sub("", frame.function))
 
     def is_of_language(self, addr: int) -> bool:
         """Whether an instruction is of a library that each program of its language has, as far as its line was looked up."""
@@ -336,7 +372,8 @@ class Naming:
             if near == 0
             else ""
         )
-        return ("block made at " if at else "block made in ") + " < ".join(
+        what = self.blocks.container(chain[0]) or "block"
+        return (f"{what} made at " if at else f"{what} made in ") + " < ".join(
             [first, *(rest or (["main"] if at and chain[0].name == "main" else []))]
         )
 
@@ -355,17 +392,23 @@ class Naming:
         )
 
     def type_of_block(self, block: Block) -> Any:
-        """The type of a block's elements as the call tells it, or none."""
+        """The type of a block's elements, as the call says it or by the pointer that the source assigns it to; or none."""
         if self.program is None or not block.sites:
             return None
         known = self.names_of_site(block)
-        return next((self.program.type_named(it) for site, it in self.types if site in known), None)
+        said = next((self.program.type_named(it) for site, it in self.types if site in known), None)
+        if said is not None:
+            return said
+        found = self.blocks.inferred_type(block.sites)
+        size = self.blocks.size_of_type(found)
+        return found if 4 <= size <= block.size else None
 
     def names_of_site(self, block: Block) -> set[str]:
         """What a call may name the call site of a block by: its line, its function, also as the screen has it, or its address."""
         chain = self.own_sites(block.sites)
         names = {
             self.site_line(chain[0]),
+            self.innermost_line(chain[0]),
             self.source_function(chain[0]),
             chain[0].name,
             self.function_name(chain[0]),

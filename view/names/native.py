@@ -66,6 +66,8 @@ class AddressMap:
         self.mapped_files: list[tuple[int, int, str]] = []
         self.sites: dict[int, list[Site]] = {}
         self.frames: dict[int, list[Site]] = {}
+        # Behind so many accesses recording began or went on, where only parts of the run were recorded.
+        self.resumes: list[int] = []
         # How many accesses the trace has, and why it ends; none where the recorder was killed.
         self.end: tuple[int, str] | None = None
         try:
@@ -103,6 +105,8 @@ class AddressMap:
             self.frames.setdefault(int(addr, 16), []).append(
                 Site(known_word(function), known_word(line))
             )
+        elif kind == "resume":
+            self.resumes.append(int(rest))
         elif kind == "end":
             count, word = rest.split(" ")
             self.end = None if word == "none" else (int(count), word)

@@ -1,6 +1,7 @@
-"""Where stripped code of Rust may panic. A check in Rust hands its file and line to the panic (a `core::panic::Location`), and these stay
-in a program that keeps no symbols. So an instruction is told by the places where its function, as the table for unwinding has it, may
-panic."""
+"""The places where stripped code of Rust may panic.
+
+A check in Rust passes its file and line to the panic (a `core::panic::Location`), and both stay in a stripped program. An instruction is
+named by the places where its function, taken from the unwind table, may panic."""
 
 import bisect
 import functools
@@ -11,11 +12,11 @@ from typing import Iterable, NamedTuple, Sequence
 
 from view.names.x86_image import LEA, MOVE, Image, conditional_jumps, find_jumps, find_numbers
 
-# So many files of a function are named.
+# How many files of a function are named.
 NAMED = 2
-# A call site is the last byte of a call, which begins less than so many bytes before.
+# A call site is the last byte of a call instruction, which begins less than this many bytes before.
 CALL_SIZE = 8
-# A check jumps to at most so many bytes before the place is loaded.
+# A check jumps to at most this many bytes before the load of the place.
 BLOCK = 48
 PATH = re.compile(rb"[^\x00-\x1f\x7f]+\.rs")
 # The standard library's sources, and those that are linked into it.
@@ -25,22 +26,22 @@ LIBRARY = re.compile(
 IS_LIBRARY = re.compile(
     r"library/|/rustc/|/usr/src/rustc-|/rust/deps/|/cargo/registry/|.*/rustlib/src/rust/"
 )
-# Where crates lie that were fetched.
+# The folders of fetched crates.
 FETCHED = re.compile(r".*/(?:registry/(?:src/[^/]+/)?|git/checkouts/|(?=vendor/))")
 
 
 class Panic(NamedTuple):
-    """A place of a source that code may panic at."""
+    """A source line where code may panic."""
 
     file: str
     line: int
 
     def is_library(self) -> bool:
-        """Whether it is of the standard library."""
+        """Whether the standard library contains the line."""
         return bool(IS_LIBRARY.match(self.file))
 
     def short(self) -> str:
-        """The file from its crate on, or from `library/` where that is the standard one, with the line."""
+        """The line, with its file's path from the crate on, or from `library/` on in the standard library."""
         file = (
             "library/" + LIBRARY.sub("", self.file)
             if self.is_library()
@@ -50,13 +51,13 @@ class Panic(NamedTuple):
 
 
 class NearPanics(NamedTuple):
-    """What panics tell of an instruction: places in its function, or, where that has none, in the one file that it was called from."""
+    """The panics near an instruction: those of its function, or if it has none, those of the one file that calls it."""
 
     places: tuple[Panic, ...]
     is_called: bool = False
 
     def names_source(self) -> bool:
-        """Whether it tells a source of the program or of a crate, and not of the standard library."""
+        """Whether a panic belongs to the program or a crate rather than the standard library."""
         return any(not it.is_library() for it in self.places)
 
     def text(self) -> str:
@@ -65,7 +66,7 @@ class NearPanics(NamedTuple):
 
 
 class PanicCheck(NamedTuple):
-    """A place that code hands to a panic: where it is loaded, and from where that is jumped to."""
+    """A place that code passes to a panic: the load of the place, and the checks that jump to the load."""
 
     at: int
     place: Panic
@@ -76,7 +77,7 @@ class PanicCheck(NamedTuple):
 
 
 class Panics:
-    """The places of a program's panics, by its functions. What is no program of Rust for x86-64 has none."""
+    """The panics of a program's functions. A program that isn't Rust for x86-64 has none."""
 
     def __init__(self, path: str, ran: Iterable[int] = (), image: Image | None = None) -> None:
         self.image, self.executed_pcs = image or Image(path), frozenset(ran)
@@ -85,7 +86,7 @@ class Panics:
         }
 
     def place(self, addr: int, to: int) -> Panic | None:
-        """The place at an address whose first word points to a text, or none where that is no place of a source."""
+        """The source line at an address whose first word points to a path; none if it isn't one."""
         data = self.image.bytes(addr + 8, 16)
         if not data:
             return None
@@ -99,7 +100,7 @@ class Panics:
 
     @functools.cache
     def panic_checks(self, start: int, end: int) -> list[PanicCheck]:
-        """The places that a function hands to panics, those of the standard library only where there are no others."""
+        """The places that a function passes to panics; those of the standard library only if there are no others."""
         code = self.image.bytes(start, end - start)
         references = [
             *find_jumps(code, start, LEA),
@@ -115,7 +116,7 @@ class Panics:
         return made
 
     def nearest(self, addr: int, handed: Sequence[PanicCheck], most: int) -> tuple[Panic, ...]:
-        """Of the files that have most of some places the one of each whose check is nearest to an instruction."""
+        """From each of the files with most places, the place whose check is nearest to an instruction."""
         counts = Counter(file for file, _ in {it.place for it in handed})
         files = sorted(counts, key=lambda file: (-counts[file], file))[:most]
         return tuple(
@@ -128,18 +129,18 @@ class Panics:
 
     @functools.cached_property
     def calls(self) -> dict[int, list[int]]:
-        """From where each function is called, as far as that is known."""
+        """The known calls of each function."""
         return self.image.find_calls(self.image.unwind_starts[0])
 
     def has_run(self, at: int) -> bool:
-        """Whether a call has run, which writes the place to come back to; a jump, which writes nothing, may have."""
+        """Whether a call ran, as its write of the return address shows; a jump writes none and may have run."""
         return at in self.executed_pcs or self.image.is_jump(at)
 
     def caller(self, start: int) -> Panic | None:
-        """A place of the one file that a function was called from, or none where that isn't known, or there are several."""
+        """A place of the one file that calls a function; none if that is unknown or there are several."""
         found: list[Panic] = []
         calls = self.calls.get(start, ()) if self.executed_pcs else ()
-        # (a trace without pcs tells of no call that it has run)
+        # (a trace without pcs shows no call that ran)
         for at in filter(
             self.has_run, calls if any(it in self.executed_pcs for it in calls) else ()
         ):
@@ -152,12 +153,12 @@ class Panics:
 
     @functools.cache
     def near(self, addr: int) -> NearPanics | None:
-        """What panics tell of an instruction, or none."""
+        """The panics near an instruction, if any."""
         function = self.image.function(addr) if self.places else None
         if function is None:
             return None
         own = self.nearest(addr, self.panic_checks(*function), NAMED)
-        # (what ran before the recording began may have been called from elsewhere)
+        # (code that ran before the recording may have other callers)
         has_run = any(addr - it in self.executed_pcs for it in range(CALL_SIZE))
         caller = self.caller(function[0]) if has_run and (not own or own[0].is_library()) else None
         return NearPanics((caller,), True) if caller else NearPanics(own) if own else None

@@ -9,7 +9,7 @@ from typing import Any, Iterable, NamedTuple, Sequence
 from view.faults import Fault
 
 # So many instructions before one without a line are looked at.
-MAX_INSTRUCTIONS_BACK = 16
+MAX_INSTRUCTIONS_BACK = 64
 PACKAGES = "apt-get install llvm python3-pyelftools python3-jinja2"
 
 

@@ -90,7 +90,6 @@ def join_same_names(things: Sequence[DataObject]) -> dict[Key, DataObject]:
             continue
         for spot in obj.lines:
             own.add(spot)
-        own.savable_misses += obj.savable_misses
         own.neighbours += obj.neighbours
         own.cached_worst_lines = []
     return found

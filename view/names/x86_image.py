@@ -1,5 +1,6 @@
-"""What a program for x86-64 loads, and what its code refers to, by its file alone: it may have no symbols. Instructions are looked for in
-bytes that look like them; others would have to name an address of the program exactly."""
+"""The loaded parts of an x86-64 program, and the addresses that its code refers to, from its file alone, which may have no symbols.
+
+Instructions are recognised by their bytes. A false match would have to contain exactly an address of the program."""
 
 import bisect
 import contextlib
@@ -12,18 +13,18 @@ from typing import Iterable, Iterator, NamedTuple
 
 from elftools.elf.elffile import ELFFile
 
-# A program with more code isn't looked through as a whole.
+# The most bytes of code that are searched as a whole.
 MOST = 32 << 20
-# A text with more letters is looked at no further.
+# The longest literal.
 LONGEST = 4096
-# At most so many relocations that are packed are read: each word of 8 bytes has up to 63.
+# The most packed relocations that are read: each word of 8 bytes has up to 63.
 PACKED = 1 << 20
 # Tags of the dynamic section, and the types of relocations: a symbol's address, those of symbols in slots, and an address of the program.
 RELA, RELA_SIZE, RELR_SIZE, RELR, PLT, PLT_SIZE, NAMES, SYMBOLS = 7, 8, 35, 36, 23, 2, 5, 6
 ABSOLUTE, IN_SLOT, RELATIVE = 1, (1, 6, 7), 8
 EXECUTABLE, WRITABLE, FIXED, FUNCTION = 1, 2, "ET_EXEC", 2
 LOADED = ("PT_LOAD", "PT_DYNAMIC")
-# How tables for unwinding and their entries are written, as all linkers do; relocations, and symbols.
+# The formats of the unwind table and its entries, as all linkers write them; of relocations, and of symbols.
 TABLE, LINK, RELOCATION, SYMBOL = (
     b"\x01\x1b\x03\x3b",
     struct.Struct("<ii"),
@@ -33,13 +34,13 @@ TABLE, LINK, RELOCATION, SYMBOL = (
 
 
 Pattern = re.Pattern[bytes]
-# An address, and what is there.
+# An address, and the bytes there.
 Part = tuple[int, bytes]
 
 
 class Form(NamedTuple):
-    """How an instruction looks that ends with a distance to what it refers to: from which byte on it is looked for, and its size. (A
-    pattern that begins with a byte is looked for much faster.)"""
+    """The form of an instruction that ends with a distance to its operand: a pattern, the offset of the byte that the pattern begins
+    with, and the size. (A search for a pattern that begins with a fixed byte is much faster.)"""
 
     pattern: Pattern
     first: int
@@ -60,8 +61,8 @@ FAR, SHORT = form(rb"\x0f(?=[\x80-\x8f](....))", 0, 6), form(rb"(?=[\x70-\x7f](.
 NEAR = form(rb"\xeb(?=(.))", 0, 2)
 LEA = form(rb"\x8d(?<=[\x48\x4c]\x8d)(?=[\x05\x0d\x15\x1d\x25\x2d\x35\x3d](....))", 1, 7)
 LOAD = form(rb"\x8b(?<=[\x48\x4c]\x8b)(?=[\x05\x0d\x15\x1d\x25\x2d\x35\x3d](....))", 1, 7)
-# `mov` of a number, which is an address where a program has a fixed place; and of one whose last byte is none above another to a register
-# and to memory.
+# `mov` of a number, which may be an address in a program with a fixed place; and of one whose highest byte is at most a given one, to a
+# register and to memory.
 MOVE = re.compile(rb"[\xb8-\xbf](?=(....))", re.DOTALL)
 MOVES = (
     rb"[\xb8-\xbf](?=(...[\x00-%b]))",
@@ -70,7 +71,7 @@ MOVES = (
 
 
 class Image:
-    """What a program for x86-64 loads, by its file; of another one nothing."""
+    """The loaded parts of an x86-64 program; empty for another file."""
 
     def __init__(self, path: str) -> None:
         self.parts: list[Part] = []
@@ -85,7 +86,7 @@ class Image:
             self.is_fixed = elf["e_type"] == FIXED
             left = 2 * os.fstat(file.fileno()).st_size
             for segment in elf.iter_segments():
-                # (what is loaded lies in the file side by side, and has what tells of relocations)
+                # (loaded segments lie side by side in the file, and one of them contains the dynamic section)
                 left -= segment["p_filesz"] if segment["p_type"] in LOADED else 0
                 if left < 0:
                     return
@@ -101,12 +102,12 @@ class Image:
                     self.dynamic = segment.data()
                 elif segment["p_type"] == "PT_GNU_EH_FRAME":
                     self.table = segment["p_vaddr"]
-            # (what is constant may lie in one part with the code)
+            # (constants may lie in one segment with the code)
             with contextlib.suppress(Exception):
                 self.read_sections(elf)
 
     def read_sections(self, elf: ELFFile) -> None:
-        """Takes what is constant, and the exported symbols, from the sections, where these are still there."""
+        """Takes the constants and the exported symbols from the sections, if the file still has them."""
         found = [
             (section["sh_type"], section["sh_flags"], section["sh_addr"], section["sh_size"])
             for section in elf.iter_sections()
@@ -126,7 +127,7 @@ class Image:
         )
 
     def text(self, addr: int) -> bytes:
-        """What stands at an address before the next zero byte, or none where there isn't one soon."""
+        """The bytes from an address up to the next zero byte; empty if there is none nearby."""
         for begin, data in self.parts:
             if begin <= addr < begin + len(data):
                 end = data.find(b"\0", addr - begin, addr - begin + LONGEST)
@@ -134,7 +135,7 @@ class Image:
         return b""
 
     def bytes(self, addr: int, size: int) -> bytes:
-        """So many bytes at an address, or none where these aren't in the file."""
+        """Some bytes at an address; empty if the file doesn't contain them."""
         for begin, data in self.parts:
             if begin <= addr and addr + size <= begin + len(data):
                 return data[addr - begin : addr - begin + size]
@@ -147,20 +148,20 @@ class Image:
 
     @functools.cached_property
     def bounds(self) -> list[int]:
-        """Where what is constant begins and ends, by turns."""
+        """The beginnings and ends of constant ranges, alternating."""
         return [it for own in sorted(self.constant) for it in own]
 
     def is_constant(self, addr: int) -> bool:
-        """Whether an address is in what is neither written nor run."""
+        """Whether an address lies in memory that is neither written nor executed."""
         return bisect.bisect_right(self.bounds, addr) % 2 == 1
 
     def begins(self, addr: int) -> bool:
-        """Whether what stands at an address in what is constant begins there: it's the first byte, or a zero byte is before it."""
+        """Whether a literal begins at an address: it is the first byte of a range, or a zero byte precedes it."""
         return any(begin == addr for begin, _ in self.constant) or self.bytes(addr - 1, 1) == b"\0"
 
     @functools.cached_property
     def tags(self) -> dict[int, int]:
-        """What the dynamic section tells."""
+        """The entries of the dynamic section."""
         return {
             tag: value
             for tag, value in struct.iter_unpack(
@@ -169,14 +170,14 @@ class Image:
         }
 
     def relocations(self, place: int, size: int) -> Iterator[tuple[int, int, int]]:
-        """A table of relocations, by the tags of its place and its size."""
+        """A table of relocations, given the tags of its address and its size."""
         table = self.bytes(
             self.tags.get(place, 0), self.tags.get(size, 0) // RELOCATION.size * RELOCATION.size
         )
         yield from ((addr, info, by) for addr, info, by in RELOCATION.iter_unpack(table))
 
     def pointers(self) -> Iterator[tuple[int, int]]:
-        """Each word that the loader makes an address of the program, with that; of a program that isn't moved each that may be one."""
+        """Each word that the loader relocates, with its address; in a program at a fixed place each word that may be an address."""
         for addr, info, to in self.relocations(RELA, RELA_SIZE):
             if info & 0xFFFFFFFF == RELATIVE:
                 yield addr, to
@@ -198,7 +199,7 @@ class Image:
             )
 
     def has_words(self, part: Part) -> bool:
-        """Whether a part may have addresses in words: it's more than code, as far as sections tell."""
+        """Whether a part may contain addresses: by its sections it has more than code."""
         begin, end = part[0], part[0] + len(part[1])
         return (
             part not in self.code
@@ -211,7 +212,7 @@ class Image:
         return dict(self.pointers())
 
     def symbol(self, index: int) -> tuple[str, int]:
-        """The name of a symbol for the loader, and its address, 0 where another file has it."""
+        """The name of a dynamic symbol and its address, 0 if another file defines it."""
         data = (
             self.bytes(self.tags.get(SYMBOLS, 0) + SYMBOL.size * index, SYMBOL.size)
             if SYMBOLS in self.tags
@@ -224,7 +225,7 @@ class Image:
 
     @functools.cached_property
     def symbol_words(self) -> dict[int, int]:
-        """Each word that the loader makes a symbol's address, with that, which is 0 where the symbol is another file's."""
+        """Each word that the loader sets to a symbol's address, with that address, 0 if another file defines it."""
         rows = self.relocations(RELA, RELA_SIZE)
         found = (
             (addr, self.symbol(info >> 32)[1], by)
@@ -234,7 +235,7 @@ class Image:
         return {addr: to and to + by for addr, to, by in found}
 
     def slots(self, name: str) -> set[int]:
-        """The words that the loader makes the address of some function of another file."""
+        """The words that the loader sets to the address of another file's function."""
         rows = [*self.relocations(PLT, PLT_SIZE), *self.relocations(RELA, RELA_SIZE)]
         return {
             addr
@@ -244,7 +245,7 @@ class Image:
 
     @functools.cached_property
     def exported_functions(self) -> dict[int, int]:
-        """Where the functions begin that others may call by their names, and their sizes."""
+        """The starts and sizes of exported functions."""
         addr, size = self.exports
         rows = SYMBOL.iter_unpack(self.bytes(addr, size // SYMBOL.size * SYMBOL.size))
         return {
@@ -255,7 +256,7 @@ class Image:
 
     @functools.cached_property
     def unwind_starts(self) -> tuple[list[int], list[int]]:
-        """Where functions begin and what unwinds each, by the table that is searched when a program unwinds."""
+        """The starts of functions and their unwind entries, from the binary search table."""
         head = self.bytes(self.table, 12)
         if head[:4] != TABLE:
             return [], []
@@ -264,27 +265,27 @@ class Image:
         return [self.table + start for start, _ in rows], [self.table + entry for _, entry in rows]
 
     def function(self, addr: int) -> tuple[int, int] | None:
-        """Where the function of an instruction begins and ends, as that table has it, or none."""
+        """The range of an instruction's function in that table."""
         starts, entries = self.unwind_starts
         at = bisect.bisect_right(starts, addr) - 1
         data = self.bytes(entries[at] + 8, 8) if at >= 0 else b""
         if not data:
             return None
         start, size = LINK.unpack(data)
-        # (an entry that is written otherwise begins elsewhere)
+        # (an entry in another encoding would begin elsewhere)
         if start + entries[at] + 8 != starts[at] or addr >= starts[at] + size:
             return None
         return starts[at], starts[at] + size
 
     @functools.cache
     def find_references(self, form: Form) -> list[tuple[int, int]]:
-        """Where instructions of a form stand in all code, with what they refer to; none where there is too much code."""
+        """The instructions of a form in all code, with their operands; empty if there is too much code."""
         is_small = sum(len(code) for _, code in self.code) <= MOST
         return [it for begin, code in self.code if is_small for it in find_jumps(code, begin, form)]
 
     @functools.cached_property
     def moves(self) -> list[Pattern]:
-        """How numbers are loaded that may be addresses of a program with a fixed place; of another one none are."""
+        """The patterns of loaded numbers that may be addresses; empty for a position-independent program."""
         last = max((begin + len(data) for begin, data in self.parts), default=0) >> 24
         return (
             [re.compile(it % re.escape(bytes([min(last, 255)])), re.DOTALL) for it in MOVES]
@@ -294,7 +295,7 @@ class Image:
 
     @functools.cached_property
     def number_loads(self) -> list[tuple[int, int]]:
-        """Where such numbers are loaded in all code, with these."""
+        """The loads of such numbers in all code, with the numbers."""
         is_small = sum(len(code) for _, code in self.code) <= MOST
         return [
             pair
@@ -305,8 +306,8 @@ class Image:
         ]
 
     def find_calls(self, starts: Iterable[int]) -> dict[int, list[int]]:
-        """From where some functions are called. One whose address is taken otherwise, and so may be called from anywhere, isn't there, as
-        all of a program that isn't moved: any number may be an address there."""
+        """The calls of some functions. Functions whose address is taken otherwise may be called from anywhere and are left out, and so are
+        all those of a program at a fixed place, where any number may be an address."""
         found: dict[int, list[int]] = {it: [] for it in starts if not self.is_fixed}
         words = {addr: to for addr, to in self.words.items() if to in found}
         through = set[int]()
@@ -327,12 +328,12 @@ class Image:
         return {start: sorted(calls) for start, calls in found.items() if start not in taken}
 
     def is_jump(self, at: int) -> bool:
-        """Whether it's a jump that stands there and no call, which would write the place to come back to."""
+        """Whether the instruction is a jump and not a call, which would write a return address."""
         return self.bytes(at, 1) == b"\xe9" or self.bytes(at, 2) == b"\xff\x25"
 
 
 def unpack_relocations(words: Iterable[int]) -> Iterator[int]:
-    """The addresses of relocations that are packed: an even word is one, and an odd one has a bit for each of the 63 words that follow."""
+    """Unpacks relocations: an even word is an address, and an odd word has a bit for each of the 63 words that follow."""
     base = 0
     for word in words:
         if word % 2 == 0:
@@ -344,7 +345,7 @@ def unpack_relocations(words: Iterable[int]) -> Iterator[int]:
 
 
 def find_jumps(code: bytes, begin: int, form: Form) -> Iterator[tuple[int, int]]:
-    """Where what looks like an instruction of a form stands, and the address that its last bytes name from its end on."""
+    """The places that look like an instruction of a form, each with its operand's address, relative to the instruction's end."""
     start = begin - form.first
     for match in form.pattern.finditer(code):
         at = start + match.start()
@@ -352,12 +353,12 @@ def find_jumps(code: bytes, begin: int, form: Form) -> Iterator[tuple[int, int]]
 
 
 def find_numbers(code: bytes, begin: int, pattern: Pattern) -> Iterator[tuple[int, int]]:
-    """Where what looks like a `mov` of a number stands, and the number."""
+    """The places that look like a `mov` of a number, with the number."""
     return ((begin + it.start(), int.from_bytes(it[1], "little")) for it in pattern.finditer(code))
 
 
 def conditional_jumps(code: bytes, begin: int) -> dict[int, list[int]]:
-    """Where jumps on a condition go, each with from where."""
+    """The targets of conditional jumps, each with the jumps to it."""
     found: dict[int, list[int]] = {}
     for at, to in (*find_jumps(code, begin, FAR), *find_jumps(code, begin, SHORT)):
         found.setdefault(to, []).append(at)

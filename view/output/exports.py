@@ -5,6 +5,7 @@ import os
 import urllib.parse
 from typing import TYPE_CHECKING, Any
 
+from view.model.fine_grain import fine_notes
 from view.model.rate_bands import STEP
 from view.reading.calls import TOP
 from view.model.instruction_pairs import ATOMIC, LOAD, STORE, UNKNOWN, pair_kind
@@ -145,6 +146,7 @@ def numbers_of(counted: "TrialCount") -> Record:
     return {
         "false_sharing": counted.total["useless"],
         "true_sharing": counted.total["useful"],
+        "cold": counted.total["cold"],
         "invalidations": counted.invalidations,
     }
 
@@ -152,11 +154,14 @@ def numbers_of(counted: "TrialCount") -> Record:
 def trial(view: View, obj: DataObject) -> Record | None:
     """The whole run's numbers before and after the fix, or none where none was tried."""
     tried = view.decisive_trial(obj)
-    if tried is None or tried.after is None or not tried.is_saving():
+    if tried is None or tried.after is None or tried.repair is None:
         return None
+    if tried.same_as is not None or not tried.is_saving():
+        return None
+    before, after = tried.repair.sizes
     return {
-        "before": numbers_of(tried.before),
-        "after": numbers_of(tried.after),
+        "before": {**numbers_of(tried.before), "bytes": before},
+        "after": {**numbers_of(tried.after), "bytes": after},
         "accesses": tried.accesses,
     }
 
@@ -255,7 +260,7 @@ def record(view: View) -> Record:
         "time": time_of(view),
         "objects": [thing(view, it) for it in view.chosen_objects()],
         "predicted": [foretold(view, it) for it in view.chosen_predictions()],
-        "notes": view.notes,
+        "notes": [*view.notes, *fine_notes(view)],
     }
 
 

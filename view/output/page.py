@@ -6,11 +6,13 @@ from typing import Iterator, NamedTuple, Sequence
 
 from view.reading.calls import TOP
 from view.output.drawings import Given, templates
+from view.model.fine_grain import fine_notes
 from view.model.foreign_objects import row_of
 from view.model.view import ObjectDetails, View
 from view.names.naming import address_text
 from view.model.objects import ObjectLine, DataObject, WordUse, word_uses
 from view.model.word_owners import join_names
+from view.model.worst_line import wholes
 from view.model.predicted_lines import PredictedLine
 from view.reading.reports import LineInvalidations
 from view.output.screen import (
@@ -20,7 +22,6 @@ from view.output.screen import (
     next_step,
     numbers_of,
     numbers_together,
-    order,
     outcome_of,
     same_words,
     summary,
@@ -88,8 +89,8 @@ class Cells(NamedTuple):
     most: int
     is_alone: bool
 
-    def cell(self, word: WordUse) -> Given:
-        """A word's cell, in the colour of the thread that writes it, with the letters of those that read it."""
+    def cell(self, word: WordUse, is_wide: bool = False) -> Given:
+        """The cell of a word, or of a number of two, in the colour of the thread that writes it, with the letters of those that read it."""
         own = self.thing is not None and word.key == self.thing.key
         users = (
             users_of(self.view, self.thing, word)
@@ -101,6 +102,7 @@ class Cells(NamedTuple):
             word.name if self.is_alone else "+0"
         )
         return {
+            "span": "grid-column:span 2" if is_wide else "",
             "title": title_of(self.view, word, users),
             "letter": "✱" if users.owner is None else letter(users.owner),
             "others": "".join(letter(it) for it in users.others[:READERS])
@@ -120,8 +122,16 @@ def cells(
     """The cells of a range, in order; none where a word wasn't accessed."""
     most = max([it.reads for it in words] + [it.writes for it in words] + [1])
     own = sum(thing is not None and it.key == thing.key for it in words)
-    made, at = Cells(view, thing, name, most, own < 2), {it.addr: it for it in words}
-    return [made.cell(at[it]) if it in at else None for it in range(base, base + size, 4)]
+    made = Cells(view, thing, name, most, own < 2)
+    at: dict[int, WordUse] = {}
+    for word in wholes(sorted(words, key=lambda it: it.addr)):
+        at[word.addr] = word
+    halves = {it.addr for it in words} - {*at}
+    # (the second half of a number has no cell of its own)
+    return [
+        made.cell(at[it], it + 4 in halves) if it in at else {} if it in halves else None
+        for it in range(base, base + size, 4)
+    ]
 
 
 def row(view: View, spot: ObjectLine, seen: ObjectDetails, size: int) -> Given:
@@ -181,7 +191,7 @@ def side(view: View, addr: int, role: str) -> Given:
     at = f", {address_text(addr)}" if place else ""
     return {
         "role": role,
-        "place": view.naming.instruction_name(addr) + at,
+        "place": view.naming.names.shorten(view.naming.instruction_name(addr)) + at,
         "lines": lines,
         "lacks": lacks,
     }
@@ -227,16 +237,19 @@ def thing(view: View, obj: DataObject) -> Given:
     """One object as the template has it."""
     seen, drawn = view.details(obj), sorted(worth_drawing(view, obj), key=lambda one: one.base)
     worst, fight = seen.worst(), seen.worst_conflict()
+    short = view.naming.names.shorten
     return {
-        "name": view.label(obj) + obj.note,
-        "type": type_and_place(view, obj, seen),
+        "name": short(view.label(obj) + obj.note),
+        "type": short(type_and_place(view, obj, seen)),
         "numbers": [f"{one:,}" for one in numbers_of(view, obj)],
-        "beside": [view.label(view.objects_by_key[key]) for key in obj.neighbours],
-        "worst": worst.field_name() if worst else "",
-        "fight": [view.naming.instruction_name(at) for at in (fight.invalidator, fight.victim)]
+        "beside": [short(view.label(view.objects_by_key[key])) for key in obj.neighbours],
+        "worst": short(worst.field_name()) if worst else "",
+        "fight": [
+            short(view.naming.instruction_name(at)) for at in (fight.invalidator, fight.victim)
+        ]
         if fight
         else [],
-        "details": [(label, in_code(text)) for label, text in details(view, obj)],
+        "details": [(label, in_code(short(text))) for label, text in details(view, obj)],
         "rows": [row(view, one, seen, view.report.size) for one in drawn],
         "more": len(obj.lines) - len(drawn),
         "explained": address_text(seen.explained.base) if seen.explained else "",
@@ -302,7 +315,7 @@ def title(view: View, chosen: Sequence[DataObject]) -> str:
         how = f"{first.useless:,} of {counted(useless, 'false-sharing miss')}"
     else:
         how = counted(view.invalidations(first), "invalidation")
-    return f"{name}: {view.label(first)} has {how}"
+    return f"{name}: {view.naming.names.shorten(view.label(first))} has {how}"
 
 
 def page(view: View) -> str:
@@ -330,8 +343,7 @@ def page(view: View) -> str:
             next_step=next_step(view),
             totals=totals(view) if view.misses else "",
             heads=HEADS[0 if view.misses else 2 :],
-            order=order(view, first),
-            notes=view.notes,
+            notes=[*view.notes, *(it.replace("`", "") for it in fine_notes(view))],
             objects=[thing(view, it) for it in first],
             more=max(0, len(chosen) - top),
             minors=minors(view, [it for it in view.listed_objects() if view.is_minor(it)]),

@@ -11,11 +11,13 @@ from view.reading.calls import TOP
 from view.faults import plain
 from view.model.instruction_pairs import ATOMIC, LOAD, STORE, UNKNOWN, pair_kind, describe_kinds
 from view.model.object_keys import BlocksKey
+from view.model.fine_grain import FINE_QUANTUM, fine_objects
 from view.model.foreign_objects import row_of
 from view.model.view import RARE_MISS_DIVISOR, ObjectDetails, View
-from view.model.objects import DataObject, WordUse
+from view.model.objects import DataObject
 from view.model.stack_overflow import is_outside_code
 from view.model.word_owners import describe_owners
+from view.model.worst_line import MAX_ROWS, wholes, worst_line_rows
 from view.model.predicted_lines import (
     UNCOUNTED,
     PredictedLine,
@@ -31,6 +33,8 @@ BOLD, RED, DIM, END = "1", "1;31", "2", "0"
 MOST = 3
 # The width where no terminal says one, and the least and greatest of a terminal that is used.
 WIDTH, LEAST_WIDTH, GREATEST_WIDTH = 100, 60, 120
+# A field in the table of a line is cut to so many letters.
+MAX_FIELD = 32
 # The column of numbers is so wide at least, and a label below a row, from the edge of the first column on.
 NUMBER, LABEL = 8, 8
 # How a pair of instructions invalidates a line.
@@ -87,6 +91,8 @@ def outcome_of(view: View) -> str:
 
 def interleaving(view: View) -> str:
     """The quantum, seed or schedule of a run, or nothing where that isn't known."""
+    if view.call.recorded_quantum is not None:
+        return f", quantum {view.call.recorded_quantum:,}"
     if view.call.action != "run":
         return ""
     schedule = view.call.option_value("--schedule")
@@ -105,6 +111,14 @@ def summary(view: View) -> str:
         did.insert(0, counted(report.steps, "instruction"))
     offset = f" at offset {report.offset}" if report.offset else ""
     layout = f"{report.size}-byte lines{offset}{interleaving(view)}"
+    parts = len(getattr(getattr(view.naming.program, "map", None), "resumes", ()))
+    if parts:
+        what = (
+            "a part of the run, which"
+            if parts == 1
+            else f"{parts:,} parts of the run, each of which"
+        )
+        layout += f"; {what} begins with cold misses"
     return f"{name}: {outcome_of(view)}, {', '.join(did)}; {layout}"
 
 
@@ -190,7 +204,8 @@ ENDS_OF_RECORDING = {
     "exec": (
         "the program became another one (`exec`), which is not recorded: name that one in its place"
     ),
-    "most": "recording stopped after as many accesses as `--most` allows, and the program went on",
+    "for": "recording stopped after the time of `--for`, and the program went on",
+    "most": "recording stopped after as many accesses as `--for` or `--most` allows, and the program went on",
     "max-disk": (
         "recording stopped at `--max-disk` bytes of trace (2G where the call has none), and the"
         " program went on: raise `--max-disk`, or record less with `--most` or `--marked`"
@@ -256,7 +271,7 @@ def where(view: View, thing: DataObject) -> list[str]:
     """The instructions that conflict most on an object's worst line, with `--words` all, and the invalidations of the line by kind."""
     pairs = view.details(thing).conflicts()[: None if "words" in view.call.options else 1]
     rows = [conflict(view, it) for it in pairs]
-    kinds = describe_kinds(view.invalidation_kinds(thing) or {}, view.is_read(thing))
+    kinds = describe_kinds(view.invalidation_kinds(thing) or {})
     if rows and kinds:
         rows[0] += f"; in all {kinds}"
     return rows
@@ -332,34 +347,23 @@ def row(
     return rows
 
 
-def is_one(word: WordUse, other: WordUse) -> bool:
-    """Whether two words are the halves of one number, which is accessed as a whole."""
-    halves = (
-        other.addr == word.addr + 4
-        and word.addr % 8 == 0
-        and word.name == other.name
-        and ", " not in word.name
-    )
-    # (the first access that is counted may be that of the upper half)
-    is_near = abs(word.reads - other.reads) <= 1 and abs(word.writes - other.writes) <= 1
-    return halves and is_near and (word.key, word.hart) == (other.key, other.hart)
-
-
-def joined(word: WordUse, other: WordUse) -> WordUse:
-    """Two halves as one."""
-    useful = None if word.useful is None else max(word.useful, other.useful or 0)
-    return word._replace(
-        reads=max(word.reads, other.reads), writes=max(word.writes, other.writes), useful=useful
-    )
-
-
-def wholes(words: Sequence[WordUse]) -> Iterator[WordUse]:
-    """The words, those of two that are one number once."""
-    at = 0
-    while at < len(words):
-        both = at + 1 < len(words) and is_one(words[at], words[at + 1])
-        yield joined(words[at], words[at + 1]) if both else words[at]
-        at += 2 if both else 1
+def line_table(view: View, thing: DataObject, indent: str) -> Iterator[str]:
+    """The worst line of an object: the offset and the field of each word, and the threads that write it and that only read it."""
+    rows = worst_line_rows(view, thing)
+    if len(rows) < 2 or not any(it.writers for it in rows):
+        return
+    short = view.naming.names.shorten
+    shown = rows[:MAX_ROWS]
+    fields = [plain(short(it.field)) for it in shown]
+    fields = [it if len(it) <= MAX_FIELD else it[: MAX_FIELD - 2] + ".." for it in fields]
+    wide = max(len("field"), *map(len, fields))
+    writers = max(len("written by"), *(len(it.writers) for it in shown))
+    yield f"{indent}{'offset':>6}  {'field':<{wide}}  {'written by':<{writers}}  only read by"
+    for it, field in zip(shown, fields):
+        text = f"{indent}{it.offset:>6}  {field:<{wide}}  {it.writers or '-':<{writers}}  {it.readers or '-'}"
+        yield text.rstrip()
+    if len(rows) > MAX_ROWS:
+        yield f"{indent}{'':>6}  {len(rows) - MAX_ROWS} more (--words shows all)"
 
 
 def words_table(view: View, thing: DataObject, paint: Paint, indent: str) -> Iterator[str]:
@@ -428,14 +432,6 @@ def predictions(view: View, paint: Paint, width: int) -> Iterator[str]:
         yield from (paint(DIM, it) for it in fold(text, "", "  ", width))
 
 
-def order(view: View, rows: Sequence[DataObject]) -> str:
-    """By what rows are sorted, where that isn't their first column; or nothing."""
-    leading = [numbers_of(view, it)[0] for it in rows]
-    if leading == sorted(leading, reverse=True):
-        return ""
-    return "sorted by the misses that a fix would save (fewer where store buffers hide them)"
-
-
 def minors(view: View, rows: Sequence[DataObject]) -> str:
     """The objects that aren't worth a change, and their misses, or nothing."""
     if not rows:
@@ -460,11 +456,28 @@ def screen(view: View, paint: Paint, width: int = WIDTH) -> Iterator[str]:
         yield f"{plain(name)} is not contended" if name else "no line is contended"
     else:
         yield from table_rows(view, rows, top, paint, width)
+    yield from fine_rows(view, len(rows[:top]), paint, width)
     rest = minors(view, [it for it in listed if view.is_minor(it)])
     if rest:
         yield ""
         yield from fold(rest, "", "  ", width)
     yield from predictions(view, paint, width)
+
+
+def fine_rows(view: View, before: int, paint: Paint, width: int) -> Iterator[str]:
+    """The objects that are contended only at a fine interleaving, with the numbers and fixes of that run."""
+    found, fine = fine_objects(view)[:TOP], view.fine
+    if not found or fine is None:
+        return
+    table = table_of(fine, found)
+    yield ""
+    yield paint(
+        BOLD,
+        f"only at fine interleaving (quantum {FINE_QUANTUM}), typical of queues and spinning:",
+    )
+    yield paint(DIM, table.head())
+    for place, thing in enumerate(found, before + 1):
+        yield from row(fine, place, thing, paint, width, table)
 
 
 def table_rows(
@@ -474,12 +487,13 @@ def table_rows(
     shown = rows[:top]
     table = table_of(view, shown)
     yield ""
-    by = order(view, shown)
-    if by:
-        yield paint(DIM, f"{by}:")
     yield paint(DIM, table.head())
     for place, thing in enumerate(shown, 1):
         yield from row(view, place, thing, paint, width, table)
+        if place == 1 and "words" not in view.call.options:
+            yield from (
+                paint(DIM, it) for it in line_table(view, thing, " " * (table.rank + 2 + LABEL))
+            )
         if "words" in view.call.options:
             yield from words_table(view, thing, paint, " " * (table.rank + 2 + LABEL))
     if view.folded_objects():

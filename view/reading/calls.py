@@ -15,7 +15,8 @@ USAGE = """usage: predator view run PROGRAM [options of run] [OPTIONS] [-- WORD 
        predator view sweep TRACE --size N [--top N] [--html F]
        predator view caches TRACE [--shape 64x64x8 ..] [--top N] [--html F]
        predator view REPORT [--program PROGRAM] [OPTIONS]          (the report - is standard input)
-       predator view FILE ..          (a program or a trace: as run, native or replay, by what the file is)"""
+       predator view FILE ..          (a program or a trace: as run, native or replay, by what the file is)
+       predator view --page-app F     (a page that counts files by itself, in a browser)"""
 HELP = (
     USAGE
     + """
@@ -35,15 +36,19 @@ Options:
   --no-predicted     count and show no predicted lines
   --explain N        find the conflicting instructions of the first N objects (3), with one run each; 0 for none. A trace with program
                      counters names those of all objects
+  --fine             also run a guest of more than 4,000,000 accesses at a quantum of 3, to find what is contended only there
+  --no-fine          run a guest at the given quantum only
   --type SITE=TYPE   the type of the blocks of a call site, as arena.c:78=node: a type, or a pointer variable
   --sources DIR      the folder of the sources, if they moved
   --shape SHAPE      for `view caches`: a cache, as 64x16x2 for 16 sets of 2 lines of 64 bytes; may be given several times (64x16x2,
                      64x32x4, 64x64x8 and 64x512x8)
   --html F           write an HTML page to F; F can be `-`, standard output without the screen, for one of these outputs
+  --live             put the trace and the verified program into the page of --html, which counts other layouts then
   --json F           write all that was found to F as JSON, by view/output/schema.json
   --json-version N   the version of that JSON: 2, or 1 for the former keys, by view/output/schema-1.json
   --latency NS       the nanoseconds that a line takes between cores, for the upper bound on the time in the JSON (140); 0 for no bound,
                      which saves a run
+  --perf FILE        mark the objects on which memory samples fell: `perf script --show-mmap-events` of `perf c2c record`
   --sarif F          write the objects to F as SARIF 2.1.0, for editors and code hosts
   --patch F          write the fixes that change declarations only to F, for `patch -p1`
   --against OLD      compare with OLD, which --json wrote, or a kept report
@@ -77,8 +82,9 @@ VALUES = (
         "explain",
     ),
     "latency",
+    "perf",
 )
-FLAGS = ("words", "predicted", "no-predicted", "library", "help")
+FLAGS = ("words", "predicted", "no-predicted", "library", "fine", "no-fine", "live", "help")
 # The former names of options.
 FORMER = {"back": "map"}
 # What `--by` judges, and its values for misses; `useless` and `count` are former names.
@@ -89,7 +95,7 @@ LISTS = ("type", "shape")
 ALONE = {"sweep": ("html", "top"), "caches": ("html", "shape", "top")}
 # Options of `predator native` that have no value, and those that have one.
 MARKS = ("all", "marked", "child", "built", "pcs", "no-pcs")
-RECORDS = ("--quantum", "--most", "--max-disk", "--trace")
+RECORDS = ("--quantum", "--most", "--max-disk", "--trace", "--skip", "--for", "--windows")
 # Options of a replay that goes on from another one, which a trace of a program of this machine doesn't.
 STATES = ("--save", "--resume")
 # What view writes.
@@ -123,6 +129,8 @@ class Call:
         self.guest_words: list[str] = []
         self.recorder_flags: list[str] = []
         self.engine_options: list[str] = []
+        # The quantum at which a program of this machine was recorded, or none.
+        self.recorded_quantum: int | None = None
         # Where the trace of a run may be written that no word names.
         self.run_trace: str | None = None
         self.words, names = self.split(words[1:] if first in named else words)
@@ -139,6 +147,7 @@ class Call:
             )
         self.subject = self.named = names[0]
         self.check_words()
+        self.merge_settings()
         self.program = self.subject if self.action == "run" else self.options.get("program")
         self.check_values()
 
@@ -166,6 +175,29 @@ class Call:
                 raise Fault(
                     f"'--set {pair}': there is no setting '{key}'; {suggest_nearest(key, KEYS)}the settings are {', '.join(KEYS)}"
                 )
+
+    def merge_settings(self) -> None:
+        """Makes one list of the settings of several `--set`, of which a later one replaces an earlier one."""
+        settings: dict[str, str] = {}
+        rest: list[str] = []
+        places: list[int] = []
+        at = 0
+        while at < len(self.words):
+            word = self.words[at]
+            if word == "--":
+                rest += self.words[at:]
+                break
+            width = option_width(word)
+            if word.partition("=")[0] == "--set" and (width == 1 or at + 1 < len(self.words)):
+                value = word.partition("=")[2] if width == 1 else self.words[at + 1]
+                settings.update({it.partition("=")[0]: it for it in value.split(",")})
+                places.append(len(rest))
+            else:
+                rest += self.words[at : at + width]
+            at += width
+        if len(places) > 1:
+            rest[places[0] : places[0]] = ["--set", ",".join(settings.values())]
+            self.words = rest
 
     def split(self, words: Sequence[str]) -> tuple[list[str], list[str]]:
         """The words that are the program's, and the names among them; view's own options are put down."""
@@ -239,9 +271,16 @@ class Call:
                 raise Fault(
                     f"'--type' takes SITE=TYPE, such as arena.c:78=node, not '{assignment}'"
                 )
+        if "fine" in self.options and "no-fine" in self.options:
+            raise Fault("'--fine' and '--no-fine' exclude each other")
+        if self.action != "run" and ("fine" in self.options or "no-fine" in self.options):
+            raise Fault(
+                "'--fine' and '--no-fine' apply to `view run` only: record a program of this machine"
+                " with `--quantum 3`"
+            )
         if "predicted" in self.options and "no-predicted" in self.options:
             raise Fault("'--predicted' and '--no-predicted' exclude each other")
-        for name, of in (("by", "fail-above"), ("json-version", "json")):
+        for name, of in (("by", "fail-above"), ("json-version", "json"), ("live", "html")):
             if name in self.options and of not in self.options:
                 raise Fault(f"'--{name}' needs '--{of}'")
         if self.options["type"] and not self.has_types():

@@ -108,6 +108,10 @@ def run_recorder(words: Sequence[str]) -> int:
             signal.signal(number, old)
 
 
+# How many accesses the recorders give a thread in a turn, where no option says so.
+RECORDER_QUANTUM = 100
+
+
 def option_value(words: Sequence[str], option: str) -> str | None:
     """The value that words give for an option, or none."""
     for at, word in enumerate(words):
@@ -172,6 +176,7 @@ def record_program(call: Call) -> Iterator[None]:
         old = file_stamp(trace)
         status = run_recorder([*words, *recorder, "--", name, *call.guest_words[1:]])
         check_trace(trace, old, status)
+        call.recorded_quantum = int(option_value(recorder, "--quantum") or RECORDER_QUANTUM)
         call.action, call.subject, call.guest_words = "replay", trace, []
         call.words = [trace, *replay]
         yield

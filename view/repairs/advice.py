@@ -211,7 +211,8 @@ def apart(words: Iterable[WordUse], thing: DataObject, size: int, element: Eleme
     """Which of an object's words need lines of their own; `element` gives the code for an array's elements."""
     own = [it for it in words if it.key == thing.key]
     if isinstance(thing.key, StackKey):
-        return f"other threads use variables on this stack: put `{attribute(size)}` on these, or move them off the stack"
+        likely = f", likely {thing.likely}" if thing.likely else ""
+        return f"other threads use variables on this stack{likely}: put `{attribute(size)}` on their types, or move them off the stack"
     if isinstance(thing.key, BlocksKey) and any(
         len({it.begin for it in line}) > 1 for line in lines(own)
     ):

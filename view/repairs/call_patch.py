@@ -8,7 +8,7 @@ from view.repairs.patches import Edit, patch, patch_obstacle
 
 
 def source_finder(view: View) -> Callable[[str], str | None]:
-    """What tells where a source is on this machine."""
+    """The function that finds a source on this machine."""
     sources = view.naming.sources
     return sources.path if sources else lambda _: None
 

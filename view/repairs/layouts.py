@@ -15,8 +15,8 @@ from view.names.fields import (
     attribute_value,
 )
 
-# So many ranges are moved at most.
-MAX_MOVED_RANGES = 100_000
+# So many ranges are moved at most, and so many bytes one by one.
+MAX_MOVED_RANGES, MAX_MOVED_BYTES = 100_000, 1 << 16
 STRUCTS = ("DW_TAG_structure_type", "DW_TAG_class_type")
 
 
@@ -217,12 +217,24 @@ def to_whole_words(parts: Iterable[MovedRange]) -> list[MovedRange]:
     return found
 
 
+def to_parts(parts: Iterable[MovedRange]) -> tuple[list[MovedRange], bool]:
+    """The same in whole words where that can be, and else in bytes; with it whether it is in bytes."""
+    own = [it for it in parts if it.size]
+    try:
+        return to_whole_words(own), False
+    except Unmovable:
+        if sum(it.size for it in own) > MAX_MOVED_BYTES:
+            raise
+        return sorted(own), True
+
+
 class Array(NamedTuple):
-    """An array in a value: the path to its elements, what these are, and where each begins."""
+    """An array in a value: the path to its elements, what these are, where each begins, and how many of them are one array's."""
 
     path: str
     shape: Shape
     begins: list[int]
+    length: int
 
 
 def arrays_in(shape: Shape, begins: list[int], path: str = "", depth: int = 0) -> Iterator[Array]:
@@ -236,7 +248,7 @@ def arrays_in(shape: Shape, begins: list[int], path: str = "", depth: int = 0) -
         if not wide or len(begins) * dims[0] > MAX_MOVED_RANGES:
             return
         own = [it + at * wide for it in begins for at in range(dims[0])]
-        yield Array(f"{path}[]", element, own)
+        yield Array(f"{path}[]", element, own, dims[0])
         yield from arrays_in(element, own, f"{path}[]", depth + 1)
     elif record is not None:
         for member in record_members(record) or []:

@@ -35,7 +35,7 @@ def add_attribute(text: str, name: str, line: int) -> str:
     plain = COMMENT.sub(lambda comment: " " * len(comment[0]), text)
     found = list(re.finditer(rf"\b{re.escape(name)}\b((?:\s*\[[^\]]*\])*)(?=\s*[;,={{])", plain))
     if len(found) != 1:
-        raise Unpatchable(name)
+        raise Unpatchable(f"its line doesn't declare {name} in plain words")
     end = found[0].end()
     return f"{text[:end]} {attribute(line)}{text[end:]}"
 
@@ -64,7 +64,7 @@ class AlignRecord(NamedTuple):
                 end = found.start() + len(self.keyword)
                 lines[at] = f"{lines[at][:end]} {attribute(self.line)}{lines[at][end:]}"
                 return
-        raise Unpatchable(self.name)
+        raise Unpatchable(f"{self.keyword} {self.name} doesn't begin on its line in plain words")
 
 
 class AlignVariable(NamedTuple):
@@ -111,8 +111,10 @@ class OrderFields(NamedTuple):
         first = next(
             (at for at in range(self.place.line - 1, starts[0]) if "{" in lines[at]), len(lines)
         )
-        if starts != sorted(set(starts)) or first >= starts[0] - 1:
-            raise Unpatchable("fields")
+        if starts != sorted(set(starts)):
+            raise Unpatchable("several of its fields are declared on one line")
+        if first >= starts[0] - 1:
+            raise Unpatchable("its first field is on the line of its brace")
         segments, at = {}, first + 1
         for member, start, after in zip(own, starts, [*starts[1:], len(lines) + 1]):
             end = next(
@@ -124,7 +126,7 @@ class OrderFields(NamedTuple):
                 None,
             )
             if end is None or FIXED.search("\n".join(lines[at:end])):
-                raise Unpatchable(member.name)
+                raise Unpatchable(f"{member.name} isn't declared on lines of its own")
             segments[member.name], at = lines[at:end], end
         new: list[str] = []
         for number, group in enumerate(self.groups):
@@ -150,7 +152,7 @@ def apply_edits(edits: Iterable[Edit], read: Callable[[str], str]) -> dict[str, 
         old, new = found.get(edit.place.file) or (read(edit.place.file),) * 2
         lines = new.split("\n")
         if edit.place.line > len(lines):
-            raise Unpatchable(edit.place.file)
+            raise Unpatchable(f"{edit.place.file} is shorter than the program's")
         edit.apply(lines)
         found[edit.place.file] = old, "\n".join(lines)
     return found
@@ -163,7 +165,7 @@ def read_source(path: str | None) -> str:
         with open(path, encoding="utf-8", errors="surrogateescape", newline="") as file:
             return file.read()
     except OSError as error:
-        raise Unpatchable(path) from error
+        raise Unpatchable(f"{path} can't be read") from error
 
 
 def name_in_patch(path: str) -> str:
@@ -182,13 +184,13 @@ def difference(name: str, old: str, new: str) -> str:
 
 
 def patch_obstacle(edits: Sequence[Edit] | None, path: Callable[[str], str | None]) -> str:
-    """Why some edits can't be made, or nothing; `path` tells where a source is."""
+    """Why some edits can't be made, or nothing; `path` finds a source."""
     if edits is None:
         return "its fix changes more than declarations"
     try:
         apply_edits(edits, lambda file: read_source(path(file)))
     except Unpatchable as fault:
-        return f"its declaration can't be edited line by line ({fault})"
+        return str(fault)
     return ""
 
 

@@ -6,6 +6,7 @@ from typing import Any, Callable, Iterable, Iterator, Literal, NamedTuple, Seque
 
 from view.names.fields import (
     NAMES_FOR,
+    POINTERS,
     Die,
     Variable,
     die_name,
@@ -20,7 +21,7 @@ from view.repairs.layouts import Member, Shape
 from view.model.foreign_objects import is_foreign
 from view.model.view import View
 from view.names.naming import THREAD_LOCALS
-from view.model.objects import DataObject, object_key
+from view.model.objects import DataObject, ObjectLine, object_key
 from view.reading.reports import Block, Symbol
 from view.reading.trace_files import STEADY, WordUses
 
@@ -33,6 +34,8 @@ KEYWORDS = {
 }
 # Objects of more bytes than this aren't looked at word by word.
 MAX_SUBJECT_BYTES = 1 << 24
+# So many objects beside one are laid out anew with it.
+MAX_NEIGHBOURS, MAX_SEEN = 8, 64
 
 
 class Declaration(NamedTuple):
@@ -89,8 +92,13 @@ class Subject:
             die,
         )
         self.neighbours: list[Subject] = []
+        self.left_out: list[str] = []
+        # (beside the object that is looked at; and blocks that the source takes for bytes)
+        self.is_beside = self.is_bytes = False
         # (what a thread is called)
         self.owner: Callable[[int], str] = lambda hart: f"hart {hart}"
+        # (the names of structs that a call has given, each with what it is for)
+        self.wrappers: dict[str, tuple[object, ...]] = {}
 
     def size(self) -> int:
         return sum(size for _, size in self.ranges)
@@ -100,7 +108,41 @@ class Subject:
             yield from range(begin // 4 * 4, begin + size, 4)
 
     def is_blocks(self) -> bool:
-        return not isinstance(self.thing.key, SymbolKey)
+        return not isinstance(self.thing.key, SymbolKey) or self.is_body()
+
+    def is_body(self) -> bool:
+        """Whether it is a variable that a compiler has made of the one block that a pointer points to."""
+        return isinstance(self.thing.key, SymbolKey) and self.name.endswith(".body")
+
+    def site(self) -> str:
+        """The source line that makes its blocks, or its name."""
+        return self.name.partition(" made at ")[2].partition(" ")[0] or self.name
+
+    def of_text(self) -> str:
+        return f" made at {self.site()}" if self.is_beside else ""
+
+    def path_name(self, path: str) -> str:
+        """The name of a part of it: with the variable's name, or of blocks with that of their type."""
+        part = path.removesuffix("[]")
+        if not self.is_blocks() or self.is_body():
+            return self.name.removesuffix(".body") + part
+        name = record_name(self.shape)[1] if self.shape and self.shape.record() else ""
+        return name + part if name else part.lstrip(".") or f"the block made at {self.site()}"
+
+    def wrapper_name(self, path: str) -> str:
+        """A name for a struct around each element of an array in it, which nothing else has."""
+        own = "" if self.is_blocks() and not self.is_body() else self.name.removesuffix(".body")
+        parts = re.findall(r"[A-Za-z_]\w*", own + path)
+        return self.new_name("_".join([*parts, "line"]) if parts else "own_line", path)
+
+    def new_name(self, name: str, of: object) -> str:
+        """A name that nothing else has, and that for one thing is always the same."""
+        key = (self.thing.key, of)
+        for number in range(1, len(self.wrappers) + 2):
+            found = name if number == 1 else f"{name}_{number}"
+            if self.wrappers.setdefault(found, key) == key:
+                return found
+        return name
 
     def begins(self) -> list[int]:
         """Where the values of its type begin."""
@@ -144,26 +186,50 @@ def record_name(shape: Shape) -> tuple[str, str]:
     return KEYWORDS[record.tag], name
 
 
+QUALIFIERS = {
+    "DW_TAG_const_type": "const",
+    "DW_TAG_volatile_type": "volatile",
+    "DW_TAG_atomic_type": "_Atomic",
+}
+
+
 def field_declaration(shape: Shape, name: str) -> str:
-    """A field of a type, as it is declared."""
-    die = shape.die
+    """A field of a type, as it is declared, with its qualifiers."""
+    die, words = shape.die, []
     while die is not None and die.tag in NAMES_FOR and die.tag != "DW_TAG_typedef":
+        words.append(QUALIFIERS.get(die.tag, ""))
         die = type_of(die)
-    dims = shape.dims()
+    dims, after = shape.dims(), ""
     if dims and die is not None and die.tag != "DW_TAG_typedef":
-        return f"{type_name(type_of(die))} {name}" + "".join(f"[{it}]" for it in dims)
-    return f"{type_name(die)} {name}"
+        die, after = type_of(die), "".join(f"[{it}]" for it in dims)
+        while die is not None and die.tag in NAMES_FOR and die.tag != "DW_TAG_typedef":
+            words.append(QUALIFIERS.get(die.tag, ""))
+            die = type_of(die)
+    front = "".join(f"{it} " for it in dict.fromkeys(words) if it)
+    if die is not None and die.tag in POINTERS:
+        # (what stands before a pointer's type qualifies what it points to)
+        return f"{pointer_text(die)}{front}{name}{after}"
+    return f"{front}{type_name(die)} {name}{after}"
 
 
-def symbols_beside(view: View, thing: DataObject) -> dict[Key, Symbol]:
-    """The variables that lie on lines of an object, by their keys."""
-    found: dict[Key, Symbol] = {}
-    for spot in thing.lines:
-        for obj in spot.objects():
-            key = object_key(obj, view.naming, spot.base)
-            if isinstance(obj, Symbol) and key != thing.key:
-                found.setdefault(key, obj)
-    return found
+def pointer_text(die: Die) -> str:
+    """A pointer's type with the qualifiers of what it points to."""
+    to, words = type_of(die), []
+    while to is not None and to.tag in QUALIFIERS:
+        words.append(QUALIFIERS[to.tag])
+        to = type_of(to)
+    inner = pointer_text(to).rstrip() if to is not None and to.tag in POINTERS else type_name(to)
+    sign = "*" if die.tag == "DW_TAG_pointer_type" else "&"
+    return f"{''.join(f'{it} ' for it in words)}{inner} {sign}"
+
+
+def objects_by_line(view: View) -> Iterator[tuple[ObjectLine, dict[Key, Symbol | Block]]]:
+    """The worst lines of the first objects, each with the variables and blocks on it by their keys."""
+    for thing in view.objects[:MAX_SEEN]:
+        for spot in thing.worst_lines():
+            yield spot, {
+                object_key(it, view.naming, spot.base): it for it in reversed(spot.objects())
+            }
 
 
 def symbol_subject(view: View, thing: DataObject, symbol: Symbol) -> Subject:
@@ -179,15 +245,19 @@ def symbol_subject(view: View, thing: DataObject, symbol: Symbol) -> Subject:
     )
 
 
-def blocks_subject(view: View, thing: DataObject, example: Block) -> Subject:
+def blocks_subject(
+    view: View, thing: DataObject, example: Block, spots: Iterable[ObjectLine]
+) -> Subject:
     ranges: set[tuple[int, int]] = set()
-    for spot in thing.lines:
+    for spot in spots:
         for obj in spot.objects():
             if isinstance(obj, Block) and object_key(obj, view.naming, spot.base) == thing.key:
                 ranges.add((obj.addr, obj.size))
     of = value_or_default(lambda: view.naming.type_of_block(example), None)
     shape = Shape(of) if of is not None and size_of(of) else None
-    return Subject(thing, view.label(thing), join_ranges(ranges), shape)
+    found = Subject(thing, view.label(thing), join_ranges(ranges), shape)
+    found.is_bytes = shape is None and view.naming.blocks.is_byte_block(example)
+    return found
 
 
 def join_ranges(ranges: Iterable[tuple[int, int]]) -> list[tuple[int, int]]:
@@ -201,33 +271,73 @@ def join_ranges(ranges: Iterable[tuple[int, int]]) -> list[tuple[int, int]]:
     return found
 
 
-def subject_of(view: View, thing: DataObject, uses: WordUses) -> Subject | None:
-    """An object as it may be laid out anew, or none: what lies on a stack, in no object or in a library is nothing that the program
-    declares."""
-    if is_foreign(thing, view.naming):
+def is_declarable(thing: DataObject, view: View) -> bool:
+    """Whether an object is one of the program's own: a variable or blocks, and no thread's own memory."""
+    example = thing.example
+    return not is_foreign(thing, view.naming) and (
+        isinstance(example, Symbol)
+        or isinstance(example, Block)
+        and not (example.sites and example.sites[0].name == THREAD_LOCALS)
+    )
+
+
+def make_subject(view: View, thing: DataObject, spots: Iterable[ObjectLine]) -> Subject | None:
+    example = thing.example
+    if example is None or not is_declarable(thing, view):
         return None
-    if isinstance(thing.example, Symbol):
-        found = symbol_subject(view, thing, thing.example)
-    elif isinstance(thing.example, Block) and not (
-        thing.example.sites and thing.example.sites[0].name == THREAD_LOCALS
-    ):
-        found = blocks_subject(view, thing, thing.example)
-    else:
-        return None
-    if not 0 < found.size() <= MAX_SUBJECT_BYTES:
-        return None
+    found = (
+        symbol_subject(view, thing, example)
+        if isinstance(example, Symbol)
+        else blocks_subject(view, thing, example, spots)
+    )
     found.owner = view.naming.memory.owner
-    for key, symbol in symbols_beside(view, thing).items():
-        other = DataObject(key, symbol)
-        other.name = view.naming.object_name(key, symbol)
-        own = symbol_subject(view, other, symbol)
-        if (
-            not is_foreign(other, view.naming)
-            and own.size() <= MAX_SUBJECT_BYTES
-            and any(uses.users_of(it) for it in own.words())
-        ):
-            found.neighbours.append(own)
+    return found if 0 < found.size() <= MAX_SUBJECT_BYTES else None
+
+
+def subject_of(
+    view: View, thing: DataObject, uses: WordUses, wrappers: dict[str, tuple[object, ...]]
+) -> Subject | None:
+    """An object as it may be laid out anew, with those beside it that are used most, or none: what lies on a stack, in no object or in a
+    library is nothing that the program declares. `wrappers` are the names of structs that the call has given.
+    """
+    found = make_subject(view, thing, thing.lines)
+    if found is None:
+        return None
+    found.wrappers = wrappers
+    beside = [(own, used_much(own, uses)) for own in subjects_beside(view, thing)]
+    used = sorted((it for it in beside if it[1]), key=lambda it: -it[1])
+    for own, _ in used:
+        own.wrappers = wrappers
+    found.neighbours = [own for own, _ in used[:MAX_NEIGHBOURS]]
+    found.left_out = [own.name for own, _ in used[MAX_NEIGHBOURS:]]
     return found
+
+
+def subjects_beside(view: View, thing: DataObject) -> list[Subject]:
+    """The objects that share lines with one, and those that share lines with these, as far as they can be declared otherwise."""
+    found: dict[Key, Subject | None] = {thing.key: None}
+    lines = list(objects_by_line(view))
+    todo: list[Key] = [thing.key]
+    while todo:
+        key = todo.pop(0)
+        for _, things in (it for it in lines if key in it[1]):
+            for other, example in things.items():
+                if other in found or len(found) >= MAX_SEEN:
+                    continue
+                own = view.objects_by_key.get(other) or DataObject(other, example)
+                own.name = own.name or view.naming.object_name(other, example)
+                found[other] = make_subject(view, own, [it for it, of in lines if other in of])
+                if found[other] is not None:
+                    todo.append(other)
+    beside = [it for it in found.values() if it is not None]
+    for subject in beside:
+        subject.is_beside = True
+    return beside
+
+
+def used_much(subject: Subject, uses: WordUses) -> int:
+    """How many accesses an object has while threads run."""
+    return sum(use.accesses() for it in subject.words() for use in uses.users_of(it).values())
 
 
 # A group of fields and whose they are.

@@ -6,10 +6,14 @@ import functools
 import itertools
 import os
 import tempfile
+import threading
 from bisect import bisect_left, bisect_right
-from typing import Iterator, NamedTuple, Optional, Sequence, cast
+from typing import Iterator, NamedTuple, Sequence, cast
 
 from view.repairs import advice
+from view.model.trace_uses import UsesFuture, can_move, read_uses, read_uses_once
+from view.model.byte_sharing import SharingMisses, convert_to_version_1, count_by_bytes
+from view.reading.byte_traces import MAX_ACCESSES, Occupied, write_moved_bytes
 from view.reading.trace_prefix import write_prefix
 from view.names.fields import value_or_default
 from view.repairs.layouts import MovedRange, round_up
@@ -18,25 +22,25 @@ from view.model.objects import DataObject
 from view.reading.passes import is_brief
 from view.reading.engine import PassResult
 from view.reading.engine import Predator, TraceReader, Refused, every_line_reader, misses_reader
-from view.repairs.candidates import Repair, bytewise_fix, enumerate_repairs, combine_repairs
+from view.repairs.candidates import bytewise_fix
+from view.repairs.repair import Repair
+from view.repairs.search import Search
 from view.reading.reports import Misses, Report
-from view.reading.trace_files import WordUses, read_word_uses
+from view.reading.trace_files import ACCESS, WordUses
 from view.repairs.subjects import Subject, subject_of
 from view.repairs.trial_results import TrialCount, Trial
 
 # So many objects are tried, of long traces fewer: about so many accesses are counted anew in all.
 MAX_TRIED_OBJECTS, ACCESS_BUDGET = 5, 40_000_000
-# Repairs are about as good where they differ by less than one in so many of what can be saved.
-SIMILAR_DIVISOR = 50
-# Of a long trace so many accesses from where its first objects are fought over, and fewer to choose a repair by.
-PART_ACCESSES, FRONT_ACCESSES = 1 << 20, 1 << 17
-# So many repairs of one object may be added to its first, as long as less than this part of its useless misses is saved.
-MAX_JOINED_REPAIRS, ENOUGH_SAVED = 3, 0.75
+# How many accesses of a long trace are counted, from where its first objects are contended; fewer choose a repair.
+PART_ACCESSES, FRONT_ACCESSES = 1 << 20, 1 << 16
 PAGE_BYTES = 4096
 ADDRESS_END = 1 << 32
 HIGH_ADDRESSES = (0xC000_0000, 0x8000_0000, 0x4000_0000)
 # So many places are tried for what is moved.
 MAX_PLACES = 3
+# So many accesses are moved byte by byte for one screen.
+MAX_BYTE_ACCESSES = 8_000_000
 
 
 def free_places(words: Sequence[int], room: int) -> Iterator[int]:
@@ -68,7 +72,14 @@ class TrialRunner:
         self.layout = view.report.size, view.report.offset
         self.moves = itertools.count()
         self.words = sorted(view.word_misses.lines) if view.word_misses else []
-        self.front, self.before = trace, sharing_misses(view.misses) if view.misses else 0
+        self.front, self.before, self.cold = trace, 0, 0
+        self.lock, self.plain_traces, self.byte_accesses = threading.Lock(), dict[str, str](), 0
+        # (whether layouts by bytes were left out)
+        self.is_full = False
+        # (whether the trace is the one whose misses the view shows)
+        self.is_whole = trace == view.call.trace_file()
+        if view.misses is not None:
+            self.note_front(view.misses)
 
     def set_front(self, front: str | bytes) -> None:
         """Names the first part of a long trace."""
@@ -76,7 +87,11 @@ class TrialRunner:
         if isinstance(front, bytes):
             with open(self.front, "wb") as part:
                 part.write(front)
-        self.before = sharing_misses(self.misses_of(self.front))
+        self.note_front(self.misses_of(self.front))
+
+    def note_front(self, misses: Misses) -> None:
+        self.cold = misses.total["cold"]
+        self.before = cost_of(misses, self.cold)
 
     def misses_of(self, trace: str) -> Misses:
         return cast(Misses, self.predator.read_trace(trace, misses_reader(self.layout)))
@@ -84,7 +99,7 @@ class TrialRunner:
     def read_moved(
         self, trace: str, repair: Repair, readers: Sequence[TraceReader]
     ) -> list[PassResult] | None:
-        """What readers tell of a trace with the words of a repair where they would lie, or none where there is no room."""
+        """The counts of a trace whose words lie where a repair would put them; none if there is no room."""
         of_table = os.path.join(self.folder, f"table-{next(self.moves)}")
         for base in (
             [0]
@@ -98,84 +113,123 @@ class TrialRunner:
                 return self.predator.read_moved_trace(trace, of_table, readers)
         return None
 
+    def plain(self, trace: str) -> str:
+        """A trace in version 1."""
+        with self.lock:
+            if trace not in self.plain_traces:
+                folder = tempfile.mkdtemp(dir=self.folder)
+                self.plain_traces[trace] = convert_to_version_1(self.predator, trace, folder)
+            return self.plain_traces[trace]
+
+    def write_moved(self, trace: str, repair: Repair) -> str | None:
+        """A trace with the bytes of a repair where they would lie, or none where there is no room."""
+        out = os.path.join(self.folder, f"moved-{next(self.moves)}")
+        for base in (
+            [0]
+            if repair.is_in_place
+            else itertools.islice(free_places(self.words, repair.room), MAX_PLACES)
+        ):
+            places = {
+                part.begin + at: base + part.to + at
+                for part in repair.parts
+                for at in range(part.size)
+            }
+            with contextlib.suppress(Occupied):
+                write_moved_bytes(self.plain(trace), out, places)
+                return out
+        return None
+
+    def read_moved_bytes(
+        self, trace: str, repair: Repair, readers: Sequence[TraceReader]
+    ) -> list[PassResult] | None:
+        """The counts of a trace whose bytes lie where a repair would put them; none if there is no room."""
+        moved = self.write_moved(trace, repair)
+        if moved is None:
+            return None
+        found = self.predator.read_trace_by_all(moved, readers)
+        os.unlink(moved)
+        return found
+
+    def accesses(self, trace: str) -> int:
+        return os.path.getsize(self.plain(trace)) // ACCESS
+
     def count_front(self, repair: Repair) -> int | None:
         """The misses of a repair, as far as it is looked for the best one, or none."""
-        found = self.read_moved(self.front, repair, [misses_reader(self.layout)])
-        return sharing_misses(cast(Misses, found[0])) if found else None
+        read = self.read_moved_bytes if repair.is_bytewise else self.read_moved
+        found = read(self.front, repair, [misses_reader(self.layout)])
+        return cost_of(cast(Misses, found[0]), self.cold) if found else None
+
+    def count_fronts(self, repairs: Sequence[Repair]) -> list[int | None]:
+        """The same of several, side by side."""
+        chosen = [it if self.has_room(it) else None for it in repairs]
+        with concurrent.futures.ThreadPoolExecutor(max_workers=min(4, os.cpu_count() or 1)) as pool:
+            return list(pool.map(lambda it: self.count_front(it) if it else None, chosen))
+
+    def has_room(self, repair: Repair) -> bool:
+        """Whether a repair may be counted: few are by bytes in a long trace."""
+        if not repair.is_bytewise:
+            return True
+        self.byte_accesses += self.accesses(self.front)
+        self.is_full = self.is_full or self.byte_accesses > MAX_BYTE_ACCESSES
+        return not self.is_full
 
     def count_whole(self, repair: Repair) -> TrialCount | None:
-        """What a repair comes to in the whole trace, or none."""
-        found = self.read_moved(
-            self.trace, repair, [misses_reader(self.layout), every_line_reader(self.layout)]
-        )
+        """What a repair comes to in the whole trace, or none. Lines whose misses are counted by bytes are so again."""
+        size, shift = self.layout
+        readers = [
+            misses_reader(self.layout),
+            every_line_reader(self.layout),
+            misses_reader((2 * size, shift)),
+        ]
+        left = [it for it in self.view.byte_changes if is_moved(repair, it, self.layout[0])]
+        if (repair.is_bytewise or left) and self.is_long():
+            return None
+        if not repair.is_bytewise and not left:
+            found = self.read_moved(self.trace, repair, readers)
+            by_bytes = dict[int, SharingMisses]()
+        else:
+            moved = self.write_moved(self.trace, repair)
+            found = self.predator.read_trace_by_all(moved, readers) if moved else None
+            by_bytes = (
+                count_by_bytes(self.predator, moved, left, self.layout[0], self.new_folder())
+                if moved
+                else {}
+            )
         if found is None:
             return None
+        misses = cast(Misses, found[0])
+        total = dict(misses.total)
+        changes = [own for it, own in self.view.byte_changes.items() if it not in left]
+        changes += [
+            own.useless - misses.lines[it].useless
+            for it, own in by_bytes.items()
+            if it in misses.lines
+        ]
+        if self.is_whole:
+            total["useless"] += sum(changes)
+            total["useful"] -= sum(changes)
         return TrialCount(
-            cast(Misses, found[0]).total, sum(it.count for it in cast(Report, found[1]).observed())
+            total,
+            sum(it.count for it in cast(Report, found[1]).observed()),
+            cast(Misses, found[2]).total["useless"],
         )
 
-    def best_repair(self, repairs: Sequence[Repair]) -> tuple[Repair, int] | None:
-        """The repair that leaves the fewest misses, and of several that are about as good the smallest; with it what it leaves."""
-        with concurrent.futures.ThreadPoolExecutor(max_workers=min(4, os.cpu_count() or 1)) as pool:
-            counts = list(pool.map(self.count_front, repairs))
-        found = [(repair, own) for repair, own in zip(repairs, counts) if own is not None]
-        if not found:
-            return None
-        least = min(own for _, own in found)
-        most = least + max(self.before - least, 0) // SIMILAR_DIVISOR
-        return min((it for it in found if it[1] <= most), key=lambda choice: choice[0].room)
+    def is_long(self) -> bool:
+        return self.accesses(self.trace) > MAX_ACCESSES
 
-    def best_repairs(
-        self, subject: Subject, repairs: Sequence[Repair], useless: float
-    ) -> tuple[tuple[Repair, int] | None, int]:
-        """The best repair, or several together where one leaves much of the useless misses, of which the object has a part, and what that
-        leaves. With it how many were tried."""
-        found, many = self.best_repair(repairs), len(repairs)
-        for _ in range(MAX_JOINED_REPAIRS if found else 0):
-            if found is None or self.before - found[1] > ENOUGH_SAVED * useless * self.before:
-                break
-            more = [
-                joined
-                for one in repairs
-                if (joined := combine_repairs(subject, found[0], one, self.layout[0]))
-                and joined.parts != found[0].parts
-            ]
-            better, many = self.best_repair(more), many + len(more)
-            if better is None or found[1] - better[1] <= (self.before - found[1]) / SIMILAR_DIVISOR:
-                break
-            found = better
-        return found, many
+    def new_folder(self) -> str:
+        return tempfile.mkdtemp(dir=self.folder)
 
 
-def sharing_misses(misses: Misses) -> int:
-    """The misses that aren't cold."""
-    return misses.total["useless"] + misses.total["useful"]
+def is_moved(repair: Repair, base: int, size: int) -> bool:
+    """Whether a repair moves a part of a line."""
+    return any(it.begin < base + size and base < it.begin + it.size for it in repair.parts)
 
 
-# Who uses the words of a trace, as it will be known; or none where no repair can be tried.
-UsesFuture = Optional["concurrent.futures.Future[WordUses | None]"]
-
-
-def begin_reading(view: View, predator: Predator | None) -> UsesFuture:
-    """Begins to read the trace, which goes on beside what the program counts."""
-    trace = view.call.trace_file()
-    if predator is None or trace is None or not can_move(view, predator) or is_brief(view.call):
-        return None
-    pool = concurrent.futures.ThreadPoolExecutor(max_workers=1)
-    try:
-        return pool.submit(read_uses, predator, trace)
-    finally:
-        pool.shutdown(wait=False)
-
-
-def can_move(view: View, predator: Predator) -> bool:
-    return not view.report.offset and predator.has_command("move")
-
-
-def read_uses(predator: Predator, trace: str) -> WordUses | None:
-    with contextlib.suppress(Refused, OSError, ValueError):
-        return read_word_uses(predator, trace)
-    return None
+def cost_of(misses: Misses, cold: int) -> int:
+    """All misses, of the cold ones at least so many: a repair is for what threads share, and may not cost cold ones."""
+    total = misses.total
+    return total["useless"] + total["useful"] + max(total["cold"], cold)
 
 
 class TrialGround(NamedTuple):
@@ -203,9 +257,7 @@ class TrialGround(NamedTuple):
 def whole_ground(
     view: View, predator: Predator, reading: UsesFuture, folder: str
 ) -> TrialGround | None:
-    # (a run's trace may be there only now)
-    reading = reading or begin_reading(view, predator)
-    trace, uses = view.call.trace_file(), reading.result() if reading else None
+    trace, uses = view.call.trace_file(), read_uses_once(view, predator, reading)
     if trace is None or uses is None:
         return None
     trial = TrialRunner(view, predator, trace, folder)
@@ -217,7 +269,7 @@ def whole_ground(
 def part_ground(
     view: View, predator: Predator, things: Sequence[DataObject], folder: str
 ) -> TrialGround | None:
-    """The first part of a long trace, in which the objects are fought over already."""
+    """The first part of a long trace in which the objects are contended."""
     trace = view.call.trace_file()
     if trace is None or not can_move(view, predator):
         return None
@@ -274,17 +326,19 @@ def try_objects(
         if ground is None:
             return
         view.trials = tried
-        found = []
+        found, wrappers = [], dict[str, tuple[object, ...]]()
         for thing in worth[: max(ACCESS_BUDGET // max(ground.accesses, 1), 1)]:
             subject = value_or_default(
-                functools.partial(subject_of, view, thing, ground.uses), None
+                functools.partial(subject_of, view, thing, ground.uses, wrappers), None
             )
             own = ground.trial_of(thing, subject) if subject is not None else None
             if subject is not None and own is not None and own.own_misses():
                 found.append(
                     choose_repair(ground.trial, own, subject, ground.uses, view.report.size)
                 )
-        note_joint_result(view, found, count_repairs(ground.trial, found))
+        counted = count_repairs(ground.trial, found)
+        note_same_repairs(found)
+        note_joint_result(view, found, counted)
         view.trials.update((it.thing.key, it) for it in found)
 
 
@@ -297,43 +351,42 @@ def choose_repair(
     trial: TrialRunner, found: Trial, subject: Subject, uses: WordUses, line: int
 ) -> Trial:
     """The best of the repairs of an object, yet to be counted."""
-    none: list[Repair] = []
-    repairs = value_or_default(functools.partial(enumerate_repairs, subject, uses, line), none)
     if found.mixed_words():
         found.instead = value_or_default(
             functools.partial(bytewise_fix, subject, uses, line), "give each its own line"
         )
-    thing = found.thing
-    useless = (
-        found.own_misses()
-        * thing.useless
-        / (max(thing.useless + thing.useful, 1) * max(found.before.sharing_misses(), 1))
+    subjects = [subject, *subject.neighbours]
+    result = Search(subjects, uses, line, trial.before, trial.count_fronts).run()
+    found.repair, found.other_repair, found.bound_repair = result.best, result.other, result.bound
+    found.tried_repairs, found.left_out = result.layouts, [*subject.left_out, *result.left_out]
+    if trial.is_full:
+        found.left_out.append("layouts by bytes")
+    found.expected_savings = (
+        (trial.before - result.misses) * found.before.all_misses() // max(trial.before, 1)
+        if result.best
+        else 0
     )
-    best, found.tried_repairs = trial.best_repairs(subject, repairs, useless)
-    if best:
-        found.repair, left = best
-        found.expected_savings = (
-            (trial.before - left) * found.before.sharing_misses() // max(trial.before, 1)
-        )
     return found
 
 
 def count_repairs(trial: TrialRunner, found: Sequence[Trial]) -> TrialCount | None:
     """Counts all repairs in the whole trace, some side by side, and what those come to together that are named, or none where they are
     less than two."""
-    own = [it for it in found if it.repair]
-    likely = [it for it in own if it.is_much(it.expected_savings)]
+    likely = [it for it in found if it.repair and it.is_much(it.expected_savings)]
     both = (
         join_repairs([it.repair for it in likely if it.repair], trial.layout[0])
         if len(likely) > 1
         else None
     )
-    jobs = [*(it.repair for it in own), *(it.repair and it.repair.instead for it in own), both]
+    jobs = [
+        *(job for it in found for job in (it.repair, it.other_repair, it.bound_repair)),
+        both,
+    ]
     with concurrent.futures.ThreadPoolExecutor(max_workers=min(4, os.cpu_count() or 1)) as pool:
         counts = list(pool.map(lambda job: trial.count_whole(job) if job else None, jobs))
-    for at, result in enumerate(own):
-        result.after, result.other = counts[at], counts[len(own) + at]
-    saving = [it for it in own if it.is_saving()]
+    for at, result in enumerate(found):
+        result.after, result.other, result.bound = counts[3 * at : 3 * at + 3]
+    saving = [it for it in found if it.is_saving()]
     if len(saving) < 2 or saving == likely:
         return counts[-1] if len(saving) > 1 else None
     return trial.count_whole(
@@ -345,7 +398,7 @@ def join_repairs(repairs: Sequence[Repair], line: int) -> Repair:
     """Several repairs as one; words that several would move go where the first of them puts them."""
     parts: list[MovedRange] = []
     room = 0
-    for own in repairs:
+    for own in (it.movable(line) for it in repairs):
         parts = sorted(
             [
                 *parts,
@@ -373,9 +426,19 @@ def parts_outside(part: MovedRange, others: Sequence[MovedRange]) -> Iterator[Mo
         yield MovedRange(begin, end - begin, begin + by)
 
 
+def note_same_repairs(found: Sequence[Trial]) -> None:
+    """Names a repair once: for the object that it saves most for."""
+    saving = sorted((it for it in found if it.is_saving()), key=lambda it: -it.own_misses())
+    for at, own in enumerate(saving):
+        for first in saving[:at]:
+            if own.repair and first.repair and set(own.repair.hows) <= set(first.repair.hows):
+                own.same_as = first.same_as or first.thing
+                break
+
+
 def note_joint_result(view: View, found: Sequence[Trial], counted: TrialCount | None) -> None:
-    """Notes what all repairs come to that are named, where they are several."""
-    if counted is not None:
+    """Notes what all repairs come to that are named, where they are several different ones."""
+    if counted is not None and sum(it.same_as is None for it in found if it.is_saving()) > 1:
         view.notes.append(
             f"all fixes together{found[0].part_text()}: {found[0].before.beside(counted)}"
         )

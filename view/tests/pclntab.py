@@ -24,7 +24,7 @@ class Own(NamedTuple):
     has_tree: bool = True
 
 
-# (the last file is left out of the program; where no call is inlined the table that would tell it may be there or not)
+# (the last file is left out of the program; where no call is inlined the table of inlined calls may be there or not)
 FILES = ["/src/a.go", "/src/b.go", "lib//c.go", None]
 OWN = [
     Own("main.plain", 32, 0, [(1, 32)], [(7, 16), (8, 8), (6, 8)]),
@@ -60,9 +60,9 @@ def number(it: int) -> bytes:
     return bytes([it]) if it < 0x80 else bytes([it & 0x7F | 0x80]) + number(it >> 7)
 
 
-def encoded(told: Steps) -> bytes:
+def encoded(steps: Steps) -> bytes:
     found, before = b"", -1
-    for value, size in told:
+    for value, size in steps:
         change = value - before
         found += number(2 * change if change >= 0 else -2 * change - 1) + number(size)
         before = value
@@ -109,7 +109,7 @@ class Made:
             Store(b"\0"),
             Store(b"\0" * 8),
         )
-        told = [self.told(it) for it in own]
+        places = [self.places_of(function) for function in own]
         units = b"".join(
             struct.pack("<I", MISSING if it is None else self.files.text(it)) for it in FILES
         )
@@ -121,11 +121,11 @@ class Made:
         self.put(self.tree, self.trees.data)
         self.head()
         self.records: list[int] = []
-        self.list_functions(told)
+        self.list_functions(places)
         if has_module:
             self.module()
 
-    def told(self, own: Own) -> tuple[int, int, int, int, int]:
+    def places_of(self, own: Own) -> tuple[int, int, int, int, int]:
         """Where a function's name, files, lines, tables of inlined calls and tree are."""
         found = [
             self.values.put(encoded(it)) if it else 0 for it in (own.files, own.lines, own.index)
@@ -167,16 +167,16 @@ class Made:
         if not self.is_wide:
             self.point(TABLE + 24, TEXT)
 
-    def list_functions(self, told: Sequence[tuple[int, int, int, int, int]]) -> None:
+    def list_functions(self, places: Sequence[tuple[int, int, int, int, int]]) -> None:
         first = self.places[4]
         step = 16 if self.is_wide else 8
-        place = first + (step * len(told) + 8 + 7) // 8 * 8
-        for at, (own, start, it) in enumerate(zip(self.own, self.starts, told)):
+        place = first + (step * len(places) + 8 + 7) // 8 * 8
+        for at, (own, start, own_places) in enumerate(zip(self.own, self.starts, places)):
             self.start(first + step * at, start)
             self.put(first + step * at + step // 2, (place - first).to_bytes(step // 2, "little"))
             self.records.append(place)
-            place = self.function(place, own, start, it)
-        self.start(first + step * len(told), self.starts[-1])
+            place = self.function(place, own, start, own_places)
+        self.start(first + step * len(places), self.starts[-1])
 
     def start(self, addr: int, start: int) -> None:
         if self.is_wide:
@@ -185,10 +185,10 @@ class Made:
             self.put(addr, struct.pack("<I", start - TEXT))
 
     def function(
-        self, place: int, own: Own, start: int, told: tuple[int, int, int, int, int]
+        self, place: int, own: Own, start: int, places: tuple[int, int, int, int, int]
     ) -> int:
-        """Puts a function's record, and tells where the next one may be."""
-        name, files, lines, index, tree = told
+        """Writes a function's record, and returns the place for the next one."""
+        name, files, lines, index, tree = places
         tables, pieces = (4 if own.index else 3 if own.unit else 2), (4 if own.calls else 3)
         self.start(place, start)
         unread = 7 if self.version == "1.20" else 3
@@ -225,23 +225,25 @@ class Made:
                 self.point(MODULE + 8 * word, self.tree)
 
     def moves(self) -> tuple[bytes, bytes]:
-        """The relocations, and the section that tells of them."""
+        """The relocations, and the dynamic section that names them."""
         if self.way == "packed":
-            told = b"".join(struct.pack("<Q", it) for it in sorted(self.pointers))
-            tags = ((36, MOVES), (35, len(told)))
+            relocations = b"".join(struct.pack("<Q", it) for it in sorted(self.pointers))
+            tags = ((36, MOVES), (35, len(relocations)))
         else:
-            told = b"".join(struct.pack("<QQq", it, 8, to) for it, to in self.pointers.items())
-            tags = ((7, MOVES), (8, len(told)))
-        return told, b"".join(struct.pack("<QQ", *it) for it in (*tags, (0, 0)))
+            relocations = b"".join(
+                struct.pack("<QQq", it, 8, to) for it, to in self.pointers.items()
+            )
+            tags = ((7, MOVES), (8, len(relocations)))
+        return relocations, b"".join(struct.pack("<QQ", *it) for it in (*tags, (0, 0)))
 
     def segments(self) -> Iterator[tuple[int, int, int, bytes]]:
         """The type, the rights, the address and the bytes of each segment."""
         for addr, data in self.parts.items():
             yield 1, 5 if addr == TEXT else 6, addr, bytes(data)
         if self.way != "fixed":
-            told, tags = self.moves()
-            yield 1, 4, MOVES, told + tags
-            yield 2, 4, MOVES + len(told), tags
+            relocations, tags = self.moves()
+            yield 1, 4, MOVES, relocations + tags
+            yield 2, 4, MOVES + len(relocations), tags
 
     def bytes(self, machine: int = 62, kind: int = 2) -> bytes:
         """The program's file: for x86-64, by its class one of 64 bits."""

@@ -21,6 +21,7 @@ GOOD = {"--type": "a.c:7=node", "--by": "invalidations", "--sources": HERE}
 BESIDE = {
     "--by": ("--fail-above", "1"),
     "--json-version": ("--json", "f"),
+    "--live": ("--html", "f"),
     "--type": ("--map", "map"),
 }
 

@@ -48,6 +48,16 @@ def places(result):
     return [(it["artifactLocation"]["uri"], it["region"]["startLine"]) for it in found]
 
 
+def tried(false_sharing, true_sharing, cold, invalidations):
+    """The numbers of a trial, as JSON has them."""
+    return {
+        "false_sharing": false_sharing,
+        "true_sharing": true_sharing,
+        "cold": cold,
+        "invalidations": invalidations,
+    }
+
+
 class Files(unittest.TestCase):
     @classmethod
     def setUpClass(cls):
@@ -122,8 +132,8 @@ class Files(unittest.TestCase):
             self.assertEqual(
                 two["objects"][0]["tried"],
                 {
-                    "before": {"false_sharing": 342, "true_sharing": 314, "invalidations": 658},
-                    "after": {"false_sharing": 44, "true_sharing": 314, "invalidations": 359},
+                    "before": {**tried(342, 314, 9, 658), "bytes": 64},
+                    "after": {**tried(44, 314, 9, 359), "bytes": 256},
                     "accesses": 2108,
                 },
             )
@@ -190,7 +200,7 @@ class Files(unittest.TestCase):
             [*browser, "--dump-dom", page], capture_output=True, encoding="utf-8", timeout=50
         ).stdout
         cells = re.findall(r'<div class="who"[^>]*>(.)(?:<small>\w+</small>)?</div>', tree)
-        self.assertEqual("".join(cells), "ABBBAABAB")
+        self.assertEqual("".join(cells), "ABBAABAB")
         self.assertIn('<div class="field">.low, .middle, .high</div>', tree)
         subprocess.run(
             [*browser, "--window-size=1100,900", f"--screenshot={picture}", page],
@@ -353,7 +363,7 @@ class Program(unittest.TestCase):
                 if is_tried:
                     self.assertEqual(text, told)
                     self.assertIn(
-                        "tried misses false 2,147 → 0, true 0 → 0, invalidations 1,833 → 0",
+                        "tried misses 2,153 → 6 (false 2,147 → 0, true 0 → 0, cold 6 → 6)",
                         " ".join(told.split()),
                     )
                 by_name = [

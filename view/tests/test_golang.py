@@ -37,8 +37,8 @@ from view.names.unnamed_memory import is_unnamed, name_by_users  # noqa: E402
 
 VERSIONS, WAYS = ("1.16", "1.18", "1.20"), ("fixed", "addends", "packed")
 A, B, C = "/src/a.go", "/src/b.go", "lib/c.go"
-# What is told of some places of the functions, counted from the first one.
-TOLD = {
+# The frames at some places of the functions, as offsets from the first one.
+FRAMES = {
     0: [("main.plain", B, 7)],
     15: [("main.plain", B, 7)],
     16: [("main.plain", B, 8)],
@@ -78,10 +78,10 @@ class OfBytes(unittest.TestCase):
             file.write(made if isinstance(made, bytes) else made.bytes(**how))
         return find_table(self.path)
 
-    def told(self, made):
+    def frames_of(self, made):
         table = self.table(made)
         self.assertIsInstance(table, Table)
-        return {at: [tuple(it) for it in table.frames(TEXT + at)] for at in TOLD}
+        return {at: [tuple(it) for it in table.frames(TEXT + at)] for at in FRAMES}
 
 
 class Versions(OfBytes):
@@ -89,14 +89,14 @@ class Versions(OfBytes):
         for version in VERSIONS:
             for way in WAYS:
                 with self.subTest(version=version, way=way):
-                    self.assertEqual(self.told(Made(version, way)), TOLD)
+                    self.assertEqual(self.frames_of(Made(version, way)), FRAMES)
 
     def test_all_places(self):
         table = self.table(Made())
         for at in range(-1, 177):
             self.assertEqual(
                 [tuple(it) for it in table.frames(TEXT + at)],
-                TOLD[max(it for it in TOLD if it <= at)],
+                FRAMES[max(it for it in FRAMES if it <= at)],
                 at,
             )
 
@@ -104,17 +104,17 @@ class Versions(OfBytes):
         # (then trees are known by the versions alone in which functions point to them)
         for way in WAYS:
             with self.subTest(way):
-                self.assertEqual(self.told(Made("1.16", way, has_module=False)), TOLD)
+                self.assertEqual(self.frames_of(Made("1.16", way, has_module=False)), FRAMES)
                 for version in ("1.18", "1.20"):
                     wanted = {
-                        at: [("", *it[0][1:])] if len(it) > 1 else it for at, it in TOLD.items()
+                        at: [("", *it[0][1:])] if len(it) > 1 else it for at, it in FRAMES.items()
                     }
-                    self.assertEqual(self.told(Made(version, way, has_module=False)), wanted)
+                    self.assertEqual(self.frames_of(Made(version, way, has_module=False)), wanted)
 
     def test_code_begins_where_the_module_says(self):
         made = Made()
         made.put(TABLE + 24, bytes(8))
-        self.assertEqual(self.told(made), TOLD)
+        self.assertEqual(self.frames_of(made), FRAMES)
         made = Made(has_module=False)
         made.put(TABLE + 24, bytes(8))
         self.assertIsNone(self.table(made))
@@ -129,7 +129,7 @@ class Versions(OfBytes):
             made.parts[TABLE - 0x4000] = bytearray(strange.parts[TABLE] + own[:0])
             made.parts = dict(sorted(made.parts.items()))
             if has_module:
-                self.assertEqual(self.told(made), TOLD)
+                self.assertEqual(self.frames_of(made), FRAMES)
             else:
                 self.assertIsNone(self.table(made))
 
@@ -143,7 +143,7 @@ class Versions(OfBytes):
 
 
 class Strange(OfBytes):
-    """Tables that are no good: what isn't known isn't told."""
+    """Damaged tables: nothing is reported that they don't contain."""
 
     def refused(self, place, data, version="1.18", **how):
         made = Made(version, **how)
@@ -201,7 +201,7 @@ class Strange(OfBytes):
             self.refused(MODULE + 8 * word, struct.pack("<Q", TEXT + 8))
 
     def test_trees(self):
-        """A call that isn't in order isn't told, and nor is the outer function for it."""
+        """An inlined call out of order isn't reported, and nor is the outer function in its place."""
         for version, size, name_at, place_at in (
             ("1.16", 20, 12, 16),
             ("1.18", 20, 12, 16),
@@ -215,7 +215,7 @@ class Strange(OfBytes):
                     for it in (inner, deep)
                     for value in (12, 0x7FFFFFF, 0xFFFFFFFF)
                 ),
-                # (outside of the function; in itself; in one that isn't told)
+                # (outside of the function; in itself; in one that isn't reported)
                 *(
                     (it + place_at, value)
                     for it in (inner, deep)
@@ -253,7 +253,7 @@ class Strange(OfBytes):
             self.assertEqual(self.table(made).frames(TEXT + 48), [SourceLine("", B, 20)])
 
     def test_how_deep_calls_are(self):
-        for deep, wanted in ((2, TOLD[64]), (1, [("", B, 50)])):
+        for deep, wanted in ((2, FRAMES[64]), (1, [("", B, 50)])):
             with mock.patch.object(go, "DEEP", deep):
                 self.assertEqual([tuple(it) for it in self.table(Made()).frames(TEXT + 64)], wanted)
 
@@ -308,14 +308,14 @@ class Strange(OfBytes):
         whole = Made().bytes()
         for size in range(0, len(whole), 37):
             table = value_or_default(functools.partial(self.table, whole[:size]), None)
-            for at in TOLD if table else ():
+            for at in FRAMES if table else ():
                 found = value_or_default(functools.partial(table.frames, TEXT + at), [])
                 # (all, or the line alone, or the function alone, or nothing)
-                line, function = [("", *it[1:]) for it in TOLD[at][:1]], [
-                    (it[0], "", 0) for it in TOLD[at][-1:]
+                line, function = [("", *it[1:]) for it in FRAMES[at][:1]], [
+                    (it[0], "", 0) for it in FRAMES[at][-1:]
                 ]
                 self.assertIn(
-                    [tuple(it) for it in found], (TOLD[at], line, function, []), (size, at)
+                    [tuple(it) for it in found], (FRAMES[at], line, function, []), (size, at)
                 )
 
     def test_any_bytes(self):
@@ -334,12 +334,12 @@ class Strange(OfBytes):
                     with open(self.path, "wb") as file:
                         file.write(data)
                     native.go_tables = {}
-                    for at in TOLD:
+                    for at in FRAMES:
                         for it in native.go_frames(mock.Mock(path=self.path), TEXT + at):
                             self.assertTrue(it.function or it.file)
 
     def test_segments_without_end(self):
-        """Of segments that are the whole file again and again few are read, and relocations that tell of too many words end."""
+        """Few segments that repeat the whole file are read, and relocations of too many words end."""
         made = Made(way="packed")
         made.parts[0x900000] = bytearray(1 << 20)
         data = bytearray(made.bytes())
@@ -377,12 +377,12 @@ class Strange(OfBytes):
 
     def test_steps(self):
         table = self.table(Made())
-        for told in ([(5, 4)], [(-1, 1), (300, 200), (-5, 1 << 20), (0, 1)]):
-            table.begin, table.values, table.data = 0, 0, encoded(told) + encoded([(7, 4)])
+        for steps in ([(5, 4)], [(-1, 1), (300, 200), (-5, 1 << 20), (0, 1)]):
+            table.begin, table.values, table.data = 0, 0, encoded(steps) + encoded([(7, 4)])
             table.steps.cache_clear()
             self.assertEqual(
                 table.steps(0),
-                ([*itertools.accumulate(it for _, it in told)], [it for it, _ in told]),
+                ([*itertools.accumulate(size for _, size in steps)], [value for value, _ in steps]),
             )
 
     def test_steps_without_end(self):
@@ -459,13 +459,13 @@ class Names(OfBytes):
         self.assertEqual(naming.block_name(sites[:2]), "block made at b.go:50 < main.plain")
         self.assertEqual(naming.function_name(Called(TEXT, "own")), "own")
 
-    def test_what_is_told_by_others(self):
-        """Debug information comes before the table, and what the recorder told behind it."""
+    def test_other_sources_of_names(self):
+        """Debug information comes before the table, and the recorder's names come last."""
         _, native = self.naming()
         native.map.sites = {TEXT + at: [Site("recorded", "r.c:1")] for at in (0, 144)}
-        told = [
-            {"Symbol": [it]}
-            for it in (
+        answers = [
+            {"Symbol": [frame]}
+            for frame in (
                 {"FunctionName": "own", "FileName": "/own.c", "Line": 3},
                 {"FunctionName": "own"},
                 {},
@@ -473,7 +473,9 @@ class Names(OfBytes):
         ]
         with mock.patch(
             "view.names.native.subprocess.run",
-            return_value=mock.Mock(stdout="\n".join(map(json.dumps, (*told, *told))).encode()),
+            return_value=mock.Mock(
+                stdout="\n".join(map(json.dumps, (*answers, *answers))).encode()
+            ),
         ):
             sources = NativeSources(native)
             sources.find([TEXT, TEXT + 16, TEXT + 24, TEXT + 144, TEXT + 164, TEXT + 176])
@@ -484,7 +486,7 @@ class Names(OfBytes):
         self.assertEqual(sources.frames(TEXT + 164), [SourceLine("own", "", 0)])
         with mock.patch(
             "view.names.native.subprocess.run",
-            return_value=mock.Mock(stdout=json.dumps(told[1]).encode()),
+            return_value=mock.Mock(stdout=json.dumps(answers[1]).encode()),
         ):
             sources = NativeSources(native)
             self.assertEqual(sources.frames(TEXT + 144), [SourceLine("recorded", "r.c", 1)])
@@ -521,17 +523,19 @@ class Names(OfBytes):
             "internal/runtime/atomic/types.go",
         )
         for file in files:
-            told = [SourceLine("atomic.Add", file, 3), SourceLine("main.own", "own.go", 4)]
+            frames = [SourceLine("atomic.Add", file, 3), SourceLine("main.own", "own.go", 4)]
             self.assertEqual(
-                Naming(None, None, mock.Mock(frames=lambda _, told=told: told)).instruction_name(8),
+                Naming(
+                    None, None, mock.Mock(frames=lambda _, frames=frames: frames)
+                ).instruction_name(8),
                 "own.go:4 (main.own)",
             )
         for file in ("x/unsync/atomic/x.go", "x/sync/atomic/x.h"):
-            told = [SourceLine("x.Add", file, 3), SourceLine("main.own", "own.go", 4)]
-            told_as = Naming(
-                None, None, mock.Mock(frames=lambda _, told=told: told)
+            frames = [SourceLine("x.Add", file, 3), SourceLine("main.own", "own.go", 4)]
+            name = Naming(
+                None, None, mock.Mock(frames=lambda _, frames=frames: frames)
             ).instruction_name(8)
-            self.assertEqual(told_as, f"{os.path.basename(file)}:3 (x.Add < main.own)")
+            self.assertEqual(name, f"{os.path.basename(file)}:3 (x.Add < main.own)")
 
     def test_memory_of_a_file(self):
         naming, native = self.naming()
@@ -553,7 +557,7 @@ class Names(OfBytes):
             self.assertEqual(thing.name, wanted)
 
     def test_what_counts_as_named(self):
-        for told, wanted in (
+        for name, wanted in (
             ("memory of fd, used at fd+0x10 and fd+0x20", False),
             ("memory of fd, used at fd+0x10", False),
             ("memory of fd, used at fd+0x10 and libc.so.6+0x20", False),
@@ -562,7 +566,7 @@ class Names(OfBytes):
             ("memory of data file, used at fd+0x10 and fd+0x20", True),
             ("memory used at a.go:7 (lib.(*T).M) and fd+0x20", True),
         ):
-            self.assertEqual(is_named(told), wanted, told)
+            self.assertEqual(is_named(name), wanted, name)
 
     def test_whose_table_it_is(self):
         _, native = self.naming()
@@ -594,7 +598,11 @@ class Names(OfBytes):
                 "has_landmarks": has_landmarks,
             }
             self.assertEqual(
-                lacking(mock.Mock(**{it: lambda told=told: told for it, told in asked.items()})),
+                lacking(
+                    mock.Mock(
+                        **{name: lambda answer=answer: answer for name, answer in asked.items()}
+                    )
+                ),
                 wanted,
             )
 
@@ -645,10 +653,10 @@ class OfGo(unittest.TestCase):
 
     def symbolized(self, path, places):
         tool = ["llvm-symbolizer", f"--obj={path}", "--output-style=JSON", "--inlines"]
-        told = subprocess.run(
+        rows = subprocess.run(
             tool, input="\n".join(map(hex, places)), capture_output=True, text=True
         ).stdout.splitlines()
-        for row in told:
+        for row in rows:
             yield [
                 (it["FunctionName"], os.path.normpath(it["FileName"]), it["Line"])
                 for it in json.loads(row)["Symbol"]
@@ -661,14 +669,14 @@ class OfGo(unittest.TestCase):
             ), find_table(small)
             self.assertGreater(len(places), 30000)
             different, chains = [], set()
-            for at, told in zip(places, self.symbolized(whole, places), strict=True):
+            for at, frames in zip(places, self.symbolized(whole, places), strict=True):
                 own = [
                     (SHOWN.sub("[...]", it.function), it.file, it.line) for it in table.frames(at)
                 ]
                 chains.add(len(own))
                 wanted = [
                     (SHOWN.sub("[...]", function).removesuffix(CALLED), *more)
-                    for function, *more in told
+                    for function, *more in frames
                 ]
                 if own != wanted and own[-1][1] != WRAPPER:
                     different.append((hex(at), own, wanted))

@@ -188,7 +188,7 @@ class Built(unittest.TestCase):
 
 
 def wanted(way):
-    """What is told at the beginning of each function."""
+    """The landmark at the beginning of each function."""
     two = (
         "called near an assertion at src/list.c:12 in asserts and in a method of lists::Left and 1 more",
     )
@@ -207,7 +207,7 @@ def wanted(way):
         "deep2": 'called near the text "the list is broken"',
     }
     return {
-        **{name: None if way in FIXED else told for name, told in called.items()},
+        **{name: None if way in FIXED else text for name, text in called.items()},
         **dict.fromkeys(
             ("taken", "in_word", "deep1", "never_called", "plain", "unused", "says_nothing", "main")
         ),
@@ -244,14 +244,14 @@ class Ways(Built):
                 landmarks = LandmarkFinder(
                     path, (at for it in places.values() for at in range(*it))
                 )
-                for name, told in wanted(way).items():
+                for name, text in wanted(way).items():
                     with self.subTest(way=way, name=name):
                         near = landmarks.near(places[name][0])
-                        self.assertEqual(near.text() if near else None, told)
+                        self.assertEqual(near.text() if near else None, text)
                         inside = landmarks.near(places[name][1] - 1)
                         self.assertEqual(
                             inside.text() if inside else None,
-                            told.replace("c:22", "c:24") if told else None,
+                            text.replace("c:22", "c:24") if text else None,
                         )
                 # (before the second check, which is nearer than the first one's call)
                 near = landmarks.near(places["asserts_twice"][0] + 90)
@@ -262,14 +262,16 @@ class Ways(Built):
         path, places = self.built(SOURCE, *CODE, *WAYS["pie"])
         low, caller, jumper = places["low_of_two"], places["says"], places["asserts"]
 
-        def told(at, *ran):
+        def landmark_text(at, *ran):
             near = LandmarkFinder(path, [it for own in ran for it in range(*own)]).near(at)
             return near.text() if near else None
 
-        self.assertIsNone(told(low[0]))
-        self.assertIsNone(told(low[0], low))
-        self.assertIsNone(told(low[0], caller))
-        self.assertEqual(told(low[0], low, caller), 'called near the text "the list is broken"')
+        self.assertIsNone(landmark_text(low[0]))
+        self.assertIsNone(landmark_text(low[0], low))
+        self.assertIsNone(landmark_text(low[0], caller))
+        self.assertEqual(
+            landmark_text(low[0], low, caller), 'called near the text "the list is broken"'
+        )
         # (a call in what no function is known to be is one more)
         landmarks = LandmarkFinder(
             path, [it for own in (low, caller, jumper) for it in range(*own)]
@@ -281,13 +283,13 @@ class Ways(Built):
         )
         # (a jump writes nothing, so some of its function must have run)
         to = places["jumped_to"]
-        self.assertIsNone(told(to[0], to, caller))
+        self.assertIsNone(landmark_text(to[0], to, caller))
         self.assertEqual(
-            told(to[0], to, (jumper[0], jumper[0] + 1)),
+            landmark_text(to[0], to, (jumper[0], jumper[0] + 1)),
             "called near an assertion at src/list.c:12 in asserts",
         )
         # (between a function and one with a text the calls have run as well)
-        self.assertIsNone(told(places["low"][0], places["low"], caller))
+        self.assertIsNone(landmark_text(places["low"][0], places["low"], caller))
 
     def test_what_is_exported(self):
         flags = (
@@ -333,7 +335,7 @@ class Ways(Built):
             self.assertEqual(landmarks.near(places[name][0]).text(), "in a method of Shown")
 
     def test_what_many_call(self):
-        """What is called by more than a few is told by none of them."""
+        """A function with more than a few callers isn't named by any of them."""
         for count, more in ((16, 14), (17, None)):
             calls = "".join(
                 f'FUNCTION void f{it}(int *it) {{ called(it); said = "text number {it:02} of some"; }}'
@@ -358,7 +360,7 @@ class Ways(Built):
             )
 
     def test_where_nothing_is_called(self):
-        """Without the table for unwinding a function that nothing calls is told from the one before, and one with branches is whole."""
+        """Without the unwind table a function that nothing calls is separated from the one before, and one with branches stays whole."""
         cases = " ".join(
             f"case {it}: it[{it % 7}] += {it * it + 3}; return n * {it + 5} + it[{it}];"
             for it in range(12)
@@ -420,9 +422,9 @@ class Ways(Built):
                 "jumps": None,
                 "other": said,
             }
-            for name, told in wants.items():
+            for name, text in wants.items():
                 near = landmarks.near(places[name][0] + 1)
-                self.assertEqual(near.text() if near else None, told, (name, way))
+                self.assertEqual(near.text() if near else None, text, (name, way))
 
     def test_parts_that_stand_apart(self):
         source = r"""
@@ -484,7 +486,7 @@ class Tables(Built):
                 TABLES, "-O1", "-w", "-fno-toplevel-reorder", *words, language="c"
             )
             landmarks = LandmarkFinder(path)
-            for name, told in (
+            for name, text in (
                 ("own", "in a method of First"),
                 # (of unrelated classes the first by name, and of more than a few none)
                 ("of_two", "in a method of First"),
@@ -498,7 +500,7 @@ class Tables(Built):
             ):
                 near = landmarks.near(places[name][0])
                 self.assertTrue(
-                    near and near.text().startswith(told) if told else near is None, (name, near)
+                    near and near.text().startswith(text) if text else near is None, (name, near)
                 )
             self.assertFalse(landmarks.near(places["of_library"][0]).names_source())
 
@@ -519,7 +521,7 @@ class Tables(Built):
 )
 class Strange(Built):
     def test_damaged_files(self):
-        """A file that is cut or has other bytes tells less or something else, and soon."""
+        """A file that is cut or changed gives fewer or other names, and quickly."""
         path, places = self.built(SOURCE, *CODE, *WAYS["bare"])
         with open(path, "rb") as file:
             whole = file.read()
@@ -547,21 +549,23 @@ class Strange(Built):
         return program
 
     def test_who_is_asked(self):
-        """Panics are asked first, a program in Rust nothing else, and what goes wrong tells nothing."""
+        """Panics come first, a program in Rust uses nothing else, and an exception gives no name."""
         path, places = self.built(SOURCE, *CODE, *WAYS["pie"])
         at, own = places["says"][0], NearPanics((Panic("src/a.rs", 7),))
 
-        def told(**panics):
+        def landmark_text(**panics):
             program = self.program(path, self.table(path))
             program.panics[path] = type("Panics", (), {"places": {}, **panics})()
             near = program.landmark(at)
             return near.text() if near else None
 
-        self.assertEqual(told(near=lambda self, addr: None), 'near the text "the list is broken"')
-        self.assertEqual(told(near=lambda self, addr: own), own.text())
-        self.assertIsNone(told(near=lambda self, addr: None, places={1: own.places[0]}))
         self.assertEqual(
-            told(near=lambda self, addr: [][addr]), 'near the text "the list is broken"'
+            landmark_text(near=lambda self, addr: None), 'near the text "the list is broken"'
+        )
+        self.assertEqual(landmark_text(near=lambda self, addr: own), own.text())
+        self.assertIsNone(landmark_text(near=lambda self, addr: None, places={1: own.places[0]}))
+        self.assertEqual(
+            landmark_text(near=lambda self, addr: [][addr]), 'near the text "the list is broken"'
         )
 
     def table(self, path):

@@ -17,6 +17,7 @@ from view.reading.calls import Call  # noqa: E402
 from view.names.fields import Program  # noqa: E402
 from view.model.view import ObjectDetails, View  # noqa: E402
 from judge_report import Access, Case, Ending, trace_bytes  # noqa: E402
+from view.model.object_fixes import ObjectFixes  # noqa: E402
 from view.model.object_keys import SymbolKey  # noqa: E402
 from view.names.demangling import SymbolNames, short_name  # noqa: E402
 from view.names.naming import Memory, Naming, WordKind  # noqa: E402
@@ -354,21 +355,13 @@ class Objects(unittest.TestCase):
             [("b", 500, 1, 0), ("a", 300, 0, 200)],
         )
 
-    def test_what_a_repair_saves_stands_first(self):
-        counted = "misses 64 0\naccesses 900\nlines 2\n"
-        counted += "line 0x00001040 cold 2 useful 9 useless 500\nobject symbol a 0x00001040 64\n"
-        counted += "line 0x00001000 cold 2 useful 1 useless 300\nobject symbol b 0x00001000 64\n"
-        counted += "total cold 4 useful 10 useless 800\nend\n"
-        # (each load of a's line brought two words that are needed)
-        words = "misses 4 0\naccesses 900\nlines 3\nline 0x00001040 cold 1 useful 250 useless 0\n"
-        words += "line 0x00001048 cold 1 useful 250 useless 0\nline 0x00001000 cold 1 useful 1 useless 0\n"
-        words += "total cold 3 useful 501 useless 0\nend\n"
-        view = view_of([], counted, by_word=words)
-        self.assertEqual(
-            [(it.name, it.savable_misses, it.useless) for it in view.objects],
-            [("b", 300, 300), ("a", 9, 500)],
-        )
-        self.assertEqual([it.name for it in view_of([], counted).objects], ["a", "b"])
+    def test_rows_are_in_the_order_of_their_numbers(self):
+        counted = "misses 64 0\naccesses 900\nlines 3\n"
+        counted += "line 0x00001040 cold 2 useful 9 useless 300\nobject symbol a 0x00001040 64\n"
+        counted += "line 0x00001080 cold 2 useful 99 useless 300\nobject symbol c 0x00001080 64\n"
+        counted += "line 0x00001000 cold 2 useful 1 useless 500\nobject symbol b 0x00001000 64\n"
+        counted += "total cold 6 useful 109 useless 1100\nend\n"
+        self.assertEqual([it.name for it in view_of([], counted).objects], ["b", "c", "a"])
 
     def test_what_the_c_library_has_is_one_row(self):
         rows = []
@@ -531,7 +524,8 @@ class Objects(unittest.TestCase):
             name_by_users(view.objects[0], [0x100, 0x104], view.naming)
             self.assertEqual(view.objects[0].name, wanted)
             self.assertEqual(
-                "link another allocator" in view.choose_fix(view.objects[0], []), wanted == HEAP
+                "link another allocator" in ObjectFixes(view).choose(view.objects[0], []),
+                wanted == HEAP,
             )
 
     def test_what_is_folded_is_found_once(self):
@@ -818,7 +812,7 @@ class Objects(unittest.TestCase):
     def test_what_says_nothing_new_is_folded(self):
         no_more = (False, "it adds no false sharing to that of the observed lines")
         ring = ["object symbol ring 0x00001000 256"]
-        # A pad that was cleared once, beside words that are fought over anyway; a doubled line around one that is observed.
+        # A pad that was cleared once, beside words that are contended anyway; a doubled line around one that is observed.
         self.assertEqual(self.judge("shifted", 0x1020, ring, [(0x1000, 300)], 300), no_more)
         self.assertEqual(self.judge("doubled", 0x1000, ring, [(0x1000, 300)], 300), no_more)
         self.assertEqual(

@@ -143,7 +143,7 @@ class Ways(unittest.TestCase):
         subprocess.run(["strip", "-o", path + ".bare", path], check=True)
         return path + ".bare", functions(path)
 
-    def tells(self, way):
+    def check_places(self, way):
         path, places = self.built(way)
         panics = Panics(path, code(places))
 
@@ -181,7 +181,7 @@ class Ways(unittest.TestCase):
     def test_each_way_to_link(self):
         for way in WAYS:
             with self.subTest(way):
-                self.tells(way)
+                self.check_places(way)
 
     def test_calls_that_did_not_run(self):
         path, places = self.built("pie")
@@ -275,7 +275,7 @@ class Texts(unittest.TestCase):
 
 
 class Stripped:
-    """A program without symbols, in which panics tell what some instructions are near to."""
+    """A program without symbols, in which panics name some instructions."""
 
     def __init__(self, **near):
         self.found = {int(it[1:], 16): own for it, own in near.items()}
@@ -314,15 +314,15 @@ class Names(unittest.TestCase):
         def block(*sites):
             return naming.block_name([Site(at, name) for at, name in sites])
 
-        told, tells = " (near a panic at src/a.rs:7)", " (called near a panic at src/b.rs:8)"
+        near, called = " (near a panic at src/a.rs:7)", " (called near a panic at src/b.rs:8)"
         for chain, wanted in (
-            # (the first call site that panics tell, and no more)
-            ([0x10, 0x40, 0x10], f"fd+0x10{told} < fd+0x40 < fd+0x10"),
-            ([0x40, 0x10, 0x50], f"fd+0x40 < fd+0x10{told} < fd+0x50"),
-            # (what calls the last one is told if nothing else is, and the chain itself has what calls the others)
-            ([0x40, 0x20], f"fd+0x40 < fd+0x20{tells}"),
+            # (the first call site near a panic, and no other)
+            ([0x10, 0x40, 0x10], f"fd+0x10{near} < fd+0x40 < fd+0x10"),
+            ([0x40, 0x10, 0x50], f"fd+0x40 < fd+0x10{near} < fd+0x50"),
+            # (the caller of the last one is named only without another name; the chain contains the callers of the others)
+            ([0x40, 0x20], f"fd+0x40 < fd+0x20{called}"),
             ([0x20, 0x40], "fd+0x20 < fd+0x40"),
-            ([0x10, 0x20], f"fd+0x10{told} < fd+0x20"),
+            ([0x10, 0x20], f"fd+0x10{near} < fd+0x20"),
             ([0x30, 0x40], "fd+0x30 < fd+0x40"),
         ):
             self.assertEqual(block(*((it, "-") for it in chain)), f"block made in {wanted}")
@@ -330,7 +330,7 @@ class Names(unittest.TestCase):
         self.assertEqual(block((0x10, "work"), (0x40, "-")), "block made in work < fd+0x40")
         self.assertEqual(
             block((0x10, "work"), (0x20, "-"), (0x10, "-")),
-            f"block made in work < fd+0x20 < fd+0x10{told}",
+            f"block made in work < fd+0x20 < fd+0x10{near}",
         )
 
     def test_blocks_that_no_call_site_tells(self):

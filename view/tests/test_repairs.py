@@ -12,19 +12,19 @@ from calling import HERE, PROGRAM, TOP, has, joined, view
 
 KNOWN = os.path.join(HERE, "programs", "known")
 LACKS = [it for it in ("clang", "ld.lld", "patch") if shutil.which(it) is None]
-COUNTED = re.compile(r"misses false ([\d,]+) → ([\d,]+), true ([\d,]+) → ([\d,]+)")
-OTHERWISE = re.compile(r"; or assign neighbouring elements to one thread: " + COUNTED.pattern)
-
-
-SHARING = ("false_sharing", "true_sharing")
+COUNTED = re.compile(
+    r"misses ([\d,]+) → ([\d,]+) \(false [\d,]+ → [\d,]+, true [\d,]+ → [\d,]+, cold [\d,]+ → [\d,]+\)"
+)
+OTHERWISE = re.compile(
+    r"; or assign neighbouring elements of grid to one thread: " + COUNTED.pattern
+)
+MISSES = ("false_sharing", "true_sharing", "cold")
 
 
 class Following(unittest.TestCase):
     """How a program is built and viewed, and how its fixes are made."""
 
     suffix = ".elf"
-    # (what shares one word)
-    marks = r"marks\[0\.\.3\]"
 
     def setUp(self):
         self.folder = tempfile.mkdtemp()
@@ -54,7 +54,12 @@ class Following(unittest.TestCase):
             return {**json.load(file), "screen": joined(text)}
 
     def missed(self, found):
-        return found["total"]["false_sharing"] + found["total"]["true_sharing"]
+        """All misses."""
+        return sum(found["total"][it] for it in MISSES)
+
+    def shared(self, found):
+        """The misses that aren't cold."""
+        return self.missed(found) - found["total"]["cold"]
 
     def fixes(self, found):
         return " ".join(it["fix"] for it in found["objects"])
@@ -63,19 +68,16 @@ class Following(unittest.TestCase):
         return [it["tried"] for it in found["objects"] if it["tried"]]
 
     def foretold(self, found):
-        """The misses with all fixes."""
+        """All misses with all fixes."""
         together = [it for it in found["notes"] if it.startswith("all fixes together")]
         if not together:
             (trial,) = self.trials(found)
-            self.assertEqual(
-                {it: trial["before"][it] for it in SHARING},
-                {it: found["total"][it] for it in SHARING},
-            )
-            return sum(trial["after"][it] for it in SHARING)
+            self.assertEqual(sum(trial["before"][it] for it in MISSES), self.missed(found))
+            return sum(trial["after"][it] for it in MISSES)
         (told,) = COUNTED.findall(together[0])
-        before, after, true_before, true_after = (int(it.replace(",", "")) for it in told)
-        self.assertEqual([before, true_before], [found["total"][it] for it in SHARING])
-        return after + true_after
+        before, after = (int(it.replace(",", "")) for it in told)
+        self.assertEqual(before, self.missed(found))
+        return after
 
     def comes_to(self, name, found, after):
         self.is_near(name, found, self.foretold(found), after)
@@ -121,35 +123,28 @@ class Following(unittest.TestCase):
         """Makes both fixes for the rows of a grid."""
         found = self.told(
             "grid",
-            "wrap it in `struct __attribute__((aligned(64))) own_line { int32_t value[21]; };`",
+            "wrap it in `struct __attribute__((aligned(64))) grid_line { volatile int32_t value[21]; };`",
         )
-        ((_, useless, _, useful),) = OTHERWISE.findall(found["screen"])
+        ((_, after),) = OTHERWISE.findall(found["screen"])
         self.is_near(
             "neighbouring rows",
             found,
-            int(useless.replace(",", "")) + int(useful.replace(",", "")),
+            int(after.replace(",", "")),
             self.missed(self.look(self.build("grid", "-DNEIGHBOURS"))),
         )
 
-    def bytes(self, *turns):
-        """Makes the fix for bytes, of which no trial is counted."""
+    def bytes(self):
+        """Makes the fix for bytes, which are moved one by one."""
+        wrapper = "marks_line { volatile unsigned char value; };`"
         found = self.start("bytes")
-        self.assertEqual(self.trials(found), [])
+        self.assertIn(
+            f"wrap it in `struct __attribute__((aligned(64))) {wrapper}", self.fixes(found)
+        )
+        self.assertNotIn("run again", self.fixes(found))
         after = self.look(self.build("bytes", "-DREPAIRED"))
-        self.assertLess(self.missed(after), self.missed(found) / 10)
-        self.build("bytes")
-        for it in turns:
-            found = self.look(f"bytes{self.suffix}", turns=it) if it else found
-            (fix,) = [it["fix"] for it in found["objects"] if it["name"] == "marks"]
-            self.assertRegex(
-                fix,
-                f", then run again, because threads use different bytes of {self.marks} and misses are counted per 4-byte word",
-            )
-            self.assertIn(
-                "wrap it in `struct __attribute__((aligned(64))) own_line { unsigned char value; };`, then",
-                fix,
-            )
-            self.assertNotIn("padding", fix)
+        self.assertLess(self.shared(after), self.shared(found) / 10)
+        self.comes_to("bytes", found, self.missed(after))
+        self.assertGreater(found["total"]["false_sharing"], found["total"]["true_sharing"])
 
 
 @unittest.skipIf(LACKS, f"{' '.join(LACKS)} missing")
@@ -158,7 +153,7 @@ class Known(Following):
     def test_statistics_of_workers(self):
         self.patched(
             "workers",
-            "its own line: `struct __attribute__((aligned(64))) worker` (workers.c:7), 12 → 64 bytes each, 48 → 256 bytes in all",
+            "its own line: `struct __attribute__((aligned(64))) worker` (workers.c:7), 12 → 64 bytes each",
         )
 
     def test_a_deque_of_work(self):
@@ -174,7 +169,7 @@ class Known(Following):
 
     def test_a_setting_beside_a_counter(self):
         self.patched(
-            "setting", "give setting (setting.c:7) and counter (setting.c:8) each its own line: "
+            "setting", "give counter (setting.c:8) and setting (setting.c:7) each its own line: "
         )
 
     def test_a_flag_beside_an_array(self):
@@ -186,18 +181,19 @@ class Known(Following):
     def test_a_slab(self):
         self.told(
             "slab",
-            "give each thread its own arena, with start and size rounded up to multiples of 64",
+            "give each element of slab its own line: wrap it in",
             "`struct __attribute__((aligned(64))) list` (slab.c:15)",
         )
 
     def test_striped_mutexes(self):
         self.told(
-            "table", "`struct __attribute__((aligned(64))) own_line { pthread_mutex_t value; };`"
+            "table", "`struct __attribute__((aligned(64))) locks_line { pthread_mutex_t value; };`"
         )
 
     def test_an_array_of_mutexes(self):
         self.told(
-            "mutexes", "`struct __attribute__((aligned(64))) own_line { pthread_mutex_t value; };`"
+            "mutexes",
+            "`struct __attribute__((aligned(64))) locks_line { pthread_mutex_t value; };`",
         )
 
     def test_rows_of_a_grid(self):
@@ -206,13 +202,12 @@ class Known(Following):
     def test_several_arrays_of_one_struct(self):
         self.told(
             "sums",
-            "each element of table.counts",
-            "each element of table.sums",
-            " bytes each, 64 → 576 bytes in all",
+            "join table.counts and table.sums to one array of 4 elements of ",
+            "`struct __attribute__((aligned(64))) counts_sums { own_count_t counts; own_sum_t sums; };`",
         )
 
     def test_bytes_of_a_word(self):
-        self.bytes(None, 1, 100)
+        self.bytes()
 
     @unittest.skipUnless(has(PROGRAM, "blame"), "the program isn't built, or has no blame")
     def test_a_trace_that_has_its_instructions(self):
@@ -226,7 +221,7 @@ class Known(Following):
         for name in ("adders", "handover"):
             found = self.start(name)
             self.assertIn(
-                "none: no layout change helps at this interleaving (quantum 3); write shared data less often",
+                "none: all its misses are true sharing; write",
                 self.fixes(found),
             )
             self.assertNotIn("aligned", self.fixes(found))
@@ -243,7 +238,6 @@ RECORDER = os.path.join(TOP, "native", "out", "predator-amd64-linux")
 )
 class OfThisMachine(Following):
     suffix = ""
-    marks = r"marks\[\d\.\.\d\]"
 
     def compiler(self, out, source, flags):
         return ["gcc", "-g", "-O2", "-pthread", *flags, source, "-o", out]
@@ -254,7 +248,7 @@ class OfThisMachine(Following):
     def test_patches(self):
         self.patched(
             "workers",
-            "its own line: `struct __attribute__((aligned(64))) worker` (workers.c:7), 16 → 64 bytes each, 64 → 256 bytes in all",
+            "its own line: `struct __attribute__((aligned(64))) worker` (workers.c:7), 16 → 64 bytes each",
         )
         for name in ("cached", "setting", "stop"):
             self.patched(name)
@@ -268,7 +262,7 @@ class OfThisMachine(Following):
     def test_sentences(self):
         self.told(
             "mutexes",
-            "own_line { pthread_mutex_t value; };`, 40 → 64 bytes each, 160 → 256 bytes in all",
+            "locks_line { pthread_mutex_t value; };`, 40 → 64 bytes each",
         )
         for name in ("slab", "table", "sums"):
             self.told(name)
@@ -277,7 +271,7 @@ class OfThisMachine(Following):
         self.rows()
 
     def test_bytes_of_a_word(self):
-        self.bytes(None, 1)
+        self.bytes()
 
     def test_nothing_to_do(self):
         for name in ("adders", "handover"):

@@ -33,7 +33,7 @@ class Screens(Shown):
         self.shows(
             text,
             "where ring.c:34 (note < consumer) invalidates ring.c:34 (note < producer): 142 times, always different words "
-            "(write after write); in all 284 write → write; the line is hardly read, so store buffers hide most of them",
+            "(write after write); in all 284 write → write",
         )
         self.shows(
             text,
@@ -51,8 +51,8 @@ class Screens(Shown):
             text.split("\n")[:6],
             [
                 "ring.elf: exit 0, 6,107 instructions, 2,111 accesses; 64-byte lines, quantum 100",
-                "61 false-sharing misses, 68 true-sharing, 9 cold: 9.99 false per 1,000 instructions (severe: padding",
-                "  typically makes such programs 1.8 to 2.6 times faster)",
+                "61 false-sharing misses, 68 true-sharing, 9 cold: 9.99 false per 1,000 instructions (severe: such",
+                "  programs ran 1.1 to 4.1 times as fast once padded; one in five gained nothing)",
                 "",
                 "   false    true   inval   lines  object",
                 "1     60       0      61       1  stats: struct stats[4], ring.c:29",
@@ -539,7 +539,7 @@ class Repairs(Shown):
             text,
             "1 478 98 198 1 lock: struct, anderson.c:19",
             "give each element of lock.slots its own line",
-            "guarded: true sharing (97 of 97 misses): write less often, or give each thread its own copy",
+            "none: all its misses are true sharing; write guarded less often, or give each thread its own copy",
         )
         # (a line that the report doesn't list)
         self.shows(

@@ -31,7 +31,7 @@ from view.repairs.layouts import (  # noqa: E402
     lay_out,
     record_members,
 )
-from view.repairs.candidates import Repair, field_groupings  # noqa: E402
+from view.repairs.repair import Repair  # noqa: E402
 from view.reading.trace_files import WordUses  # noqa: E402
 from view.repairs.subjects import UNUSED, Sharing, sharing_of  # noqa: E402
 from traces import Access as Accessed  # noqa: E402
@@ -200,7 +200,8 @@ class Cut(Folder):
                 self.assertEqual(main.main(words), 0)
         shown = joined(text.getvalue())
         found = re.search(
-            r"tried misses false (\d+) → (\d+), true (\d+) → \d+, invalidations \d+ → \d+ \(first (\d+(?:,\d+)?) accesses\)",
+            r"tried misses \d+ → \d+ \(false (\d+) → (\d+), true (\d+) → \d+, cold \d+ → \d+\),"
+            r" 64 → 256 bytes \(first (\d+(?:,\d+)?) accesses\)",
             shown,
         )
         useless, after, useful, accesses = (int(it.replace(",", "")) for it in found.groups())
@@ -324,181 +325,112 @@ class LaidOut(Folder):
         self.assertEqual(join_repairs([first, first], 64).parts, first.parts)
 
 
-class Grouped(unittest.TestCase):
-    def ways(self, **found):
-        members = [SimpleNamespace(name=it) for it in found]
-        return [
-            [[it.name for it in own] for own in way]
-            for way in field_groupings(members, {it: (own,) for it, own in found.items()})
-        ]
-
-    def test_groups_of_fields(self):
-        def shared(*harts):
-            return Sharing("shared", frozenset(harts))
-
-        own, other, read = (
-            Sharing("own", frozenset({1})),
-            Sharing("own", frozenset({2})),
-            Sharing("read", frozenset()),
-        )
-        ways = self.ways(
-            head=shared(1), tail=shared(2), seen_tail=own, seen_head=other, room=read, name=UNUSED
-        )
-        self.assertIn([["head", "seen_tail"], ["tail", "seen_head"], ["room", "name"]], ways)
-        self.assertIn([["head", "tail"], ["seen_tail"], ["seen_head"], ["room", "name"]], ways)
-        self.assertIn([["head"], ["tail"], ["seen_tail"], ["seen_head"], ["room", "name"]], ways)
-        self.assertEqual(self.ways(a=own, b=own, c=UNUSED), [])
-        self.assertEqual(
-            self.ways(setting=read, counter=shared(1, 2)), [[["setting"], ["counter"]]]
-        )
-
-
-class Patched(Folder):
-    def patch(self, text, *edits):
-        path = self.path("a.c", text)
-        return patches.apply_edits(
-            [it._replace(place=SimpleNamespace(file=path, line=it.place)) for it in edits],
-            patches.read_source,
-        )[path][1]
-
-    def test_records(self):
-        for text, name, wanted in (
-            ("struct a {\n", "a", "struct ATTRIBUTE a {\n"),
-            ("struct a // of one\n{\n", "a", "struct ATTRIBUTE a // of one\n{\n"),
-            ("typedef struct {\n", "a", "typedef struct ATTRIBUTE {\n"),
-            ("typedef struct a { int b; } a;\n", "a", "typedef struct ATTRIBUTE a { int b; } a;\n"),
-            (
-                "static struct a { int b; } c[4];\n",
-                "a",
-                "static struct ATTRIBUTE a { int b; } c[4];\n",
-            ),
-            ("struct a final : b {\n", "a", "struct ATTRIBUTE a final : b {\n"),
-        ):
-            found = self.patch(text, patches.AlignRecord(1, "struct", name, 64))
-            self.assertEqual(found, wanted.replace("ATTRIBUTE", "__attribute__((aligned(64)))"))
-        for text in ("A_STRUCT(a)\n", "struct __attribute__((packed)) a {\n", "struct b {\n"):
-            self.assertRaises(
-                patches.Unpatchable, self.patch, text, patches.AlignRecord(1, "struct", "a", 64)
-            )
-
-    def test_variables(self):
-        for text, wanted in (
-            ("static int a = 3;", "static int a ATTRIBUTE = 3;"),
-            ("int b, a[4][2], c; // a", "int b, a[4][2] ATTRIBUTE, c; // a"),
-            ("std::atomic<int> a{0};", "std::atomic<int> a ATTRIBUTE{0};"),
-        ):
-            found = self.patch(text, patches.AlignVariable(1, "a", 64))
-            self.assertEqual(found, wanted.replace("ATTRIBUTE", "__attribute__((aligned(64)))"))
-        for text in ("int (*a)(void);", "MAKE(a)", "int b;"):
-            self.assertRaises(
-                patches.Unpatchable, self.patch, text, patches.AlignVariable(1, "a", 64)
-            )
-
-    def test_values_by_their_order(self):
-        for text, wanted in (
-            ("struct a x = {1, 2};", True),
-            ("struct a x[] = {{1, 2}};", True),
-            ("struct a x = {.b = 1};", False),
-            ("struct a x = {0};", False),
-            ("struct a x = {};", False),
-            ("struct a *f(int b);\nstruct c x = {1};", False),
-        ):
-            self.assertEqual(
-                patches.OrderFields(None, "a", [], 64).has_positional_values(text.split("\n")),
-                wanted,
-                text,
-            )
-
-    def test_the_last_line_may_have_no_end(self):
-        end = "\n\\ No newline at end of file\n"
-        self.assertTrue(
-            patches.difference("a.c", "int a;", "int b;").endswith(f"-int a;{end}+int b;{end}")
-        )
-
-    @unittest.skipUnless(shutil.which("clang"), "clang isn't installed")
-    def test_what_is_said_is_c_and_c_plus_plus(self):
-        text = "struct __attribute__((aligned(64))) own_line { int value[21]; };\nstruct __attribute__((aligned(64))) a { int b; };\n"
-        text += "struct c { int d; int e[3] __attribute__((aligned(64))); };\nstatic int f __attribute__((aligned(64))) = 3;\n"
-        text += "int g(void);\nint g(void) { return f; }\n"
-        for language in ("c", "c++"):
-            words = [
-                "clang",
-                "-Wall",
-                "-Wextra",
-                "-Werror",
-                "-fsyntax-only",
-                "-x",
-                language,
-                self.path("a", text),
-            ]
-            subprocess.run(words, check=True)
-
-
 class Sentences(unittest.TestCase):
-    def tried(self, useless, useful, accesses, after=None, many=1, own_there=None, quantum=0):
-        before = TrialCount({"useless": useless, "useful": useful}, 9)
+    def tried(self, useless, useful, accesses, after=None, many=1, own=None, quantum=0, apart=None):
+        """The fix and what trying came to. Counts are false-sharing, true-sharing and cold misses; `apart` those of all words apart."""
+        names, cold = ("useless", "useful", "cold"), 9
+        before = TrialCount(dict(zip(names, (useless, useful, cold))), 9)
         found = Trial(
-            SimpleNamespace(useless=useless, useful=useful),
+            SimpleNamespace(useless=useless, useful=useful, name="all"),
             before,
             accesses,
-            own_misses_in_part=own_there,
+            own_misses_in_part=own,
         )
         if after:
-            found.repair, found.tried_repairs = Repair(["do it"], [], 64, None), many
-            found.after = TrialCount(dict(zip(("useless", "useful"), after)), 2)
+            found.repair, found.tried_repairs = Repair(["do it"], [], 64, None, (16, 64)), many
+            found.after = TrialCount(dict(zip(names, (*after, cold)[:3])), 2)
+        if apart:
+            found.bound = TrialCount(dict(zip(names, (*apart, cold)[:3])), 2)
         return (found.fix([], quantum), found.outcome(False)) if found.is_decisive() else None
 
     def test_what_was_counted(self):
-        told = "misses false 2,188 → 23, true 2,457 → 2,458, invalidations 9 → 2"
+        told = (
+            "misses 4,654 → 2,490 (false 2,188 → 23, true 2,457 → 2,458, cold 9 → 9), 16 → 64 bytes"
+        )
         self.assertEqual(self.tried(2188, 2457, 90000, (23, 2458)), ("do it", told))
+        apart = "; separating all words by thread would leave 10 of 4,645 misses"
+        self.assertEqual(
+            self.tried(2188, 2457, 90000, (23, 2458), apart=(0, 10)), ("do it", told + apart)
+        )
 
     def test_what_was_counted_of_a_part(self):
-        told = "misses false 2,188 → 23, true 2,457 → 2,458, invalidations 9 → 2 (first 90,000 accesses)"
-        self.assertEqual(self.tried(2188, 2457, 90000, (23, 2458), own_there=4645), ("do it", told))
+        told = "misses 4,654 → 2,490 (false 2,188 → 23, true 2,457 → 2,458, cold 9 → 9), 16 → 64 bytes (first 90,000 accesses)"
+        self.assertEqual(self.tried(2188, 2457, 90000, (23, 2458), own=4645), ("do it", told))
         none = "none: no layout change helps on this trace; write shared data less often"
-        told = "one layout, which saves 3 of 4,000 misses (first 90,000 accesses)"
-        self.assertEqual(self.tried(2188, 2457, 90000, (2185, 2457), own_there=4000), (none, told))
+        told = (
+            "1 layout, which saves 3 of 4,000 misses; separating all words by thread would leave"
+            " 3,990 of 4,000 misses (first 90,000 accesses)"
+        )
+        found = self.tried(2188, 2457, 90000, (2185, 2457), own=4000, apart=(2178, 2457))
+        self.assertEqual(found, (none, told))
+
+    def test_cold_misses_that_a_repair_adds(self):
+        none = "none: no layout change helps on this trace"
+        found = self.tried(500, 100, 9000, (0, 100, 609), apart=(0, 100, 800))
+        told = "1 layout, which saves 0 of 600 misses; separating all words by thread would leave all 600 misses"
+        self.assertEqual(found, (none, told))
+        self.assertIsNot(self.tried(500, 100, 9000, (0, 100, 100))[0], none)
+
+    def test_words_that_no_repair_separates(self):
+        self.assertEqual(
+            self.tried(958, 0, 9000, (950, 0), 3, apart=(0, 0)),
+            (
+                "no repair that predator can write removes them; separating all words by thread would leave 0 of 958 misses",
+                "3 layouts, the best of which saves 8 of 958 misses",
+            ),
+        )
+        fix, _ = self.tried(958, 0, 9000, (950, 0))
+        self.assertEqual(
+            fix,
+            "unknown: no layout that was tried helps on this trace, and not all words could be separated",
+        )
+        self.assertEqual(
+            self.tried(958, 7, 9000, apart=(0, 0))[0][:51],
+            "no repair that predator can write removes them; sep",
+        )
+
+    def test_one_repair_for_several_objects(self):
+        found = Trial(SimpleNamespace(useless=900, useful=10), TrialCount({}, 9), 9000)
+        found.after, found.same_as = TrialCount({}, 9), SimpleNamespace(name="map")
+        self.assertEqual(
+            (found.fix([]), found.outcome(False)), ("see map: its fix covers this too", "")
+        )
 
     def test_the_other_way(self):
-        before = TrialCount({"useless": 900, "useful": 10}, 9)
+        before = TrialCount({"useless": 900, "useful": 10, "cold": 4}, 9)
         found = Trial(SimpleNamespace(useless=900, useful=10), before, 9000)
-        other = Repair(["do that"], [], 64, None)
-        found.repair = Repair(["do it"], [], 64, None, None, (), (16, 1024), other)
-        found.after = TrialCount({"useless": 0, "useful": 10}, 2)
-        told = "misses false 900 → 0, true 10 → 10, invalidations 9 → 2"
-        self.assertEqual(found.fix([]), "do it, 16 → 1,024 bytes in all")
-        self.assertEqual(found.outcome(False), told)
-        found.other = TrialCount({"useless": 3, "useful": 10}, 2)
-        other = "misses false 900 → 3, true 10 → 10, invalidations 9 → 2"
+        found.repair = Repair(["do it"], [], 64, None, (16, 1024))
+        found.after = TrialCount({"useless": 0, "useful": 10, "cold": 4}, 2)
+        told = "misses 914 → 14 (false 900 → 0, true 10 → 10, cold 4 → 4), 16 → 1,024 bytes"
+        self.assertEqual((found.fix([]), found.outcome(False)), ("do it", told))
+        found.other_repair = Repair(["do that"], [], 0, None, (16, 16), True)
+        found.other = TrialCount({"useless": 3, "useful": 10, "cold": 4}, 2)
+        other = "misses 914 → 17 (false 900 → 3, true 10 → 10, cold 4 → 4)"
         self.assertEqual(found.outcome(False), f"{told}; or do that: {other}")
 
     def test_bytes_of_words(self):
-        before = TrialCount({"useless": 0, "useful": 900}, 9)
+        before = TrialCount({"useless": 0, "useful": 900, "cold": 4}, 9)
         found = Trial(SimpleNamespace(useless=0, useful=900), before, 9000)
         found.instead = "pad it"
         told = "pad it, then run again, because threads use different bytes of a, b and misses are counted per 4-byte word"
         self.assertEqual((found.fix(["a", "b"]), found.outcome(True)), (told, ""))
         found.repair = Repair(["do it"], [], 64, None)
-        found.after = TrialCount({"useless": 0, "useful": 10}, 2)
+        found.after = TrialCount({"useless": 0, "useful": 10, "cold": 4}, 2)
         self.assertEqual(found.fix(["a", "b"]), f"do it; for the rest {told}")
 
     def test_nothing_to_do(self):
         self.assertEqual(
             self.tried(100, 41, 22_900_000), ("none needed: 141 of 22,900,000 accesses miss", "")
         )
-        none = "none: no layout change helps"
         self.assertEqual(
-            self.tried(2188, 2187, 90000, (2185, 2187), quantum=100),
-            (
-                f"{none} at this interleaving (quantum 100)",
-                "one layout, which saves 3 of 4,375 misses",
-            ),
+            self.tried(2188, 2187, 90000, (2185, 2187), quantum=100, apart=(2188, 2187))[0],
+            "none: no layout change helps at this interleaving (quantum 100)",
         )
         self.assertEqual(
-            self.tried(0, 900, 9000, (0, 990), 4),
+            self.tried(0, 900, 9000, (0, 990), 4, apart=(0, 900)),
             (
-                f"{none} on this trace; write shared data less often",
-                "4 layouts; the best saves 0 of 900 misses",
+                "none: no layout change helps on this trace; write shared data less often",
+                "4 layouts, the best of which saves 0 of 900 misses; separating all words by thread would leave all 900 misses",
             ),
         )
         self.assertIsNone(self.tried(900, 0, 9000))
@@ -522,11 +454,12 @@ class Screens(unittest.TestCase):
             text = joined(text)
             self.assertIn(
                 "fix give each element of stats its own line: struct __attribute__((aligned(64))) stats (ring.c:24), "
-                "16 → 64 bytes each, 64 → 256 bytes in all tried",
+                "16 → 64 bytes each",
                 text,
             )
             self.assertIn(
-                "tried misses false 342 → 44, true 314 → 314, invalidations 658 → 359 2 44 314",
+                "tried misses 665 → 367 (false 342 → 44, true 314 → 314, cold 9 → 9), 64 → 256 bytes"
+                " offset field written by only read by 20 [1].seen[0].high hart 1 - 28 ",
                 text,
             )
             # (what it says where nothing is moved is what it says else)
@@ -561,7 +494,7 @@ class Screens(unittest.TestCase):
             )
             (one, other) = (re.search(" fix .*", joined(it))[0] for it in (run, replay))
             self.assertEqual(one, other)
-            self.assertIn("tried misses false 2,147 → 0, true 0 → 0, invalidations 1,833 → 0", one)
+            self.assertIn("tried misses 2,153 → 6 (false 2,147 → 0, true 0 → 0, cold 6 → 6)", one)
 
 
 if __name__ == "__main__":

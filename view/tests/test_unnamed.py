@@ -160,7 +160,7 @@ class Unnamed(unittest.TestCase):
             )
             told = NativeSources.near(sources, 0xFFFFFF00)
             self.assertEqual(
-                asked, [] if file.is_stripped else [(file, at) for at in range(0x103C, 0xFFF, -4)]
+                asked, [] if file.is_stripped else [(file, at) for at in range(0x103C, 0xF3F, -4)]
             )
             return told
 

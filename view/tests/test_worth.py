@@ -16,7 +16,14 @@ sys.path[:0] = [os.path.dirname(os.path.dirname(HERE))]
 
 from view.model import instruction_pairs  # noqa: E402
 from view.model import miss_rates  # noqa: E402
-from view.model.rate_bands import BANDS, at_most, band_of  # noqa: E402
+from view.model.rate_bands import (  # noqa: E402
+    BANDS,
+    NOT_WORTH,
+    WORTH,
+    at_most,
+    band_of,
+    is_worth,
+)
 from view.reading.calls import Call  # noqa: E402
 from view.model.instruction_pairs import (  # noqa: E402
     ATOMIC,
@@ -30,13 +37,7 @@ from view.model.instruction_pairs import (  # noqa: E402
 )
 from view.model.view import View  # noqa: E402
 from view.names.naming import Naming  # noqa: E402
-from view.reading.reports import (  # noqa: E402
-    Misses,
-    InstructionPair,
-    Report,
-    LineInvalidations,
-    Word,
-)
+from view.reading.reports import InstructionPair, Misses, Report  # noqa: E402
 
 REPORT = "predator report 1\noutcome exit 0\nsteps {}\naccesses 2000\nlayout 64 0\nthresholds 16 64 100\nlines 0\nend\n"
 LINE = "line 0x0001{} cold 2 useful {} useless {}\nobject symbol {} 0x0001{} 64\n"
@@ -76,7 +77,7 @@ a:	file format elf64-x86-64
 """
 
 
-SEVERE = "severe: padding typically makes such programs 1.8 to 2.6 times faster"
+SEVERE = f"severe: {WORTH}"
 
 
 def misses_of(*lines):
@@ -113,12 +114,14 @@ def vars_of(words):
         call.recorder_flags,
         call.engine_options,
         call.run_trace,
+        call.recorded_quantum,
     ) = (
         words[0],
         {"type": [], "shape": []},
         [],
         [],
         [],
+        None,
         None,
     )
     call.words, call.subject, call.named, call.program = [*words[1:]], words[1], words[1], None
@@ -133,6 +136,7 @@ def vars_of(words):
             "named",
             "program",
             "run_trace",
+            "recorded_quantum",
         )
     }
     return own | {
@@ -170,6 +174,22 @@ class InTime(unittest.TestCase):
             self.assertIn(f"{band.least:g}", row[0])
         self.assertTrue(all(float(rows[2][at]) <= 1 for at in medians_at))
 
+    def test_where_padding_pays(self):
+        for rate, useless, useful, pays in (
+            (3, 3, 90, True),
+            (2.9, 3, 90, False),
+            (0.05, 9, 9, True),
+            (0.05, 8, 9, False),
+            (0.04, 9, 0, False),
+        ):
+            self.assertEqual(is_worth(rate, useless, useful), pays, rate)
+        own = view_of(("1000", 9, 2, "few"))
+        self.assertTrue(own.worth.total().endswith(f"(moderate: {NOT_WORTH})"))
+        own.call.recorded_quantum, own.report.steps = 100, 0
+        self.assertTrue(own.worth.total().endswith(f" per 1,000 accesses ({NOT_WORTH})"))
+        own.call.recorded_quantum = 10
+        self.assertIn("no time is estimated", own.worth.total())
+
     def test_bound(self):
         self.assertEqual(at_most(0, 140, 0.4), 0)
         self.assertAlmostEqual(at_most(10, 40, 0.4), 0.5)
@@ -204,11 +224,14 @@ class InTime(unittest.TestCase):
         for words in (["--set", "quantum=3"], ["--set", "seed=2"], ["--schedule", "f"]):
             own = view_of(("1000", 1, 7, "many"), words=("run", "p", *words))
             self.assertIsNone(own.worth.band(7), words)
-            self.assertEqual(own.worth.total(), "7.00 false per 1,000 instructions")
+            self.assertEqual(
+                own.worth.total(),
+                "7.00 false per 1,000 instructions (no time is estimated: the studies have quantum 100)",
+            )
         own = view_of(("1000", 1, 7, "many"), words=("replay", "t"))
         self.assertEqual(
             own.worth.total(),
-            f"7.00 false per 1,000 instructions (high if recorded at quantum 100: {BANDS[2].told})",
+            f"7.00 false per 1,000 instructions (high if recorded at quantum 100: {WORTH})",
         )
         own = view_of(("1000", 1, 7, "many"), steps=0, words=("replay", "t"))
         self.assertEqual(own.worth.total(), "3.50 false per 1,000 accesses")
@@ -288,7 +311,7 @@ class OnTheScreen(unittest.TestCase):
         self.assertEqual(first["invalidation_kinds"], kinds)
         self.assertEqual({it["kind"] for it in first["conflicts"]}, {"write_write"})
         self.assertIn(
-            "(write after write); in all 61 write → write; the line is hardly read, so store buffers hide most of them who",
+            "(write after write); in all 61 write → write who",
             joined(text),
         )
         self.assertIn(
@@ -370,10 +393,6 @@ class Kinds(unittest.TestCase):
         self.assertEqual(
             describe_kinds(own), "2 read → write, 5 write → write, 1 by unknown instructions"
         )
-        self.assertIn(
-            "; the line is hardly read, so store buffers hide most",
-            describe_kinds(own, is_read=False),
-        )
         self.assertEqual(
             (describe_kinds({}), describe_kinds(count_kinds([InstructionPair(0, 0, 1, 0)], known))),
             ("", ""),
@@ -385,26 +404,6 @@ class Kinds(unittest.TestCase):
             ),
             LOAD,
         )
-
-    def test_the_order_of_objects(self):
-        own = view_of(("1000", 0, 9, "stored"), ("1040", 0, 7, "loaded"), ("1080", 0, 1, "other"))
-        own.effects = parse_effects(RISCV, range(0x10340, 0x10368, 4))
-        for it in own.objects:
-            it.savable_misses = it.useless
-        own.is_read = lambda thing: thing.name != "stored"
-        takings = {
-            "stored": [InstructionPair(0x10344, 0x10344, 9, 0)],
-            "loaded": [InstructionPair(0x10348, 0x10344, 9, 0)],
-        }
-        own.invalidations_by_line = {
-            it.worst_line().base: LineInvalidations(it.worst_line().base, takings[it.name], {})
-            for it in own.objects
-            if it.name in takings
-        }
-        own.rank_by_cost()
-        self.assertEqual([it.name for it in own.objects], ["loaded", "stored", "other"])
-        self.assertTrue(instruction_pairs.is_read([Word(0, 2, 10, "1")]))
-        self.assertFalse(instruction_pairs.is_read([Word(0, 1, 10, "1"), Word(4, 0, 9, "2")]))
 
     @unittest.skipUnless(shutil.which("llvm-objdump"), "llvm-objdump isn't installed")
     def test_a_guest(self):

@@ -7,29 +7,27 @@
 
 #ifdef REPAIRED
 #define LINE __attribute__((aligned(64)))
-struct LINE own_count {
-    volatile uint32_t value;
-};
-struct LINE own_sum {
-    volatile uint64_t value;
-};
-#define VALUE .value
 #else
 #define LINE
+#endif
 typedef volatile uint32_t own_count_t;
 typedef volatile uint64_t own_sum_t;
-#define VALUE
-#endif
 
 static struct {
     uint32_t limit;
     uint64_t total;
 #ifdef REPAIRED
-    struct own_count counts[THREADS];
-    struct own_sum sums[THREADS];
+    struct LINE counts_sums {
+        own_count_t counts;
+        own_sum_t sums;
+    } own[THREADS];
+#define COUNT(at) own[at].counts
+#define SUM(at) own[at].sums
 #else
     own_count_t counts[THREADS];
     own_sum_t sums[THREADS];
+#define COUNT(at) counts[at]
+#define SUM(at) sums[at]
 #endif
 } table = {.limit = 7};
 static volatile unsigned first LINE;
@@ -39,8 +37,8 @@ static void *work(void *argument)
 {
     unsigned long at = (unsigned long)argument, sum = 0;
     for (unsigned i = 0; i < ROUNDS; i++) {
-        table.counts[at] VALUE++;
-        table.sums[at] VALUE += i;
+        table.COUNT(at)++;
+        table.SUM(at) += i;
         sum += *(volatile uint32_t *)&table.limit;
         if (at == 0)
             first++;
@@ -61,7 +59,7 @@ int main(void)
         void *sum;
         pthread_join(threads[i], &sum);
         status |= (unsigned long)sum != 7 * ROUNDS;
-        table.total += table.sums[i] VALUE;
+        table.total += table.SUM(i);
     }
     return status || table.total != THREADS * ROUNDS * (ROUNDS - 1) / 2;
 }

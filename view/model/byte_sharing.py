@@ -1,0 +1,80 @@
+"""True and false sharing by bytes: the misses of lines in whose words threads use different bytes, as the engine counts them once each byte
+is a word."""
+
+import contextlib
+import os
+import tempfile
+from typing import Iterable, NamedTuple, cast
+
+from view.model.view import View
+from view.reading.byte_traces import MAX_ACCESSES, WORD, write_stretched
+from view.reading.engine import Predator, Refused, misses_reader
+from view.reading.reports import Misses
+from view.reading.trace_files import WordUses
+
+# So many lines are counted by bytes.
+MAX_LINES = 4096
+VERSION_1 = b"PRDTRC01"
+
+
+class SharingMisses(NamedTuple):
+    """The misses of a line that aren't cold."""
+
+    useless: int
+    useful: int
+
+
+def convert_to_version_1(predator: Predator, trace: str, folder: str) -> str:
+    """The same trace in version 1, in a folder where it isn't that already."""
+    for at in range(3):
+        with open(trace, "rb") as file:
+            if file.read(len(VERSION_1)) == VERSION_1:
+                return trace
+        out = os.path.join(folder, f"version-{at}")
+        predator.quiet_output(["convert", "--", trace, out])
+        trace = out
+    raise Refused("the trace can't be converted")
+
+
+def count_by_bytes(
+    predator: Predator, trace: str, bases: Iterable[int], size: int, folder: str
+) -> dict[int, SharingMisses]:
+    """The misses of some lines of a trace of version 1, by bytes."""
+    order = sorted(bases)
+    out = os.path.join(folder, f"bytes-{len(os.listdir(folder))}")
+    places = dict(zip(write_stretched(trace, out, order, size), order))
+    counted = cast(Misses, predator.read_trace(out, misses_reader((WORD * size, 0))))
+    os.unlink(out)
+    return {
+        places[it.base]: SharingMisses(it.useless, it.useful)
+        for it in counted.lines.values()
+        if it.base in places
+    }
+
+
+def mixed_lines(view: View, uses: WordUses) -> list[int]:
+    """The lines with true-sharing misses on which threads use different bytes of a word."""
+    lines, size = view.misses.lines if view.misses else {}, view.report.size
+    found = {it // size * size for it in uses.words if uses.is_mixed(it)}
+    return sorted(it for it in found if it in lines and lines[it].useful)[:MAX_LINES]
+
+
+def count_mixed_lines(view: View, predator: Predator | None, uses: WordUses | None) -> None:
+    """Counts the lines on which threads use different bytes of words by bytes, and has the view show that."""
+    trace = view.call.trace_file()
+    if predator is None or uses is None or view.misses is None or trace is None:
+        return
+    bases = mixed_lines(view, uses)
+    if not bases or view.report.offset:
+        return
+    if view.report.accesses > MAX_ACCESSES:
+        view.notes.append(
+            f"threads use different bytes of words on {len(bases):,} lines, whose misses are counted by"
+            " words: the trace is too long to count by bytes"
+        )
+        return
+    with contextlib.suppress(Refused, OSError), tempfile.TemporaryDirectory(
+        prefix="predator-view-"
+    ) as folder:
+        plain = convert_to_version_1(predator, trace, folder)
+        view.note_bytes(count_by_bytes(predator, plain, bases, view.report.size, folder))

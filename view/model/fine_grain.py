@@ -1,0 +1,128 @@
+"""A run at a fine interleaving beside the usual one: the objects that threads contend for only there."""
+
+import concurrent.futures
+import copy
+import subprocess
+from typing import Any, Callable, Optional, Sequence
+
+from view.faults import Fault
+from view.model.objects import DataObject
+from view.model.view import MIN_ACCESS_SHARE_DIVISOR, View
+from view.reading.calls import Call, option_width
+from view.reading.engine import Predator, setting_value
+from view.reading.recording import keep_run_trace
+
+# The quantum of the fine run, and the least one beside which it is made.
+FINE_QUANTUM, LEAST_QUANTUM = 3, 30
+# A program of more accesses is run at the fine quantum only where the call asks for it.
+MAX_ACCESSES = 4_000_000
+# What the call of the fine run has of the options.
+KEPT_OPTIONS = ("object", "type", "sources", "shape", "library")
+
+FineRun = Optional["concurrent.futures.Future[View | None]"]
+
+
+class QuietPredator(Predator):
+    """The program, of whose messages nothing is shown: they are those of the first run."""
+
+    def output(self, words: Sequence[str | bytes], good: Sequence[int] = (0,), **how: Any) -> str:
+        return super().output(words, good, **{**how, "stderr": subprocess.DEVNULL})
+
+
+def wants_fine_run(call: Call, accesses: int) -> bool:
+    """Whether a run at the fine quantum may show what this one doesn't."""
+    words = call.settings_words()
+    return (
+        call.action == "run"
+        and "no-fine" not in call.options
+        and not any(it.startswith("--schedule") for it in words)
+        and setting_value(words, "seed") == 0
+        and setting_value(words, "quantum") >= LEAST_QUANTUM
+        and (accesses <= MAX_ACCESSES or "fine" in call.options)
+    )
+
+
+def fine_call(call: Call) -> Call:
+    """The same call at the fine quantum, with nothing written."""
+    fine = copy.copy(call)
+    fine.words = call.rerun_words()[1:]
+    fine.words = set_quantum(fine.words, FINE_QUANTUM)
+    fine.options = {name: own for name, own in call.options.items() if name in KEPT_OPTIONS}
+    fine.options.update({"explain": "0", "no-predicted": "", "no-fine": ""})
+    fine.run_trace = None
+    return fine
+
+
+def set_quantum(words: Sequence[str], quantum: int) -> list[str]:
+    """The words of a run with another quantum."""
+    found, at = list(words), 0
+    while at < len(found) and found[at] != "--":
+        name, has_value, value = found[at].partition("=")
+        if name == "--set":
+            value = value if has_value else found[at + 1]
+            kept = [it for it in value.split(",") if it.partition("=")[0] != "quantum"]
+            found[at : at + option_width(found[at])] = [
+                f"--set={','.join([*kept, f'quantum={quantum}'])}"
+            ]
+            return found
+        at += option_width(found[at])
+    return ["--set", f"quantum={quantum}", *found]
+
+
+def begin_fine_run(call: Call, accesses: int, look: Callable[[Call, Predator], View]) -> FineRun:
+    """Begins a run at the fine quantum beside what else is counted, where it may show more."""
+    if not wants_fine_run(call, accesses):
+        return None
+    pool = concurrent.futures.ThreadPoolExecutor(max_workers=1)
+    try:
+        return pool.submit(view_fine_run, fine_call(call), look)
+    finally:
+        pool.shutdown(wait=False)
+
+
+def view_fine_run(call: Call, look: Callable[[Call, Predator], View]) -> View | None:
+    try:
+        with keep_run_trace(call):
+            view = look(call, QuietPredator())
+    except (Fault, OSError):
+        return None
+    return view if view.report.ended_well() and view.misses else None
+
+
+def is_contended(view: View, obj: DataObject) -> bool:
+    """Whether an object has false-sharing misses that are worth a row."""
+    return obj.useless * MIN_ACCESS_SHARE_DIVISOR >= view.report.accesses
+
+
+def has_repair(view: View, obj: DataObject | None) -> bool:
+    """Whether a repair of an object saves enough to be named."""
+    tried = view.decisive_trial(obj) if obj else None
+    return tried is not None and (tried.is_saving() or tried.same_as is not None)
+
+
+def fine_objects(view: View) -> list[DataObject]:
+    """The objects of the fine run, worst first, that are contended only there: which have a repair there alone, or hardly a false-sharing
+    miss in the usual run."""
+    fine = view.fine
+    if fine is None or view.misses is None:
+        return []
+    found = []
+    for obj in fine.listed_objects():
+        own = view.objects_by_key.get(obj.key)
+        is_new = own is None or not is_contended(view, own)
+        if not has_repair(view, own) and (is_new or has_repair(fine, obj)):
+            if is_contended(fine, obj):
+                found.append(obj)
+    return found
+
+
+def fine_notes(view: View) -> list[str]:
+    """A sentence for each of these objects."""
+    if view.fine is None:
+        return []
+    return [
+        f"only at fine interleaving (quantum {FINE_QUANTUM}): {view.fine.label(it)}:"
+        f" {it.useless:,} false-sharing misses; typical of queues and spinning; fix:"
+        f" {view.fine.details(it).fix}"
+        for it in fine_objects(view)
+    ]
