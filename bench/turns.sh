@@ -38,9 +38,9 @@ def program_of(code):
 
 def counted(*words, status):
     valgrind = ["valgrind", "--tool=callgrind", f"--callgrind-out-file={work}/out"]
-    told = subprocess.run([*valgrind, *map(str, words)], capture_output=True, text=True)
-    assert told.returncode == status, (words, told.returncode)
-    return int(re.search(r"Collected : (\d+)", told.stderr).group(1))
+    result = subprocess.run([*valgrind, *map(str, words)], capture_output=True, text=True)
+    assert result.returncode == status, (words, result.returncode)
+    return int(re.search(r"Collected : (\d+)", result.stderr).group(1))
 
 
 for what, code, harts, quantum in RUNS:

@@ -16,7 +16,7 @@ _predator_view() {
 _predator() {
     local word=${COMP_WORDS[COMP_CWORD]} before=${COMP_WORDS[COMP_CWORD - 1]} options
     # commands.toml: names
-    local commands="run replay check split gen convert sweep caches place move misses blame explain view campaign native" own="--help --version --prove"
+    local commands="run replay check split gen convert sweep caches place move misses blame explain view campaign native allocators" own="--help --version --prove"
     # (so far)
     if ((COMP_CWORD == 1)); then
         mapfile -t COMPREPLY < <(compgen -W "$commands help $own" -- "$word")
@@ -50,14 +50,15 @@ _predator() {
         'misses') options="--size --shift" ;;
         'blame') options="--size --shift" ;;
         'explain') options="--settings --set --schedule" ;;
-        'view') options="--top --object --words --library --predicted --no-predicted --explain --type --sources --html --json --json-version --sarif --against --fail-above --by --patch --program --map" ;;
+        'view') options="--top --object --words --library --predicted --no-predicted --explain --type --sources --html --live --json --json-version --sarif --against --fail-above --by --patch --perf --program --map" ;;
         'campaign') options="--to --profile --cores --html --check" ;;
-        'native') options="--built --quantum --all --marked --child --pcs --no-pcs --most --max-disk --trace --table --report --settings --size --shift --mend --build" ;;
-        'view run') options="--top --object --words --library --predicted --no-predicted --explain --type --sources --html --json --json-version --sarif --against --fail-above --by --patch --latency --settings --set --schedule --trace --pcs --output" ;;
-        'view replay') options="--top --object --words --library --predicted --no-predicted --explain --type --sources --html --json --json-version --sarif --against --fail-above --by --patch --program --map --settings --set --size --shift --save --resume" ;;
+        'native') options="--built --quantum --all --marked --child --pcs --no-pcs --filtered --skip --for --windows --paused --most --max-disk --trace --table --report --settings --size --shift --mend --build" ;;
+        'allocators') options="--guest --drivers --sizes --threads --seeds --quantum --limit --to --traces --html --json --fail-above --by" ;;
+        'view run') options="--top --object --words --library --predicted --no-predicted --explain --type --sources --html --live --json --json-version --sarif --against --fail-above --by --patch --perf --fine --latency --no-fine --settings --set --schedule --trace --pcs --output" ;;
+        'view replay') options="--top --object --words --library --predicted --no-predicted --explain --type --sources --html --live --json --json-version --sarif --against --fail-above --by --patch --perf --program --map --settings --set --size --shift --save --resume" ;;
         'view sweep') options="--size --top --html" ;;
         'view caches') options="--shape --top --html" ;;
-        'view native') options="--top --object --words --library --predicted --no-predicted --explain --type --sources --html --json --json-version --sarif --against --fail-above --by --patch --built --quantum --all --marked --child --pcs --no-pcs --most --max-disk --trace --settings --set --size --shift" ;;
+        'view native') options="--top --object --words --library --predicted --no-predicted --explain --type --sources --html --live --json --json-version --sarif --against --fail-above --by --patch --perf --built --quantum --all --marked --child --pcs --no-pcs --skip --for --windows --most --max-disk --trace --settings --set --size --shift" ;;
     # (so far)
         *) return ;;
     esac

@@ -5,7 +5,7 @@
 # shellcheck disable=SC2154 # (parts.bash and who reads this in set the others)
 
 passed=0 failed=0 skipped=0
-# Why parts were skipped, in the order in which that was found, and which parts for each reason. bin/test tells it at the end, and bin/try at once.
+# Why parts were skipped, in the order in which that was found, and which parts for each reason. bin/test prints it at the end, and bin/try at once.
 skip_reasons=()
 declare -A skipped_for=()
 # The part of each process that is waited for, when it began, and which try it is.
@@ -101,11 +101,11 @@ find_program() {
     export PREDATOR_BUILD=no
 }
 
-# Builds the recorders where a part wants them, they aren't built of these sources, and what they are built with is there. What is wrong with
-# their build the part `native` tells.
+# Builds the recorders if a part needs them, no build of these sources exists, and the packages for it are installed. The part `native` reports
+# a failed build.
 build_recorders() { # NAME ..
     local built=native/out/predator-amd64-linux
-    [[ " $* " == *" native "* || " $* " == *" examples "* ]] || return 0
+    [[ " $* " == *" native "* || " $* " == *" examples "* || " $* " == *" allocators "* ]] || return 0
     command -v gcc >/dev/null && [ -x /usr/bin/valgrind.bin ] || return 0
     if [ ! -x "$built" ] || [ -n "$(find native/build native/lib native/tool -newer "$built" -print -quit)" ]; then
         start_part build 600 native/build
@@ -145,7 +145,7 @@ lack() {
 skip_part() { # NAME WHY
     skipped=$((skipped + 1))
     note_skip "$@"
-    [ -n "${tells_skips:-}" ] || echo "skipped: $1: $2"
+    [ -n "${reports_skips:-}" ] || echo "skipped: $1: $2"
 }
 
 note_skip() { # NAME WHY
@@ -153,7 +153,7 @@ note_skip() { # NAME WHY
     skipped_for[$2]+=${skipped_for[$2]:+, }$1
 }
 
-tell_skips() {
+report_skips() {
     local it
     ((${#skip_reasons[@]} == 0)) || echo "Skipped:"
     for it in ${skip_reasons[@]+"${skip_reasons[@]}"}; do echo "    ${skipped_for[$it]}: $it"; done
@@ -167,7 +167,7 @@ time_of() { # NAME
     echo "$((SECONDS - began[$1])) s; processor $((${user:-0} + ${system:-0})) s"
 }
 
-# finish_part NAME STATUS: counts a part that has ended, and tells of it.
+# finish_part NAME STATUS: counts a part that has ended, and reports the result.
 finish_part() {
     local name=$1 status=$2 log=$work/$1.log took number=${try_numbers[$1]:-1} it
     took=$(time_of "$name")

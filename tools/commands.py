@@ -29,6 +29,7 @@ PAGES = {
     "view": "view/reading/calls.py",
     "campaign": "campaign/main.py",
     "native": "native/predator-native",
+    "allocators": "native/allocators/calls.py",
 }
 # Crates that repeat lines of usage, to test them.
 COPIES = ("_tests",)
@@ -89,7 +90,7 @@ def help_parts(table: dict[str, list[Row]]) -> dict[str, str]:
             column_text(9, it["name"], plain_text(it["does"])) for it in table["command"]
         ),
         "Beside the program": "".join(
-            column_text(9, it["name"], plain_text(it["does"])) for it in table["beside"]
+            column_text(11, it["name"], plain_text(it["does"])) for it in table["beside"]
         ),
         "Options": "".join(
             column_text(

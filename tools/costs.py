@@ -235,7 +235,7 @@ def unit_cost(few: Cost, many: Cost) -> float | str:
 
 
 def judge_row(row: Row, unit: str, usual: float | str, slow: float | str) -> bool:
-    """Tells what a row comes to, and whether it is as it should be."""
+    """Prints the cost of a row, and returns whether it is within its limit."""
     if isinstance(usual, str) or isinstance(slow, str):
         print(f"FAILED: {row.name}: {usual if isinstance(usual, str) else slow}")
         return False

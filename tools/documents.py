@@ -171,14 +171,14 @@ def crate_layers() -> dict[str, int]:
 
 
 def wrong_layers(text: str) -> list[str]:
-    told = {
+    written = {
         name: int(floor)
         for floor, name in re.findall(r"^\| (\d) \| `(\w+)` \|", text, re.MULTILINE)
     }
     return [
         f"{name}: floor {floor}"
         for name, floor in crate_layers().items()
-        if told.get(name) != floor
+        if written.get(name) != floor
     ]
 
 

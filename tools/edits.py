@@ -5,7 +5,7 @@ usage: tools/edits.py [CRATE ..]              tries those of crates/*/edits/, of
 are named
        tools/edits.py --check [--planted]     compares all edits with the sources, and tries none
 
-The two edits of each crate that tell most stand in its must-fail/, where `rt ci` tries them. The others stand
+The two most significant edits of each crate stand in its must-fail/, where `rt ci` tries them. The others stand
 in edits/ beside it, in the same form: a line `file: src/lib.rt`, and then pairs of lines `old: TEXT` and
 `new: TEXT`.
 

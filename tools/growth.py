@@ -13,7 +13,7 @@ A cost is a number of machine instructions, counted by perf, or where the machin
 (cachegrind); where there is neither, it is processor time, the least of three calls, of cases that are four
 times as large. WAY is perf, valgrind or time, and chooses one. What the same call of next to nothing costs is
 taken off before. What each call printed is compared with what the case is made for: a case that isn't what it
-should be, or does too little to tell, is a fault. The status is 1 where a call is named or a case has a
+should be, or does too little to judge, is a fault. The status is 1 where a call is named or a case has a
 fault. Calls of the cases in KNOWN are listed apart, and don't change the status; it is a fault where none of
 them grows any more."""
 
@@ -531,7 +531,7 @@ class Measures:
             return row
         if greater.cost - nothing.cost < self.way.least:
             fault = (
-                f"it does too little to tell: {greater.cost - nothing.cost:g} beyond"
+                f"it does too little to judge: {greater.cost - nothing.cost:g} beyond"
                 f" {nothing.cost:g} of next to nothing"
             )
         return row._replace(greater=greater.cost - nothing.cost, fault=fault)

@@ -1,5 +1,5 @@
 #!/usr/bin/env python3
-"""Says what the report of a replay is by its rules alone, as docs/RULES.md and docs/FORMATS.md tell them, and
+"""Says what the report of a replay is by its rules alone, as docs/RULES.md and docs/FORMATS.md define them, and
 stands on nothing of the program. It goes over whole lists: caches are sets of harts, starts and openings
 least positions, and nothing is kept of a line.
 

@@ -3,8 +3,8 @@
 #
 #     shell     shellcheck, over each shell script, with .shellcheckrc
 #     python    black (its layout, with pyproject.toml) and flake8 (with setup.cfg), over all Python
-#     types     mypy --strict, over campaign/, bench/clock/ and tools/, and mypy over view/, with setup.cfg
-#     c         clang-format, clang-tidy and gcc's analyzer, over native/ and, by the cross compiler that the kit's C library comes with, over the kit; a warning is an error
+#     types     mypy --strict, over campaign/, native/allocators/, bench/clock/, tools/ and anywhere/, and mypy over view/, with setup.cfg
+#     c         clang-format, clang-tidy and gcc's analyzer, over native/ (anywhere/: clang-format alone) and, by the cross compiler that the kit's C library comes with, over the kit; a warning is an error
 #
 # What isn't installed is skipped: the status is 77, and the last line names it.
 set -u
@@ -33,13 +33,13 @@ shell_scripts() {
 python_files() { files | grep -v '^crates/' | grep '\.py$'; }
 
 # clang-format over the recorders, the tools and the benches; the kit and its examples keep their lines, since programs that were
-# built of them tell places by lines.
+# built from them name places by lines.
 format_c() {
     if ! command -v clang-format >/dev/null; then
         echo "skipped: the layout of C, which clang-format checks (Debian: clang-format)"
         return 0
     fi
-    clang-format --dry-run -Werror native/{tool,lib}/*.[ch] tools/edges/*.c bench/*.c bench/clock/*.[ch]
+    clang-format --dry-run -Werror native/{tool,lib}/*.[ch] native/allocators/*.c native/allocators/drivers/*.[ch] tools/edges/*.c bench/*.c bench/clock/*.[ch] anywhere/*.c
 }
 
 # clang-tidy FLAGS .. -- FILE ..
@@ -124,10 +124,14 @@ case ${1:-} in
         check_types "${found[@]}"
         mapfile -t found < <(python_files | grep '^campaign/' | grep -v '^campaign/\(tests\|profiles\)/')
         check_types --strict --follow-imports=silent "${found[@]}"
+        mapfile -t found < <(python_files | grep '^native/allocators/' | grep -v '/tests/')
+        MYPYPATH=bench/clock:tools check_types --strict --follow-imports=silent --explicit-package-bases "${found[@]}"
         # (folders of scripts, which find their modules beside them)
         for folder in bench/clock tools tools/edges; do
             MYPYPATH=$folder:tools:tools/edges check_types --strict "$folder"/*.py
         done
+        MYPYPATH=anywhere:anywhere/tests check_types --strict --follow-imports=silent anywhere/build.py anywhere/tests/*.py
+        MYPYPATH=anywhere check_types --strict --follow-imports=silent -p predator
         exit "$status"
         ;;
     c) judge_c ;;

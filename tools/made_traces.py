@@ -134,7 +134,7 @@ def symbols_under_one(n: int) -> TraceCaseFile:
 
 
 def symbols_equal(n: int) -> TraceCaseFile:
-    """Told four times each, and those of every eighth line begin at one place."""
+    """Each symbol comes four times, and those of every eighth line begin at one place."""
     trace = Trace()
     for i in range(4 * n):
         place = i % n

@@ -4,15 +4,14 @@
 usage: tools/messages.py PROGRAM [--planted]
 
 Each key of the settings and each number among the words is given its bounds and what lies just beyond them,
-the keys by a file, by `--set`, and by one of them where the other is right: which file is named, or that none
-is. The ranges and names in what is to be said are put together from commands.toml, so that a message that
-tells another range than the one that is kept is found. Then each command gets words that are missing, twice
-or too many, and files with each fault. Of each call the status, the text and the line on standard error are
-compared, and no control character is to be in the line. tools/edges tries what is said where the system
-fails.
+the keys in a file, with `--set`, and in one of them while the other is right. The expected message names the
+right file, or none. Its ranges and names come from commands.toml, so a message with another range than the
+program enforces is found. Then each command gets missing, repeated and surplus words, and files with each
+fault. The status, the text and the line on standard error of each call are compared, and the line must not
+contain control characters. tools/edges tests the messages for system failures.
 
-With --planted each range of commands.toml is then widened, one after the other, as if the program kept
-another one or told another one than it keeps, and each must be found."""
+With --planted each range of commands.toml is then widened, one after the other, as if the program enforced
+another range or printed another one than it enforces. Each must be found."""
 
 import os
 import subprocess
@@ -401,7 +400,7 @@ def word_tries() -> Iterator[Try]:
 
 
 def file_tries() -> Iterator[Try]:
-    """Each fault of a file once, and one for each command that reads such a file, whose name is told."""
+    """Each fault of a file once, and one for each command that reads such a file: the message names it."""
     for words, status, printed, said in list_faults():
         yield Try(words, status, printed, said)
     cut = "the trace is cut off after 10 bytes: record or copy it again"

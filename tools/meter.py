@@ -68,7 +68,7 @@ def find_faults(
     done = [it[0] for it in lines]
     found = []
     if has_total and any(it[1] != whole for it in lines):
-        found.append(f"{what}: {lines} don't tell the whole, {whole}")
+        found.append(f"{what}: {lines} don't add up to the whole, {whole}")
     if done != sorted(set(done)) or done[-1] > whole:
         found.append(f"{what}: {done} don't grow towards {whole}")
     # The last line came at most a second and a piece of the work before the end.

@@ -4,13 +4,14 @@ one, runs of many steps, many lines, large files. No want of memory, no cut and 
 
 usage: tools/sizes.py PROGRAM [--long]
 
-Each call has an address space of so many bytes as its row says, so that one that holds a trace, or takes
-pieces of a GiB, ends with want of memory. What it prints is known: two harts take one line from each other at
-each access, or write so many lines. The short form takes a trace of more than 2^24 accesses through every
-command that passes over one, one of more than 256 MiB through `replay`, a run and `explain` of more than 2^24
-accesses, more than 65,536 blocks, noted blocks and lines, programs of 16 MiB and of a byte less, a table of 1
-MiB, and a state, an output and a trace of more than 32 MiB. The long form takes the longer trace through
-every command. Memory that is refused at any one place is tried by guest/refuse_memory.py."""
+Each call has half of the usual stack, and an address space of so many bytes as its row says, so that one that
+holds a trace, or takes pieces of a GiB, ends with want of memory. What it prints is known: two harts take one
+line from each other at each access, or write so many lines. The short form takes a trace of more than 2^24
+accesses through every command that passes over one, one of more than 256 MiB through `replay`, a run and
+`explain` of more than 2^24 accesses, more than 65,536 blocks, noted blocks and lines, programs of 16 MiB and
+of a byte less, a table of 1 MiB, a state, an output and a trace of more than 32 MiB, and a report of more
+than 64 MiB. The long form takes the longer trace through every command. Memory that is refused at any one
+place is tried by guest/refuse_memory.py."""
 
 import hashlib
 import os
@@ -34,6 +35,8 @@ TRACKS, MANY = 2000, 70_000
 MIB = 1 << 20
 BASE = 0x1040
 PIECE = 1 << 16
+# Half of the stack that Debian gives a process.
+STACK = 4 * MIB
 
 
 class Try(NamedTuple):
@@ -386,6 +389,25 @@ def large_file_tries() -> Iterator[Try]:
     yield Try("run guest.elf --trace t --pcs --output o", ("outcome exit 0",), 80, sums)
 
 
+def long_text_tries() -> Iterator[Try]:
+    """A report of more than 64 MiB: two harts write the 16 words of each line in turn."""
+    count, words = 104_000, range(16)
+    bases = [0x100000 + 128 * line for line in range(count)]
+    put_file(
+        "full",
+        files.trace_bytes([(word & 1, "W", base + 4 * word) for base in bases for word in words]),
+    )
+    rows = []
+    for line, base in enumerate(bases):
+        start = len(words) * line
+        rows.append(f"line observed {base:#010x} 64 start {start} count 15 verdict false")
+        rows += [f"word {base + 4 * word:#010x} reads 0 writes 1 hart {word & 1}" for word in words]
+    accesses = len(words) * count
+    text = report_text("exit 0", accesses, accesses, "64 0", "1 none 1", rows, count)
+    assert len(text) > 64 * MIB
+    yield Try("replay full --size 64 --set tracking=1,report=1", text, 600)
+
+
 def put_file(name: str, content: bytes) -> None:
     with open(name, "wb") as file:
         file.write(content)
@@ -399,6 +421,7 @@ def find_fault(program: str, attempt: Try) -> str:
 
     def limit() -> None:
         resource.setrlimit(resource.RLIMIT_AS, (attempt.most * MIB, attempt.most * MIB))
+        resource.setrlimit(resource.RLIMIT_STACK, (STACK, STACK))
 
     ran = subprocess.run(
         [program, *attempt.words.split()],
@@ -435,7 +458,7 @@ def tries_by_kind(is_long: bool) -> Iterator[list[Try]]:
     yield [*run_tries(), *program_tries(), Try(f"gen {LONG} f", (f"generated {LONG}",), 40)]
     yield [*many_line_tries(MANY)]
     yield [*many_line_tries(TRACKS)]
-    for attempt in large_file_tries():
+    for attempt in [*large_file_tries(), *long_text_tries()]:
         yield [attempt]
     contended_trace("long", LONGER)
     yield list(trace_tries("long", LONGER)) if is_long else list(trace_tries("long", LONGER))[:1]

@@ -20,6 +20,9 @@ export PATH=/usr/bin:/bin TMPDIR=$work/tmp
 # A checkout with the launcher, dist/ and the sources of the crates, whose parts are these.
 mkdir checkout tmp kit
 (cd "$top" && tar -c --exclude=out bin dist crates crates.txt VERSION guest/built/apart.elf) | tar -x -C checkout
+# (nothing here can build the module, as where there is no kit)
+mkdir checkout/anywhere
+echo 'raise SystemExit(127)' >checkout/anywhere/build.py
 # (whatever sources dist/ is of)
 # shellcheck source=bin/sources.bash
 . checkout/bin/sources.bash

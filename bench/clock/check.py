@@ -140,7 +140,7 @@ def check_page(study: Study) -> Iterator[str]:
 
 
 def check_stored_studies() -> Iterator[str]:
-    """What is wrong with the kept studies, and with the documents that tell of them."""
+    """The faults of the kept studies, and of the documents that quote them."""
     studies = read_studies()
     for drawn in page_pictures(studies):
         names = [one["name"] for one in drawn["points"]]

@@ -2,14 +2,14 @@
 held. Nothing is measured here."""
 
 import functools
-from statistics import median
+from statistics import median, quantiles
 from typing import Callable, NamedTuple, Sequence
 
 from counts import Count
 from pairs import FORMS, Program
 from timing import Timed
 
-from view.model.rate_bands import BANDS, at_most, band_of
+from view.model.rate_bands import BANDS, at_most, band_of, is_worth
 
 QUANTA = (1, 10, 100, 1000)
 USUAL = 100
@@ -122,6 +122,38 @@ def band_summary(rows: Sequence[Row]) -> list[list[Cell]]:
         least: list[Cell] = [min(own), median(own), max(own)] if own else [None, None, None]
         made.append([band_name(at), len(own), *least])
     return made
+
+
+# A pair gains by padding from this slowdown on.
+GAIN = 1.05
+
+
+class RuleSummary(NamedTuple):
+    """How the rule of view did: cases, those in which it was right, the slowdowns of those that it advises,
+    and how many of the others gained."""
+
+    cases: int
+    right: int
+    advised: list[float]
+    gained_otherwise: int
+
+    def tenths(self) -> list[float]:
+        return quantiles(self.advised, n=10) if len(self.advised) > 1 else []
+
+
+def rule_summary(rows: Sequence[Row], is_recorded: bool = False) -> RuleSummary:
+    """The rule over some pairs, by the guests' counts or by those recorded here."""
+    advised: list[float] = []
+    others: list[float] = []
+    for row in rows:
+        found = row.recorded.get(FORMS[0]) if is_recorded else row.counts.get((FORMS[0], USUAL))
+        rate = found.rate() if found else None
+        if found and rate is not None:
+            own = advised if is_worth(rate, found.useless, found.useful) else others
+            own.append(row.slowdown())
+    gained = sum(it >= GAIN for it in others)
+    right = sum(it >= GAIN for it in advised) + len(others) - gained
+    return RuleSummary(len(advised) + len(others), right, advised, gained)
 
 
 def false_sharing_rate(row: Row, quantum: int) -> float | None:

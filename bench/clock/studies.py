@@ -24,6 +24,8 @@ from judge import (
     total_misses,
     rank_correlation,
     invalidation_rate,
+    GAIN,
+    rule_summary,
 )
 from page import page
 from pairs import FORMS, HERE, TOP, Program, Trouble, find_programs
@@ -105,8 +107,8 @@ def parse_values(text: str) -> Study:
         if name.startswith("line ")
     }
     machine = {
-        name: told
-        for name, told in notes.items()
+        name: note
+        for name, note in notes.items()
         if not name.startswith("line ") and name != "step"
     }
     texts = {it.name: it.text for it in find_programs()}
@@ -183,8 +185,28 @@ def bound_facts(study: Study) -> list[tuple[str, Cell]]:
     ]
 
 
+def rule_facts(study: Study) -> list[tuple[str, Cell]]:
+    """How the rule did by which view says whether padding pays, over all pairs."""
+    facts: list[tuple[str, Cell]] = []
+    for name, is_recorded in (("rule", False), ("rule, recorded here", True)):
+        found = rule_summary(study.rows, is_recorded)
+        tenths = found.tenths()
+        if not found.cases:
+            facts += [(f"{name}: right", "-"), (f"{name}: slowdown where it advises padding", "-")]
+            continue
+        none = sum(it < GAIN for it in found.advised)
+        facts.append((f"{name}: right", f"{found.right} of {found.cases}"))
+        facts.append(
+            (
+                f"{name}: slowdown where it advises padding",
+                f"{tenths[1]:.2f} to {tenths[7]:.2f}; {none} of {len(found.advised)} gained nothing",
+            )
+        )
+    return facts
+
+
 def study_facts(study: Study) -> list[tuple[str, Cell]]:
-    """What else the document tells of a study."""
+    """The other figures of a study that the document has."""
     rows, ways = study.quiet_rows(), sorted(study.lines.values())
     handed = [it for it in rows if is_true_sharing(it)]
     slower, gained = sum(it.slowdown() < 0.95 for it in handed), sum(
@@ -194,6 +216,7 @@ def study_facts(study: Study) -> list[tuple[str, Cell]]:
         ("undisturbed pairs", f"{len(rows)} of {len(study.rows)}"),
         ("ns from one processor to another", f"{ways[0]:.0f} to {ways[-1]:.0f}"),
         *rank_table(study),
+        *rule_facts(study),
         *bound_facts(study),
         (
             "of pairs with mostly true sharing, slower by 5% when padded; faster",
@@ -238,8 +261,8 @@ def programs_table(studies: Mapping[str, Study], names: Sequence[str]) -> str:
 
 def document_parts(studies: Mapping[str, Study]) -> dict[str, dict[str, str]]:
     """The texts between the marks of each document."""
-    told = [bands_table(studies), facts_table(studies), programs_table(studies, NAMED)]
-    return {"STUDIES.md": {"clock": "\n\n".join(told)}}
+    tables = [bands_table(studies), facts_table(studies), programs_table(studies, NAMED)]
+    return {"STUDIES.md": {"clock": "\n\n".join(tables)}}
 
 
 def renew_parts(text: str, found: Mapping[str, str], of: str) -> str:

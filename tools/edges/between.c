@@ -1,19 +1,22 @@
-// Stands between a program and the C library, for main.py, which builds it and loads it before the
-// library (LD_PRELOAD). It writes down each call that opens, reads, writes or asks about a file,
-// has one of them fail, and in a planted try makes a mistake in the program's name. What it does is
-// told by the environment:
+// clang-format off
+// Stands between a program and the C library, for main.py, which builds it and preloads it
+// (LD_PRELOAD). It logs each call that opens, reads, writes or examines a file, makes one of them
+// fail, and in a planted test adds a mistake to the program. The environment says what it does:
 //
-//     EDGES_LOG=FILE     each call comes there as a line: CALL FD ASKED ANSWER ERROR NAME
-//     EDGES_AT=N         the N-th of these calls, from 1 on, goes wrong in one of these ways
-//     EDGES_ERROR=E        it isn't made, and answers -1 with this errno. (A close is made.)
-//     EDGES_SHARE=WORD     it is asked for `less` bytes (all but one), for `half` of them, for
-//     `one`, or answers that it took `none` EDGES_LASTS=1      each later call fails too, with the
-//     same errno, but for those that close or are about standard error EDGES_INODES=WORD  files
-//     have other numbers: `long` ones, that differ above 2^32 alone, or one number on many
-//     `devices` EDGES_ROOM=N       files that are written have room for N bytes together; a write
-//     takes what has room, and ENOSPC is answered then EDGES_BEHIND=FILE  the file EDGES_NAME
-//     becomes this one when it was read to its end EDGES_PLANT=WORD   a mistake, one of those that
-//     `plant` below names. EDGES_NAME=FILE is the file that it is about
+//     EDGES_LOG=FILE     the log; each call is a line: CALL FD ASKED ANSWER ERROR NAME
+//     EDGES_AT=N         the N-th of these calls, from 1 on, goes wrong in one of these ways:
+//     EDGES_ERROR=E        it isn't made, and returns -1 with this errno (a close is made)
+//     EDGES_SHARE=WORD     it handles `less` bytes (all but one), `half` or `one` of them, or
+//                          returns that it took `none`
+//     EDGES_LASTS=1      each later call fails too, with the same errno, except closes and those
+//                        on standard error
+//     EDGES_INODES=WORD  files get other inode numbers: `long` ones, which differ above 2^32 only,
+//                        or one number on many `devices`
+//     EDGES_ROOM=N       the written files have room for N bytes together; a write takes as many
+//                        as fit, and then fails with ENOSPC
+//     EDGES_BEHIND=FILE  replaces the file EDGES_NAME once it has been read to its end
+//     EDGES_PLANT=WORD   a mistake, one of those that `plant` below lists, in the file EDGES_NAME
+// clang-format on
 #define _GNU_SOURCE
 #include <ctype.h>
 #include <dlfcn.h>
@@ -80,7 +83,7 @@ __attribute__((destructor)) static void end(void)
 }
 
 // Writes a call down, and answers what it answers.
-static long told(const char *call, int fd, long asked, long answer, const char *name)
+static long log_call(const char *call, int fd, long asked, long answer, const char *name)
 {
     char line[PATH_MAX + 100];
     int was = errno;
@@ -155,12 +158,12 @@ int open(const char *name, int flags, ...)
         va_end(rest);
     }
     if (is_failing(-1))
-        return (int)told("open", -1, flags, -1, name);
+        return (int)log_call("open", -1, flags, -1, name);
     mistake_name(&name, &flags, room_for);
     int fd = (int)syscall(SYS_openat, AT_FDCWD, name, flags, mode);
     if (*behind && strcmp(name, named) == 0)
         changing = fd;
-    return (int)told("open", fd, flags, fd, name);
+    return (int)log_call("open", fd, flags, fd, name);
 }
 
 int close(int fd)
@@ -173,7 +176,7 @@ int close(int fd)
         errno = (int)error;
         answer = -1;
     }
-    return (int)told("close", fd, 0, answer, "");
+    return (int)log_call("close", fd, 0, answer, "");
 }
 
 // Puts what another file has into the file that was read.
@@ -193,11 +196,11 @@ static void change(void)
 ssize_t read(int fd, void *into, size_t count)
 {
     if (is_failing(fd))
-        return told("read", fd, (long)count, -1, "");
+        return log_call("read", fd, (long)count, -1, "");
     long answer = syscall(SYS_read, fd, into, share_of(count));
     if (answer == 0 && count > 0 && fd == changing)
         change();
-    return told("read", fd, (long)count, answer, "");
+    return log_call("read", fd, (long)count, answer, "");
 }
 
 static int is_file(int fd)
@@ -238,28 +241,28 @@ static long put(int fd, const void *bytes, size_t count)
 ssize_t write(int fd, const void *bytes, size_t count)
 {
     if (is_failing(fd))
-        return told("write", fd, (long)count, -1, "");
+        return log_call("write", fd, (long)count, -1, "");
     if (made == at && !error && strcmp(share, "none") == 0)
-        return told("write", fd, (long)count, 0, "");
-    return told("write", fd, (long)count, put(fd, bytes, count), "");
+        return log_call("write", fd, (long)count, 0, "");
+    return log_call("write", fd, (long)count, put(fd, bytes, count), "");
 }
 
 off_t lseek(int fd, off_t offset, int whence)
 {
     if (is_failing(fd))
-        return told("lseek", fd, offset, -1, "");
-    return told("lseek", fd, offset, syscall(SYS_lseek, fd, offset, whence), "");
+        return log_call("lseek", fd, offset, -1, "");
+    return log_call("lseek", fd, offset, syscall(SYS_lseek, fd, offset, whence), "");
 }
 
 int ftruncate(int fd, off_t length)
 {
     if (is_failing(fd))
-        return (int)told("ftruncate", fd, length, -1, "");
-    return (int)told("ftruncate", fd, length,
-                     plant("tail") ? 0 : syscall(SYS_ftruncate, fd, length), "");
+        return (int)log_call("ftruncate", fd, length, -1, "");
+    return (int)log_call("ftruncate", fd, length,
+                         plant("tail") ? 0 : syscall(SYS_ftruncate, fd, length), "");
 }
 
-// Gives a file another number, by which it is told apart as before.
+// Gives a file another number, by which it stays distinct as before.
 static void renumber(struct statx *of)
 {
     if (strcmp(inodes, "long") == 0) {
@@ -279,11 +282,11 @@ static void renumber(struct statx *of)
 int statx(int fd, const char *restrict name, int flags, unsigned mask, struct statx *restrict into)
 {
     if (is_failing(*name ? -1 : fd))
-        return (int)told("statx", fd, flags, -1, name);
+        return (int)log_call("statx", fd, flags, -1, name);
     long answer = syscall(SYS_statx, fd, name, flags, mask, into);
     if (answer == 0)
         renumber(into);
-    return (int)told("statx", fd, flags, answer, name);
+    return (int)log_call("statx", fd, flags, answer, name);
 }
 
 // The words of the command line, as a program gets them that drops those behind the twelfth.

@@ -125,6 +125,12 @@ def opening_faults(case: Case, call: Call, seen: FileProgress) -> Iterator[Fault
     )
 
 
+def is_read_once(case: Case, name: str) -> bool:
+    """Whether a file is read from its front to its end, each byte once. The advice of a refusal looks at the
+    front of its file again."""
+    return name in case.reads and name != case.again and not case.is_refused()
+
+
 def call_faults(case: Case, ending: Ending) -> list[Fault]:
     """What is wrong with the calls of the system that were made, by what was written down of them."""
     found: list[Fault] = []
@@ -141,6 +147,8 @@ def call_faults(case: Case, ending: Ending) -> list[Fault]:
             found.append(f"{call.asked} bytes of {call.name} are read at once")
         elif call.call == "read" and call.answer >= 0:
             (seen.begun if call.answer else seen.ended).add(call.name)
+        elif call.call == "lseek" and call.name in seen.begun and is_read_once(case, call.name):
+            found.append(f"{call.name} is sought after it was read from, and is read once")
         elif call.call == "ftruncate" and call.answer == 0:
             seen.emptied.append(call.name)
             are_in_order = seen.emptied == list(outputs)[: len(seen.emptied)]

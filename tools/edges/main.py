@@ -12,7 +12,8 @@ stands between the program and the C library for that; cc builds it. What is wan
 - each output is as it was, a front of what it is to be, or whole, and whole where the work is done. It has
   the bytes that were handed over in writes that the system answered, and no others;
 - no other file is changed or made, and nothing is left open or running;
-- each file is opened once: an input for reading alone, and an output as it stands, after the inputs were read
+- each file is opened once: an input for reading alone, from its front to its end, each byte once but for a
+  trace that the command goes over again; and an output as it stands, after the inputs were read
   to their ends and the output before it was emptied. (That of `move` is begun as soon as its trace was read
   from);
 - a call that a signal interrupts (EINTR) is made anew, but for a read, which fails then; so is what moved
