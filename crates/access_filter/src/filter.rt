@@ -1,5 +1,5 @@
 // The pass that finds redundant accesses.
-ghost use Rattle.std.specs.Prelude.{◌≡◌, ◌≢◌, ℕ, ◌+◌, ◌*◌, ◌/◌, ◌<◌, ◌≤◌, ◌^◌, ◌⊎◌, [], ◌∷◌, ◌++◌};
+ghost use Rattle.std.specs.Prelude.{◌≡◌, ℕ, ◌+◌, ◌/◌, ◌<◌, ◌≤◌, ◌^◌, ◌⊎◌, [], ◌∷◌, ◌++◌};
 ghost use Rattle.std.specs.Prelude.{IsTrue, IfOk, OnOk, OnErr, not};
 ghost use Rattle.base.specs.Touch.{IsAllowed};
 ghost use Rattle.sharing_rules.specs.AccessLists.{AccessList};

@@ -1,6 +1,6 @@
 // Stamps in pages of 4096. A page that isn't there yet is an empty `Vec`.
-ghost use Rattle.std.specs.Prelude.{◌≡◌, ◌≢◌, ℕ, ◌+◌, ◌-◌, ◌/◌, ◌%◌, ◌<◌, ◌≤◌, ◌^◌, length, vec_len};
-ghost use Rattle.std.specs.Prelude.{IsTrue, OnOk, OnErr, slice_get};
+ghost use Rattle.std.specs.Prelude.{◌≡◌, ◌≢◌, ℕ, ◌/◌, ◌<◌, ◌≤◌, ◌^◌, vec_len};
+ghost use Rattle.std.specs.Prelude.{IsTrue, OnOk, OnErr};
 ghost use Rattle.access_filter.specs.Stamps.{IsVisited, blank_stamp, number_of};
 ghost use Rattle.access_filter.specs.Pages.{has_stamp, stamp_at, stamp_in, page_at};
 

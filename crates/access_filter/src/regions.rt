@@ -1,6 +1,6 @@
 // The stamps of regions. That of region r stands at place r + 1, so that there is a place below each.
 ghost use Rattle.std.specs.Prelude.{◌≡◌, ℕ, ◌+◌, ◌<◌, ◌≤◌, ◌^◌, ◌⊎◌, IsTrue, OnOk, OnErr};
-ghost use Rattle.access_filter.specs.Stamps.{IsVisited, blank_stamp, number_of};
+ghost use Rattle.access_filter.specs.Stamps.{IsVisited, number_of};
 ghost use Rattle.access_filter.specs.Pages.{has_stamp, stamp_at};
 ghost use Rattle.access_filter.specs.Rules.{HasBlankBeside};
 

@@ -1,5 +1,5 @@
 // What is kept of a word or of a region.
-ghost use Rattle.std.specs.Prelude.{◌≡◌, ◌+◌, ◌<◌, ◌^◌, if◌then◌else◌, ◌==◌, ◌&&◌, ◌||◌, not};
+ghost use Rattle.std.specs.Prelude.{◌≡◌, ◌<◌, ◌^◌, ◌==◌, ◌&&◌, ◌||◌, not};
 ghost use Rattle.base.specs.Touch.{IsAllowed, is_write};
 
 use base::{Access, Hart};

@@ -1,5 +1,5 @@
 // Laws of the definitions, for whoever reads contracts alone. Each call does nothing.
-ghost use Rattle.std.specs.Prelude.{◌≡◌, ℕ, ◌+◌, ◌≤◌, ◌++◌, ◌∷◌, [], ◌&&◌, ◌||◌, not, IsTrue, List};
+ghost use Rattle.std.specs.Prelude.{◌≡◌, ℕ, ◌≤◌, ◌++◌, ◌∷◌, [], ◌&&◌, ◌||◌, not, IsTrue, List};
 ghost use Rattle.std.specs.Prelude.{IsFalse};
 ghost use Rattle.base.specs.Lines.{Grid};
 ghost use Rattle.base.specs.Touch.{Touch};

@@ -1,5 +1,5 @@
 // Laws of the definitions, for whoever reads contracts alone. Each call does nothing.
-ghost use Rattle.std.specs.Prelude.{◌≡◌, ℕ, ◌≤◌, List};
+ghost use Rattle.std.specs.Prelude.{ℕ, ◌≤◌, List};
 ghost use Rattle.base.specs.Lines.{Grid};
 ghost use Rattle.sharing_rules.specs.AccessLists.{AccessList};
 ghost use Rattle.sharing_rules.specs.Filtered.{IsWithoutRedundant};

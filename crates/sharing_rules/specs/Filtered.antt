@@ -2,7 +2,7 @@
 -- idea of trace reduction is Smith's, "Two methods for the efficient analysis of memory address
 -- trace data" (IEEE Transactions on Software Engineering, 1977), for one processor.
 use Rattle.std.specs.Prelude.{◌≡◌, ℕ, ◌+◌, ◌/◌, ◌^◌, Bool, true, false, not, ◌&&◌, ◌||◌, ◌==◌}
-use Rattle.std.specs.Prelude.{nat_le, if◌then◌else◌, List, drop, length, slice_get, Option, None}
+use Rattle.std.specs.Prelude.{nat_le, if◌then◌else◌, List, drop, length, slice_get, None}
 use Rattle.std.specs.Option.{option_map_or}
 use Rattle.std.specs.List.{filter_map, list_any}
 use Rattle.base.specs.Touch.{Touch, is_write, word_of}

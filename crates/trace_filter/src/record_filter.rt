@@ -1,5 +1,5 @@
 // A filter of the records of a trace.
-ghost use Rattle.std.specs.Prelude.{◌≡◌, ◌≤◌, ◌<◌, ◌^◌, ◌+◌, ℕ, ◌∷◌, ◌++◌, [], List, Option, IfOk, OnOk, OnErr};
+ghost use Rattle.std.specs.Prelude.{◌≡◌, ◌≤◌, ◌<◌, ◌^◌, ℕ, ◌∷◌, ◌++◌, [], List, Option, IfOk, OnOk, OnErr};
 ghost use Rattle.access_filter.specs.Standing.{near_of, position_of};
 ghost use Rattle.trace_format.specs.Rules.{touches_in};
 ghost use Rattle.trace_format.specs.declared.record.TraceRecord.{TraceRecord as Record};

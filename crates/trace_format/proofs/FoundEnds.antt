@@ -26,7 +26,6 @@ use Rattle.trace_format.specs.Spelling.{spell_header, spell_outcome, spell_whole
 use Rattle.trace_format.specs.Tags.{number_of}
 use Rattle.trace_format.specs.Rules.{FitsFields, HasRegions, IsAllowedEnd, IsGoodEnding}
 use Rattle.trace_format.specs.Rules.{IsGoodHeader}
-use Rattle.trace_format.specs.Rules.{last_position}
 use Rattle.trace_format.specs.Judging.{begun, cause_of, end_extent, end_with, fields_judged}
 use Rattle.trace_format.specs.Judging.{header_judged, highest_first, is_near, is_unused, is_whole}
 use Rattle.trace_format.specs.Judging.{whole_at}

@@ -1,17 +1,16 @@
 -- How many bytes an end has, and how many accesses it says there were before the list was filtered.
-use Rattle.std.proofs.Common.{◌≡◌, ℕ, ◌^◌, ◌≤◌, true, leb, List, length, Option, Some, None, refl}
-use Rattle.std.proofs.Common.{sym, ap, arith, ◌&&◌}
+use Rattle.std.proofs.Common.{◌≡◌, ℕ, ◌^◌, ◌≤◌, true, List, length, Option, Some, None, refl}
+use Rattle.std.proofs.Common.{sym, ap, arith}
 use Rattle.std.proofs.lemmas.Bool.{and_parts, leb-true}
 use Rattle.std.proofs.lemmas.Bool.Decides.{nat_tests}
 use Rattle.std.proofs.lemmas.Nat.{from_le_bytes-to_le_bytes_8}
 use Rattle.base.specs.declared.ending.Outcome.{Outcome}
 use Rattle.base.specs.declared.ending.Outcome.TheVariants.{Exit, Budget, Deadlock, Trap}
 use Rattle.base.specs.declared.ending.Outcome.TheVariants.{Part}
-use Rattle.trace_format.specs.declared.record.TraceEnd.{TraceEnd}
 use Rattle.trace_format.specs.declared.record.Version.{Version}
 use Rattle.trace_format.specs.declared.record.Version.TheVariants.{One, Two, Three, Four}
 use Rattle.trace_format.specs.Judging.{end_extent, is_whole, whole_at}
-use Rattle.trace_format.specs.Rules.{IsGoodWhole, last_position}
+use Rattle.trace_format.specs.Rules.{IsGoodWhole}
 use Rattle.trace_format.specs.Spelling.{spell_ending}
 
 pub end_long : (v : Version) → 25 ≤ end_extent v

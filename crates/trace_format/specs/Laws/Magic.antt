@@ -26,7 +26,7 @@ use Rattle.trace_format.specs.Laws.Records.{chosen, granted, not_refused, same_O
 use Rattle.trace_format.specs.Reading.{Reading, begin, byte_read, extent_at, header_read, magic_at}
 use Rattle.trace_format.specs.Reading.{magic_in, part_at, read_on, reading_of, record_read}
 use Rattle.trace_format.specs.Reading.{with_fault}
-use Rattle.trace_format.specs.Rules.{last_position, longest_trace}
+use Rattle.trace_format.specs.Rules.{longest_trace}
 use Rattle.trace_format.specs.Spelling.{magic_of}
 
 -- ---- the magic is in the first 8 bytes

@@ -28,7 +28,7 @@ use Rattle.trace_passes.specs.declared.wanted.Refusal.TheVariants as refusals
 use Rattle.trace_passes.specs.declared.wanted.Wanted.{Wanted}
 use Rattle.trace_passes.specs.Passes.{Trace, IsWanted, all_records, before_last, first_refusal}
 use Rattle.trace_passes.specs.Passes.{harts_refusal, head_of, header_refusal, pcs_refusal}
-use Rattle.trace_passes.specs.Passes.{HasPcs, lines_refusal, near_refusal, refusal_of}
+use Rattle.trace_passes.specs.Passes.{HasPcs, near_refusal, refusal_of}
 use Rattle.trace_passes.specs.Passes.{trace_at, trace_of, trace_refusal, version_refusal}
 use Rattle.trace_format.specs.Laws.Counts.{EndsWith, IsCounted, IsSoFar, so_far, touches_in-append}
 
