@@ -36,8 +36,7 @@ declare_parts() {
     part types daily 1 1 15 "mypy python3:jinja2 python3:elftools" tools/lint.sh types
     part c daily 1 1 15 gcc tools/lint.sh c
     part sanitizers daily 1 2 27 "gcc python3" native/sanitize.sh
-    # (not daily until the crates of filtered traces are changed next: 27 names there are imported and not used)
-    part imports long 1 1 3 python3 tools/imports.py
+    part imports daily 1 1 3 python3 tools/imports.py
     part edits quick 1 1 1 python3 tools/edits.py --check --planted
     part test_command daily 1 2 25 "gzip setpriv" tools/try_test.sh
     part names quick 1 1 2 python3 tools/documents.py

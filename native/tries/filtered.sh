@@ -9,16 +9,24 @@ expect_part "filtered: the judge by itself" ", 0 failed" "$("$by_definition" --c
 gcc -O1 -g -pthread "$here/tries/again.c" -o again
 gcc -O1 -g -pthread "$here/tries/looks.c" -o looks
 # (the names of the traces have one length: they stand in the environment, behind the stack)
+# A busy machine may give another trace of the same program. Where the two differ, both are recorded again, and once more whole: what two whole
+# recordings differ in says nothing.
 same_filtered() { # NAME NEAR OPTIONS PROGRAM ..: both recordings print the same, and end with the same status
-    local name="filtered $1" near=$2 said status
+    local name="filtered $1" near=$2 said filtered_said status again
     local -a options
     read -ra options <<<"$3"
     shift 3
-    said=$("$run" "${options[@]}" --trace w -- "$@" 2>/dev/null)
-    status=$?
-    expect_equal "$name: output" "$said" "$("$run" "${options[@]}" "--filtered=$near" --trace f -- "$@" 2>/dev/null; echo $? >f.status)"
+    for again in 1 2 3; do
+        said=$("$run" "${options[@]}" --trace w -- "$@" 2>/dev/null)
+        status=$?
+        filtered_said=$("$run" "${options[@]}" "--filtered=$near" --trace f -- "$@" 2>/dev/null; echo $? >f.status)
+        "$by_definition" w defined --near "$near" >f.log
+        cmp -s f defined && break
+        "$run" "${options[@]}" --trace v -- "$@" >/dev/null 2>&1
+        [ "$again" -lt 3 ] && cmp -s v w && break
+    done
+    expect_equal "$name: output" "$said" "$filtered_said"
     expect_equal "$name: status" "$status" "$(cat f.status)"
-    "$by_definition" w defined --near "$near" >f.log
     expect_equal "$name: the same bytes" same "$(cmp -s f defined && echo same)"
     expect_equal "$name: the same address map" same "$(cmp -s <(grep -v ^end f.table) <(grep -v ^end w.table) && echo same)"
     expect_equal "$name: how many" "filter $("$judge" whole f) $("$judge" accesses f)" "$(cat f.log)"
@@ -82,4 +90,4 @@ for word in --filtered=32 --filtered=131072 --filtered=100 --filtered=; do
     expect_part "filtered: $word" "is a power of two from 64 to 65536" "$("$run" $word --trace f -- ./odd 2>&1)"
 done
 expect_part "filtered: without a trace" "'--filtered' is for '--trace'" "$("$run" --filtered -- ./odd 2>&1)"
-rm -f f f.* w w.* defined defined.* cut.t
+rm -f f f.* v v.* w w.* defined defined.* cut.t
