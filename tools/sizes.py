@@ -8,8 +8,8 @@ Each call has half of the usual stack, and an address space of so many bytes as 
 holds a trace, or takes pieces of a GiB, ends with want of memory. What it prints is known: two harts take one
 line from each other at each access, or write so many lines. The short form takes a trace of more than 2^24
 accesses through every command that passes over one, one of more than 256 MiB through `replay`, a run and
-`explain` of more than 2^24 accesses, more than 65,536 blocks, noted blocks and lines, programs of 16 MiB and
-of a byte less, a table of 1 MiB, a state, an output and a trace of more than 32 MiB, and a report of more
+`explain` of more than 2^24 accesses, `explain` from a start above 2^32, more than 65,536 blocks, noted blocks,
+lines, and pairs of instructions on one line, programs of 16 MiB and of a byte less, a table of 1 MiB, a state, an output and a trace of more than 32 MiB, and a report of more
 than 64 MiB. The long form takes the longer trace through every command. Memory that is refused at any one
 place is tried by guest/refuse_memory.py."""
 
@@ -251,6 +251,26 @@ def blame_tries(count: int) -> Iterator[Try]:
     )
 
 
+def many_pair_tries(count: int) -> Iterator[Try]:
+    """Each access but the first takes the line, by an instruction of its own."""
+    touches = [(at % 2, "W", BASE + 4 * (at % 2), CODE + 4 * at) for at in range(count + 1)]
+    put_file("pairs", files.trace_version_3(touches))
+    pairs = tuple(
+        f"pair {CODE + 4 * at:#010x} {CODE + 4 * (at + 1):#010x} taken 1 same 0"
+        for at in (0, count - 1)
+    )
+    yield Try(
+        "blame pairs",
+        (
+            f"line {BASE:#010x} takings {count} pairs {count} harts 2",
+            *pairs,
+            f"total takings {count}",
+            "end",
+        ),
+        80,
+    )
+
+
 def long_table_tries() -> Iterator[Try]:
     """A table as long as one may be, of which each word goes to the place that another one leaves."""
     size = len("0x00100000 4 0x00100000\n")
@@ -329,6 +349,13 @@ def run_tries() -> Iterator[Try]:
         (f"line {DATA:#010x} 64 start 0 count ", "end"),
         80,
     )
+    # (no access comes behind such a start)
+    for start in (1 << 32, (1 << 40) - 1):
+        yield Try(
+            f"explain contending.elf {DATA:#010x} 64 {start} --set quantum=4",
+            (f"line {DATA:#010x} 64 start {start} count 0", "end"),
+            80,
+        )
     put_file("notes.elf", calling_code(MANY, ("block", "s0", 8)))
     put_file("blocks.elf", calling_code(MANY, ("alloc", 8, 0)))
     for name in ("notes", "blocks"):
@@ -454,7 +481,7 @@ def tries_by_kind(is_long: bool) -> Iterator[list[Try]]:
     contended_trace_with_pcs("blamed", LONG)
     yield list(blame_tries(LONG))
     os.remove("blamed")
-    yield list(long_table_tries())
+    yield [*many_pair_tries(MANY), *long_table_tries()]
     yield [*run_tries(), *program_tries(), Try(f"gen {LONG} f", (f"generated {LONG}",), 40)]
     yield [*many_line_tries(MANY)]
     yield [*many_line_tries(TRACKS)]
