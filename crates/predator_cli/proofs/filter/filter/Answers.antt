@@ -1,4 +1,4 @@
-use Rattle.std.proofs.Common.{Some, ap, codes}
+use Rattle.std.proofs.Common.{Some, codes}
 use Rattle.command_line.specs.Filter.{filter_meaning}
 use Rattle.command_line.specs.Words.{filter as asks}
 use Rattle.predator_cli.specs.Copies.{copy_text}
