@@ -10,6 +10,6 @@ bare_options=(--pcs)
 
 # Which commands read a TRACE, and the keys of the settings.
 # commands.toml: hints
-trace_readers="replay split convert sweep caches place move misses blame"
+trace_readers="replay split convert sweep caches place move filter misses blame"
 setting_keys=(harts memory stack tracking prediction report quantum budget line seed)
 # (so far)

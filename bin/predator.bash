@@ -16,7 +16,7 @@ _predator_view() {
 _predator() {
     local word=${COMP_WORDS[COMP_CWORD]} before=${COMP_WORDS[COMP_CWORD - 1]} options
     # commands.toml: names
-    local commands="run replay check split gen convert sweep caches place move misses blame explain view campaign native allocators" own="--help --version --prove"
+    local commands="run replay check split gen convert sweep caches place move filter misses blame explain view campaign native allocators" own="--help --version --prove"
     # (so far)
     if ((COMP_CWORD == 1)); then
         mapfile -t COMPREPLY < <(compgen -W "$commands help $own" -- "$word")
@@ -47,6 +47,7 @@ _predator() {
         'caches') options="--size --sets --ways" ;;
         'place') options="--size" ;;
         'move') options="" ;;
+        'filter') options="--near" ;;
         'misses') options="--size --shift" ;;
         'blame') options="--size --shift" ;;
         'explain') options="--settings --set --schedule" ;;
@@ -71,6 +72,7 @@ _predator() {
     # commands.toml: values
         --size) known="4 8 16 32 64 128 256 512 1024" ;;
         --shift) known="" ;;
+        --near) known="64 128 256 512 1024 2048 4096 8192 16384 32768 65536" ;;
         --sets) known="1 2 4 8 16 32 64 128 256 512 1024" ;;
         --ways) known="" ;;
         --set) known= ;;

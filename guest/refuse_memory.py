@@ -84,6 +84,7 @@ OWN = [
     ("split", "given.trace", "40", "a", "b"),
     ("place", "objects.trace", "both"),
     ("blame", "sited.trace"),
+    ("filter", "sited.trace", "f", "--near", "64"),
     ("explain", "queue.elf", "0x12000", "64", "73", "--set", "quantum=10"),
 ]
 # What is refused, is so also where memory runs out later.
@@ -101,6 +102,7 @@ REFUSED = [
     ("move", "given.trace", "taken", "m"),
     ("move", "cut.trace", "table", "m"),
     ("blame", "given.trace"),
+    ("filter", "given.trace", "f"),
 ]
 NAMES = {"PROGRAM": "symbols.elf", "TRACE": "given.trace", "TABLE": "table"}
 OWN_NAMES = {words[0] for words in OWN}

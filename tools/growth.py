@@ -166,13 +166,18 @@ def misses(trace: str, made: TraceCaseFile) -> Call:
     )
 
 
-def blame(trace: str, made: TraceCaseFile) -> Call:
-    """With pcs, of which the first has the first address, and so on."""
+def write_with_pcs(trace: str, made: TraceCaseFile) -> str:
+    """The name of the trace with pcs, of which the first has the first address, and so on."""
     numbers = itertools.count()
     with open(trace, "rb") as plain, open(f"{trace}.sited", "wb") as file:
         file.write(
             add_pcs(plain.read(), lambda access, before: CODE + 4 * (next(numbers) % made.pcs))
         )
+    return f"{trace}.sited"
+
+
+def blame(trace: str, made: TraceCaseFile) -> Call:
+    with_pcs = write_with_pcs(trace, made)
     rows = (
         []
         if made.settings
@@ -182,7 +187,12 @@ def blame(trace: str, made: TraceCaseFile) -> Call:
             ("pair", -max(made.lines, made.pcs // 2)),
         ]
     )
-    return Call(["blame", f"{trace}.sited"], [(f"accesses {made.accesses}", 1), *rows])
+    return Call(["blame", with_pcs], [(f"accesses {made.accesses}", 1), *rows])
+
+
+def filter_accesses(trace: str, made: TraceCaseFile) -> Call:
+    with_pcs = write_with_pcs(trace, made)
+    return Call(["filter", with_pcs, f"{trace}.filtered"], [(f"filter {made.accesses}", 1)])
 
 
 def sweep(trace: str, made: TraceCaseFile) -> Call:
@@ -240,6 +250,7 @@ OF_TRACES: dict[str, Callable[[str, TraceCaseFile], Call]] = {
     "caches": caches,
     "place": place,
     "move": move,
+    "filter": filter_accesses,
     "convert": convert,
     "split": split,
     "gen": generate,

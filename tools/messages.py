@@ -257,6 +257,8 @@ def number_message(name: str, at: str, value: int) -> str:
         )
     if name == "place":
         return f"'--size {value}' is not a line size: it must be {range_text('--size', name)}"
+    if name == "filter":
+        return f"'--near {value}' is not a region size: it must be {range_text('--near', name)}"
     if name == "caches":
         given = dict(zip(WANTED[name][::2], WANTED[name][1::2])) | {at: str(value)}
         return (

@@ -3,6 +3,7 @@ crates/worked_runs/data. None of it comes from the program."""
 
 from dataclasses import dataclass, replace
 
+from judge_filter import filter_trace
 from message_files import FORM, NO_PCS
 from files import (
     CUT,
@@ -15,6 +16,8 @@ from files import (
     WAY,
     WRITES,
     access_records,
+    by_line,
+    contended_accesses,
     contended_blame,
     contended_caches,
     contended_misses,
@@ -28,6 +31,7 @@ from files import (
     trace_bytes,
     trace_header,
     trace_version_2,
+    trace_version_3,
     usage_text,
     with_late_access,
     worked_text,
@@ -165,6 +169,14 @@ def writing_cases() -> list[Case]:
             ("table", "made"),
             (("m", trace_bytes(move_accesses(generated_accesses(MADE)))),),
             along="made",
+        ),
+        Case(
+            ("filter", "sited", "f"),
+            0,
+            join_lines(f"filter {4 * LINES} {4 * LINES}"),
+            ("sited",),
+            (("f", filter_trace(trace_version_3(by_line(contended_accesses(LINES))), 12)[2]),),
+            along="sited",
         ),
         Case(
             ("replay", "written", "--size", "4", "--settings", "settings", "--save", "s"),

@@ -23,7 +23,7 @@ from judge import find_faults, expected_end
 from streams import DISK
 
 # The commands that read a trace once, and so from standard input too.
-FROM_INPUT = ("replay", "misses", "blame", "caches", "sweep", "move")
+FROM_INPUT = ("replay", "misses", "blame", "caches", "sweep", "move", "filter")
 # The memory, in bytes, that a call gets which is to want more.
 LITTLE = 48 << 20
 

@@ -3,10 +3,11 @@ use Rattle.std.proofs.Common.{◌≡◌, ◌≤◌, ◌^◌, ℕ, Bool, true, fa
 use Rattle.std.proofs.Common.{Some}
 use Rattle.std.proofs.Common.{arith, inl, inr, refl, subst}
 use Rattle.std.proofs.lemmas.Bool.Decides.{nat_tests}
-use Rattle.std.proofs.lemmas.Bool.{cases_Bool}
+use Rattle.std.proofs.lemmas.Bool.{and_parts, cases_Bool}
 use Rattle.std.proofs.lemmas.Option.{none-some, option_and_then_some, same_Some}
-use Rattle.std.specs.List.{AllByRecursion}
-use Rattle.std.specs.Prelude.{IsTrue, codes, if◌then◌else◌, nat_le, option_and_then, option_map}
+use Rattle.std.specs.List.{AllByRecursion, list_all}
+use Rattle.std.specs.Prelude.{◌&&◌, IsTrue, codes, eqb, find, if◌then◌else◌, nat_le}
+use Rattle.std.specs.Prelude.{option_and_then, option_map}
 use Rattle.std.specs.Str.{bytes_eq}
 use Rattle.base.specs.Lines.{is_line_size}
 use Rattle.clap.specs.Walk.{is_empty}
@@ -17,6 +18,8 @@ use Rattle.command_line.specs.Caches.{asked_of_caches}
 use Rattle.command_line.specs.Check.{asked_of_check}
 use Rattle.command_line.specs.Convert.{asked_of_convert}
 use Rattle.command_line.specs.Explain.{asked_of_explain}
+use Rattle.command_line.specs.Filter.{FilterDemand, asked_of_filter, filter_app, filter_of}
+use Rattle.command_line.specs.Filter.{filter_with, given_near, near_at}
 use Rattle.command_line.specs.Gen.{GenDemand, allowed_count, asked_of_gen, count_in, gen_app}
 use Rattle.command_line.specs.Gen.{gen_of}
 use Rattle.command_line.specs.Gen.{gen_with}
@@ -33,7 +36,8 @@ use Rattle.command_line.specs.Split.{asked_of_split}
 use Rattle.command_line.specs.Sweep.{SweepDemand, allowed_size, asked_of_sweep, is_swept_size}
 use Rattle.command_line.specs.Sweep.{size_in, sweep_app, sweep_of, sweep_with}
 use Rattle.command_line.specs.Words.{Demand, Named, asked_among, asked_of, blame, caches, check}
-use Rattle.command_line.specs.Words.{commands, convert, demand_of, explain, gen, inputs, misses}
+use Rattle.command_line.specs.Words.{commands, convert, demand_of, explain, filter, gen, inputs}
+use Rattle.command_line.specs.Words.{misses}
 use Rattle.command_line.specs.Words.{outputs, place, relocate, replay, run, split, sweep, terms_of}
 use Rattle.command_line.specs.Words.{with_names_apart}
 
@@ -57,6 +61,17 @@ passed test m n is =
           let same : m ≡ n = same_Some m n (rw fits at is) in
           subst (λ (k : ℕ). IsTrue (test k)) same fits
       | inr other ↦ absurd (none-some n (rw other at is))
+    ]
+
+-- what is found among numbers that all pass a test
+found : (test p : ℕ → Bool) (ns : List ℕ) (n : ℕ) → list_all test ns ≡ true → find p ns ≡ Some n
+    → test n ≡ true
+found test p [] n all is = absurd (none-some n is)
+found test p (m ∷ ns) n all is =
+    let both = and_parts (test m) (list_all test ns) all in
+    elim (cases_Bool (p m)) [
+      | inl this ↦ subst (λ (k : ℕ). test k ≡ true) (same_Some m n (rw this at is)) both.0
+      | inr other ↦ found test p ns n both.1 (rw other at is)
     ]
 
 -- what the values of words ask for, where `clap` has no fault of them
@@ -104,6 +119,26 @@ place_bounded rows d is =
     (λ n given. option_and_then_some size_at (number_or 64 (first_of (codes "size") rows)) n given
     (λ m _ taken. passed is_line_size m n taken)) d last))
 
+from_6_to_16 : ℕ → Bool
+from_6_to_16 k = nat_le 6 k && nat_le k 16
+
+near_bounded : (n k : ℕ) → near_at n ≡ Some k → (6 ≤ k) × (k ≤ 16)
+near_bounded n k is =
+    let fits : from_6_to_16 k ≡ true =
+    found from_6_to_16 (λ j. eqb n (2 ^ j))
+    (6 ∷ 7 ∷ 8 ∷ 9 ∷ 10 ∷ 11 ∷ 12 ∷ 13 ∷ 14 ∷ 15 ∷ 16 ∷ []) k refl is in
+    let both = and_parts (nat_le 6 k) (nat_le k 16) fits in
+    grind (arith, nat_tests, both)
+
+filter_bounded : (rows : List Row) (d : FilterDemand) → filter_of rows ≡ Some d → IsGood (filter d)
+filter_bounded rows d is =
+    option_and_then_some _ (first_of (codes "trace") rows) d is (λ trace _ named.
+    option_and_then_some _ (first_of (codes "file") rows) d named (λ file _ last.
+    mapped (filter_with trace file) (λ (x : FilterDemand). IsGood (filter x))
+    (given_near (first_of (codes "near") rows))
+    (λ k given. option_and_then_some near_at (number_or 4096 (first_of (codes "near") rows)) k given
+    (λ n _ taken. near_bounded n k taken)) d last))
+
 -- ---- of all commands
 
 -- what is asked of one of some commands
@@ -137,9 +172,11 @@ each_bounded words =
     (also (mapped place IsGood (asked_of_place words)
     (of_words (λ (d : PlaceDemand). IsGood (place d)) place_app place_demand_of place_bounded words))
     (also (mapped relocate IsGood (asked_of_move words) (λ d is. tt))
+    (also (mapped filter IsGood (asked_of_filter words)
+    (of_words (λ (d : FilterDemand). IsGood (filter d)) filter_app filter_of filter_bounded words))
     (also (mapped misses IsGood (asked_of_misses words) (λ d is. tt))
     (also (mapped blame IsGood (asked_of_blame words) (λ d is. tt))
-    (also (mapped explain IsGood (asked_of_explain words) (λ d is. tt)) tt))))))))))))
+    (also (mapped explain IsGood (asked_of_explain words) (λ d is. tt)) tt)))))))))))))
 
 pub words_bounded : (words : List Text) (d : Demand) → demand_of words ≡ Some d
     → (terms_of d).IsWithin

@@ -7,6 +7,7 @@ pub mod Convert
 pub mod Demands
 pub mod Explain
 pub mod FilesRead
+pub mod Filter
 pub mod Gen
 pub mod Laws
 pub mod Layouts

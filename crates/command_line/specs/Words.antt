@@ -27,6 +27,8 @@ use Rattle.command_line.specs.Place.{place_usage, PlaceDemand, asked_of_place, p
 use Rattle.command_line.specs.Place.{place_meaning, place_outputs}
 use Rattle.command_line.specs.Relocate.{move_usage, MoveDemand, asked_of_move, move_inputs}
 use Rattle.command_line.specs.Relocate.{move_meaning, move_outputs}
+use Rattle.command_line.specs.Filter.{filter_usage, FilterDemand, asked_of_filter, filter_inputs}
+use Rattle.command_line.specs.Filter.{filter_meaning, filter_outputs}
 use Rattle.command_line.specs.TraceLayouts.{LayoutDemand, layout_inputs, layout_meaning}
 use Rattle.command_line.specs.TraceLayouts.{layout_outputs}
 use Rattle.command_line.specs.Misses.{misses_usage, asked_of_misses}
@@ -52,6 +54,7 @@ pub data Demand : Type 0 where
   caches : CachesDemand → Demand
   place : PlaceDemand → Demand
   relocate : MoveDemand → Demand
+  filter : FilterDemand → Demand
   misses : LayoutDemand → Demand
   blame : LayoutDemand → Demand
   explain : ExplainDemand → Demand
@@ -67,6 +70,7 @@ meaning (code_demand.Sweep options) = sweep (sweep_meaning options)
 meaning (code_demand.Caches options) = caches (caches_meaning options)
 meaning (code_demand.Place options) = place (place_meaning options)
 meaning (code_demand.Move options) = relocate (move_meaning options)
+meaning (code_demand.Filter options) = filter (filter_meaning options)
 meaning (code_demand.Misses options) = misses (layout_meaning options)
 meaning (code_demand.Blame options) = blame (layout_meaning options)
 meaning (code_demand.Explain options) = explain (explain_meaning options)
@@ -93,6 +97,7 @@ commands =
     ∷ named (codes "caches") caches_usage asked_of_caches caches
     ∷ named (codes "place") place_usage asked_of_place place
     ∷ named (codes "move") move_usage asked_of_move relocate
+    ∷ named (codes "filter") filter_usage asked_of_filter filter
     ∷ named (codes "misses") misses_usage asked_of_misses misses
     ∷ named (codes "blame") blame_usage asked_of_blame blame
     ∷ named (codes "explain") explain_usage asked_of_explain explain
@@ -149,6 +154,10 @@ terms_of (place demand) =
       IsWithin = IsTrue (is_line_size demand.size);
     }
 terms_of (relocate demand) = terms_once demand.trace (move_inputs demand) (move_outputs demand)
+terms_of (filter demand) =
+    record (terms_once demand.trace (filter_inputs demand) (filter_outputs demand)) {
+      IsWithin = (6 ≤ demand.near) × (demand.near ≤ 16);
+    }
 terms_of (misses demand) = terms_once demand.trace (layout_inputs demand) (layout_outputs demand)
 terms_of (blame demand) = terms_once demand.trace (layout_inputs demand) (layout_outputs demand)
 terms_of (explain demand) = terms (explain_inputs demand) (explain_outputs demand)

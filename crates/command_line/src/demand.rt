@@ -12,6 +12,7 @@ use crate::check::{CheckForm, CheckOptions};
 use crate::convert::{ConvertForm, ConvertOptions};
 use crate::explain::{ExplainForm, ExplainOptions};
 use crate::files_read::{FilesRead, of_program, of_trace};
+use crate::filter::{FilterForm, FilterOptions};
 use crate::forms::read;
 use crate::generate::{GenForm, GenOptions};
 use crate::misses::MissesForm;
@@ -37,6 +38,7 @@ pub const USAGE: &str = concat!(
     "usage: predator caches TRACE --size N --sets S --ways W\n",
     "usage: predator place TRACE NAME [--size N]\n",
     "usage: predator move TRACE TABLE FILE\n",
+    "usage: predator filter TRACE FILE [--near N]\n",
     "usage: predator misses TRACE [--size N] [--shift N]\n",
     "usage: predator blame TRACE [--size N] [--shift N]\n",
     "usage: predator explain PROGRAM BASE SIZE START [--settings F] [--schedule F]\n",
@@ -69,6 +71,8 @@ pub enum Demand<'a> {
     /// Write a trace with its accesses moved as a table says, and tell of it. The file has another
     /// name than the trace and the table.
     Move(MoveOptions<'a>),
+    /// Write the filtered trace of a trace, and tell of it. The file has another name than the trace.
+    Filter(FilterOptions<'a>),
     /// Tell what the sharing of each line costs in a trace.
     Misses(LayoutOptions<'a>),
     /// Print which instructions and which harts take the lines of a trace from each other.
@@ -105,6 +109,7 @@ impl<'a> Demand<'a> {
                 table: Some(options.table),
                 ..of_trace(options.trace, false)
             },
+            Demand::Filter(options) => of_trace(options.trace, false),
             Demand::Sweep(options) => of_trace(options.trace, false),
             Demand::Caches(options) => of_trace(options.trace, false),
             Demand::Misses(options) => of_trace(options.trace, false),
@@ -159,6 +164,7 @@ pub fn read_command<'a>(
         "caches" => read::<CachesForm>(alloc, words),
         "place" => read::<PlaceForm>(alloc, words),
         "move" => read::<MoveForm>(alloc, words),
+        "filter" => read::<FilterForm>(alloc, words),
         "misses" => read::<MissesForm>(alloc, words),
         "blame" => read::<BlameForm>(alloc, words),
         "explain" => read::<ExplainForm>(alloc, words),

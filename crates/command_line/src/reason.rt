@@ -16,6 +16,8 @@ const SWEPT: &str = "it must be a power of two from 4 to 256";
 
 const LINE_SIZE: &str = "it must be a power of two from 4 to 1024";
 
+const NEAR: &str = "it must be a power of two from 64 to 65536";
+
 const COUNT: &str = "N must be a whole number up to 1000000000";
 
 const PLACE: &str = "K must be a whole number up to 18446744073709551615";
@@ -81,6 +83,8 @@ pub enum Reason<'a> {
     SweptSize(Option<&'a str>),
     /// The word for the size of a line is none that lines may have.
     LineSize(Option<&'a str>),
+    /// The word for the bytes of a region is none that a filter takes.
+    Near(Option<&'a str>),
     /// A part of `--set` names no change.
     Change {
         /// The part.
@@ -269,6 +273,10 @@ impl Reason<'_> {
             Reason::LineSize(size) => {
                 let size = size.unwrap_or("64");
                 number_text(alloc, "--size ", size, "is not a line size", LINE_SIZE)
+            }
+            Reason::Near(size) => {
+                let size = size.unwrap_or("4096");
+                number_text(alloc, "--near ", size, "is not a region size", NEAR)
             }
             Reason::Place(word) => {
                 number_text(alloc, "", word.unwrap_or(""), "is not a position", PLACE)

@@ -33,7 +33,7 @@ const SHAPE_3: &str = "'--size 64 --sets 3 --ways 8' is not a cache shape: --siz
     of two from 4 to 1024, --sets one from 1 to 1024, --ways from 1 to 64, and sets times ways at \
     most 4096";
 
-const WRONG_WORDS: [(&str, &str); 45] = [
+const WRONG_WORDS: [(&str, &str); 47] = [
     ("", "the command is missing: see predator --help"),
     ("reply t", "'reply' is not a command: see predator --help"),
     ("run p --fast=1", "unexpected argument '--fast' found"),
@@ -119,6 +119,14 @@ const WRONG_WORDS: [(&str, &str); 45] = [
     ),
     ("replay t --size 48", LAYOUT_48),
     ("replay t --size 48 --save t", LAYOUT_48),
+    (
+        "filter t f --near 100",
+        "'--near 100' is not a region size: it must be a power of two from 64 to 65536",
+    ),
+    (
+        "filter t t",
+        "'t' is named twice: an output file must differ from all other files",
+    ),
     (
         "sweep t --size -1",
         "unexpected argument '-1' found: numbers cannot be negative",

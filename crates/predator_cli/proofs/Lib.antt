@@ -5,6 +5,8 @@ pub mod CutLaws
 pub mod Ends
 pub mod ExplainEnds
 pub mod FaultEnds
+pub mod FilterEnds
+pub mod FilteredSites
 pub mod GenEnds
 pub mod GoOnAnswers
 pub mod GoOnLaws

@@ -2,7 +2,7 @@
 -- files that a command writes stand in the table of its words, in `command_line`.
 use Rattle.std.specs.Prelude.{List, Option, Some, None}
 use Rattle.command_line.specs.Words.{Demand, replay, check, run, split, gen, convert, sweep}
-use Rattle.command_line.specs.Words.{caches, place, relocate, misses, blame, explain}
+use Rattle.command_line.specs.Words.{caches, place, relocate, filter, misses, blame, explain}
 use Rattle.shelf.specs.Files.{Output}
 use Rattle.shelf.specs.Shelf.{Files}
 use Rattle.command_io.specs.Readings.{Reading}
@@ -14,6 +14,7 @@ use Rattle.predator_cli.specs.Caches.{caches_readings, caches_work}
 use Rattle.predator_cli.specs.Check.{check_readings, check_work}
 use Rattle.predator_cli.specs.Convert.{convert_readings, convert_work}
 use Rattle.predator_cli.specs.Explain.{as_run, explain_readings, explain_work}
+use Rattle.predator_cli.specs.Filter.{FilterRepeats, filter_left, filter_readings, filter_work}
 use Rattle.predator_cli.specs.Gen.{gen_readings, gen_work}
 use Rattle.predator_cli.specs.ListedCounts.{TellsListedCount}
 use Rattle.predator_cli.specs.Manners.{Manner, judged_before, judged_first, left_of, read_again}
@@ -83,6 +84,11 @@ command_of (relocate demand) =
     record (plain (move_readings demand) (move_work demand)) {
       manner = read_along (move_left demand);
       repeats = MoveRepeats demand;
+    }
+command_of (filter demand) =
+    record (plain (filter_readings demand) (filter_work demand)) {
+      manner = read_along (filter_left demand);
+      repeats = FilterRepeats demand;
     }
 command_of (misses demand) = plain (misses_readings demand) (misses_work demand)
 command_of (blame demand) = plain (blame_readings demand) (blame_work demand)

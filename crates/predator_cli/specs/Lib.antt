@@ -10,6 +10,7 @@ pub mod Copies
 pub mod Counted
 pub mod Counting
 pub mod Explain
+pub mod Filter
 pub mod Gen
 pub mod GoesOn
 pub mod Judged

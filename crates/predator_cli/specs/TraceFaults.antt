@@ -1,8 +1,10 @@
--- The status of each end of a trace that is passed, copied or moved.
+-- The status of each end of a trace that is passed, copied, moved or filtered.
 use Rattle.trace_files.specs.declared.move_fault.MoveFault.{MoveFault}
 use Rattle.trace_files.specs.declared.move_fault.MoveFault.TheVariants as moves
 use Rattle.trace_files.specs.declared.copy_fault.CopyFault.{CopyFault}
 use Rattle.trace_files.specs.declared.copy_fault.CopyFault.TheVariants as copies
+use Rattle.trace_filter.specs.declared.filter_fault.FilterFault.{FilterFault}
+use Rattle.trace_filter.specs.declared.filter_fault.FilterFault.TheVariants as filters
 use Rattle.trace_passes.specs.declared.passes.PassFault.{PassFault}
 use Rattle.trace_passes.specs.declared.passes.PassFault.TheVariants as passes
 use Rattle.trace_passes.specs.declared.wanted.Refusal.{Refusal}
@@ -42,3 +44,10 @@ status_of_move (moves.Occupied addr) = status.Occupied addr
 status_of_move moves.ReadFault = status.ReadFault
 status_of_move moves.WriteFault = status.WriteFault
 status_of_move moves.NoMemory = status.NoMemory
+
+-- or it is refused once the filtered trace is begun, or before
+abbrev pub status_of_filter : FilterFault → Status
+status_of_filter (filters.Refused r) = status_of_refusal r
+status_of_filter filters.ReadFault = status.ReadFault
+status_of_filter filters.WriteFault = status.WriteFault
+status_of_filter filters.NoMemory = status.NoMemory

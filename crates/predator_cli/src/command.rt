@@ -17,6 +17,7 @@ use crate::convert::convert;
 use crate::counter::count;
 use crate::endings::{refuse, refuse_words};
 use crate::explain::explain;
+use crate::filter::filter;
 use crate::generate::generate;
 use crate::place::place;
 use crate::relocate::relocate;
@@ -52,6 +53,7 @@ pub fn obey<S: Shelf>(alloc: Global, demand: &Demand<'_>, shelf: &mut S) -> Stat
         Demand::Caches(options) => count::<S, Caches>(alloc, shelf, options.trace, options.shape),
         Demand::Place(options) => place(alloc, options, shelf),
         Demand::Move(options) => relocate(alloc, options, shelf),
+        Demand::Filter(options) => filter(alloc, options, shelf),
         Demand::Misses(options) => count::<S, MissObservations>(
             alloc,
             shelf,
@@ -102,7 +104,11 @@ fn obey_words<S: Shelf>(alloc: Global, words: &[String], shelf: &mut S) -> Statu
 /// at most 1 MiB, of ranges and their places, and writes a trace with its accesses moved so as it
 /// reads that once; it prints how many accesses there are and how many are moved. Its status is
 /// `Table` where the table is refused, and `Occupied` where no range has the address of an access
-/// and a place has. `sweep`, `caches`,
+/// and a place has. `filter` reads a trace once and writes its filtered trace, for regions of 2^near
+/// bytes: it leaves out each access that its hart made before to the same word, as a write if this
+/// is one, since when no other hart came near; it prints how many accesses there are and how many
+/// are kept. Its status is `NoPcs` for versions 1 and 2, and `Filtered` for a filtered trace.
+/// `sweep`, `caches`,
 /// `misses` and `blame` pass over a whole trace: `sweep` prints what every shift of a line size
 /// counts, `caches` how many of each line's invalidations are left in private caches of a shape,
 /// `misses` what the sharing of each of its lines costs, and `blame` which instructions and which
@@ -150,8 +156,8 @@ pub fn predator<S: Shelf>(alloc: Global, words: &[String], shelf: &mut S) -> Sta
     // begun and each is a front of its bytes, and the others are as they were; all are as they were
     // at each other end. Copies may stand so at a fault of reading too, for their trace is read
     // twice; and where it isn't told still what is held, also at a refusal. A moved trace is
-    // written as the trace is read: at a fault of reading it may stand so too, and at a refusal of
-    // the trace it has all records before that.
+    // written as the trace is read, and so is a filtered one: at a fault of reading it may stand so
+    // too, and at a refusal of the trace it has all records before that, or what stays of them.
     ensures writes { Writes (demand_of (texts words.now))
         (S.outside shelf.old) (S.outside shelf.new) (kind_of result) }
     // Where a run is done, the replay of the trace that it wrote, under the same settings and
@@ -161,7 +167,10 @@ pub fn predator<S: Shelf>(alloc: Global, words: &[String], shelf: &mut S) -> Sta
     // the same settings and schedule lists a line with the base, the size and the start that it
     // was asked about, the count that it prints is the one that is listed. Where a move is done,
     // its file is read as the trace with its accesses moved, whose list is the moved list of the
-    // trace's.
+    // trace's. Where a filter is done, its file is read as the filtered trace, whose list is the
+    // filtered list of the trace's; and under every layout with lines of at most 2^near bytes the
+    // two lists have the misses and the invalidations of each line in common, those between each
+    // two harts too.
     ensures again { Told (S.outside shelf.new).held
         (λ files. WhereDone RepeatsReport (demand_of (texts words.now)) files (kind_of result)) }
     // A law of the definitions, which names neither the result nor the shelf: the run that is asked

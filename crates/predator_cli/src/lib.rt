@@ -1,8 +1,8 @@
 //! The program `predator`, as one call over a shelf of files: `run` runs a program and `replay`
 //! reads a recorded trace, and both print the cache lines that harts took from each other;
 //! `check` tells of a program file, `gen` makes a trace, `split` cuts one in two, `convert`
-//! writes one in the other version, `move` one with its accesses at other addresses, `sweep` counts
-//! one under every shift of a line size,
+//! writes one in the other version, `move` one with its accesses at other addresses, `filter` one
+//! without its redundant accesses, `sweep` counts one under every shift of a line size,
 //! `caches` tells what is left of its invalidations in caches of a shape, `misses` what the
 //! sharing of each line costs, `blame` which instructions and which harts take each line from
 //! each other, and `place` where each word of an object should stand so that no two harts share
@@ -25,6 +25,7 @@ mod counter;
 mod counting;
 mod endings;
 mod explain;
+mod filter;
 mod generate;
 mod laws;
 mod on_disk;

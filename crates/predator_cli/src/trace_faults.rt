@@ -1,11 +1,12 @@
-// How a command ends where a trace isn't passed, copied or moved.
+// How a command ends where a trace isn't passed, copied, moved or filtered.
 ghost use Rattle.std.specs.Prelude.{◌≡◌};
 ghost use Rattle.predator_cli.specs.TraceFaults.{status_of_copy, status_of_move, status_of_pass};
-ghost use Rattle.predator_cli.specs.TraceFaults.{status_of_refusal};
+ghost use Rattle.predator_cli.specs.TraceFaults.{status_of_filter, status_of_refusal};
 
 use command_io::{StateFault, Status};
 use saved_state::HARTS_PLACE;
 use trace_files::{CopyFault, MoveFault};
+use trace_filter::FilterFault;
 use trace_passes::{PassFault, Refusal};
 
 /// The status of a trace that is refused.
@@ -57,5 +58,17 @@ pub fn status_of_move(fault: MoveFault) -> Status
         MoveFault::ReadFault => Status::ReadFault,
         MoveFault::WriteFault => Status::WriteFault,
         MoveFault::NoMemory => Status::NoMemory,
+    }
+}
+
+/// The status of a trace that isn't filtered.
+pub fn status_of_filter(fault: FilterFault) -> Status
+    ensures { result ≡ status_of_filter fault }
+{
+    match fault {
+        FilterFault::Refused(refusal) => status_of_refusal(refusal),
+        FilterFault::ReadFault => Status::ReadFault,
+        FilterFault::WriteFault => Status::WriteFault,
+        FilterFault::NoMemory => Status::NoMemory,
     }
 }

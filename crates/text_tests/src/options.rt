@@ -1,8 +1,8 @@
 // Command lines as users write them, each against what it asks for.
 use base::Layout;
 use command_line::{
-    CheckOptions, ConvertOptions, Demand, GenOptions, LayoutOptions, MoveOptions, PlaceOptions,
-    ReplayOptions, RunOptions, SplitOptions, WordsFault, read_words,
+    CheckOptions, ConvertOptions, Demand, FilterOptions, GenOptions, LayoutOptions, MoveOptions,
+    PlaceOptions, ReplayOptions, RunOptions, SplitOptions, WordsFault, read_words,
 };
 use settings::Changes;
 use std::alloc::{AllocError, Global};
@@ -166,7 +166,7 @@ fn reads_runs(rt: HostRuntime) -> Result<(), Fail> {
     all_answer(&rt, rt.alloc(), &RUNS)
 }
 
-const OTHERS: [(&str, Answer<'static>); 6] = [
+const OTHERS: [(&str, Answer<'static>); 12] = [
     (
         "check --settings s p",
         Some(Demand::Check(CheckOptions {
@@ -207,6 +207,33 @@ const OTHERS: [(&str, Answer<'static>); 6] = [
             file: "f",
         })),
     ),
+    (
+        "filter t f",
+        Some(Demand::Filter(FilterOptions {
+            trace: "t",
+            file: "f",
+            near: 12,
+        })),
+    ),
+    (
+        "filter --near 64 - f",
+        Some(Demand::Filter(FilterOptions {
+            trace: "-",
+            file: "f",
+            near: 6,
+        })),
+    ),
+    (
+        "filter t f --near=65536",
+        Some(Demand::Filter(FilterOptions {
+            trace: "t",
+            file: "f",
+            near: 16,
+        })),
+    ),
+    ("filter t f --near 32", None),
+    ("filter t f --near 131072", None),
+    ("filter t t", None),
     (
         "convert -- -t f",
         Some(Demand::Convert(ConvertOptions {

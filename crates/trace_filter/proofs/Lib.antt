@@ -9,3 +9,4 @@ pub mod Sited
 pub mod Stopping
 pub mod Filterings
 pub mod Refusals
+pub mod Accepted

@@ -211,7 +211,7 @@ writable_behind bytes all items records =
 
 -- ---- the version
 
-is_three : (v : Version) → HasPcs v → v ≢ Four → v ≡ Three
+pub is_three : (v : Version) → HasPcs v → v ≢ Four → v ≡ Three
 is_three One pcs other = absurd pcs
 is_three Two pcs other = absurd pcs
 is_three Three pcs other = refl
@@ -227,7 +227,7 @@ trace_head all (Some p) (Ok e) t is = cc
 some_same : {A : Type 0} (x y : A) → Some x ≡ Some y → x ≡ y
 some_same x y is = cc
 
-head_version : (p : Option ReadSoFar) (h : Version × Header)
+pub head_version : (p : Option ReadSoFar) (h : Version × Header)
     → version_and_header p ≡ Some h → (now : ReadSoFar) × (p ≡ Some now) × (now.version ≡ h.0)
 head_version None h is = absurd cc
 head_version (Some p) h is =

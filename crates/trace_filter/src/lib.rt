@@ -20,5 +20,8 @@ mod record_filter;
 pub use filter_fault::FilterFault;
 pub use filter_file::FilterFile;
 pub use filter_pass::{Filtered, filter_trace};
-pub use laws::{a_filtered_trace_has_the_filtered_list, a_filtered_trace_is_a_trace};
+pub use laws::{
+    a_filtered_trace_has_the_filtered_list, a_filtered_trace_is_a_trace,
+    a_trace_with_pcs_is_filtered_whole,
+};
 pub use record_filter::{Passage, RecordFilter};
