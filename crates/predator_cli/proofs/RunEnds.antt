@@ -48,7 +48,7 @@ use Rattle.predator_cli.specs.Again.{whole_replay}
 use Rattle.predator_cli.specs.Answer.{HasNamesApart, answer_of}
 use Rattle.predator_cli.specs.Commands.{RepeatsReport, work_of}
 use Rattle.predator_cli.specs.Meets.{IsFaulty, IsWorked}
-use Rattle.predator_cli.specs.Replay.{begun_in, grid_in, levels_in, refuses_trace, replay_readings}
+use Rattle.predator_cli.specs.Replay.{grid_in, levels_in, refuses_trace, replay_readings}
 use Rattle.predator_cli.specs.Replay.{report_of, state_readings}
 use Rattle.predator_cli.specs.Replay.{trace_reading}
 use Rattle.predator_cli.specs.Replay.{wanted_in}
