@@ -94,6 +94,7 @@ fn counted_of(
 
 // How many bytes a filtered trace's regions must have, where no state is saved: as many as the
 // largest lines that a replay predicts. None takes no filtered trace.
+#[tactic(auto, using(std::proofs::lemmas::Bool::Decides::nat_tests))]
 fn lines_for(save: Option<&str>, layout: Layout) -> Option<u32>
     ensures { result ≡ lines_for (text_of save.entry) layout }
 {
