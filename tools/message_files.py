@@ -21,6 +21,8 @@ NO_PCS = (
     "the trace has no pcs: record a guest with `predator run PROGRAM --pcs --trace F`, or a program"
     " of this machine with `predator native --pcs --trace F -- PROGRAM`"
 )
+FILTERED = "the trace is filtered, and "
+SMALLER = "the trace was filtered for "
 AGAIN = "link the program again, since the file is damaged or cut off"
 SCRIPT = "link it with guest/link.ld, or a linker script like it"
 ENTRY = "set the entry to the address of an instruction, as guest/start.S does"
@@ -306,6 +308,7 @@ FILES: dict[str, bytes] = {
     "few": trace(b"", 0, first=2, harts=4),
     "behind": trace(b"", 0, first=2),
     "second": b"PRDTRC02" + trace(b"", 0)[8:],
+    "filtered": struct.pack("<8sQHHB8xQQQ", b"PRDTRC04", 0, 8, 6, 6, 0, 0, 3),
     "large": trace(symbol((1 << 24) + 4, b"large") + write(0x1000), 1),
     "full": trace(symbol(8, b"pair") + write(0x1000) + write(0xFFFFFFFC), 2),
     "twice": b"quantum = 1\n\nquantum = 2\n",
@@ -362,6 +365,27 @@ def list_faults() -> Iterator[Fault]:
     yield ["move", "t", "way", "a"], 14, "table Occupied 0x00001004", occupied
     for name in ("t", "second"):
         yield ["blame", name], 5, "trace NoPcs", f"{name}: {NO_PCS}"
+    needed = (
+        f"filtered: {FILTERED}this command needs all accesses: use the trace that was filtered, or"
+        " record the program without a filter"
+    )
+    yield ["place", "filtered", "pair"], 5, "trace Filtered", needed
+    yield ["split", "filtered", "3", "a", "b"], 5, "trace Filtered", needed
+    saved = (
+        f"filtered: {FILTERED}a saved state needs all accesses: replay it without --save and"
+        " --resume, or use the trace that was filtered"
+    )
+    yield ["replay", "filtered", "--size", "32", "--save", "a"], 5, "trace Filtered", saved
+    yield ["replay", "filtered", "--resume", "saved"], 5, "trace Filtered", saved
+    wide = f"filtered: {SMALLER}smaller lines: choose smaller lines, or filter for larger ones"
+    yield ["misses", "filtered", "--size", "64"], 0, "*", ""
+    yield ["misses", "filtered", "--size", "128"], 5, "trace TooWide", wide
+    doubled = (
+        f"filtered: {SMALLER}lines smaller than the predicted ones, which have twice the size:"
+        " choose smaller lines with --size, or filter for larger ones"
+    )
+    yield ["replay", "filtered", "--size", "32"], 0, "*", ""
+    yield ["replay", "filtered"], 5, "trace TooWide", doubled
     none = (
         "no object symbol of the trace has this name, and not exactly one block was allocated at"
         " that address: name another object"

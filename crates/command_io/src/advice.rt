@@ -9,7 +9,9 @@ use crate::settings_faults::settings_advice;
 use crate::state_faults::state_advice;
 use crate::status::Status;
 use crate::table_faults::{OCCUPIED_ADVICE, table_advice};
-use crate::trace_faults::{FILTERED_ADVICE, NO_PCS_ADVICE, TOO_WIDE_ADVICE, trace_advice};
+use crate::trace_faults::{
+    FILTERED_ADVICE, NO_PCS_ADVICE, TOO_WIDE_ADVICE, replay_advice, trace_advice,
+};
 use command_line::{Demand, Reason, WordsFault};
 use std::alloc::{AllocError, Global};
 use std::env;
@@ -53,14 +55,34 @@ pub fn advice_on(
     Ok(Some(advice))
 }
 
-// What is said where a command's work didn't end well, of its file where it refused one.
-fn said_of_work(
+/// The same at the end of a call that was asked for this.
+pub fn advice_for(
     alloc: Global,
-    refused: Option<&str>,
+    demand: &Demand<'_>,
     status: &Status,
     front: &[u8],
 ) -> Result<Option<String>, AllocError> {
-    match (advice_on(alloc, status, front)?, refused) {
+    let own = match demand {
+        Demand::Replay(_) => replay_advice(status),
+        _ => None,
+    };
+    match own {
+        Some(advice) => Ok(Some(String::from_str(alloc, advice)?)),
+        None => advice_on(alloc, status, front),
+    }
+}
+
+// What is said where a command's work didn't end well, of its file where it refused one.
+fn said_of_work(
+    alloc: Global,
+    demand: &Demand<'_>,
+    status: &Status,
+    front: &[u8],
+) -> Result<Option<String>, AllocError> {
+    match (
+        advice_for(alloc, demand, status, front)?,
+        file_refused(demand, status),
+    ) {
         (Some(advice), Some(name)) => Ok(Some(format!(in alloc; "{name}: {advice}")?)),
         (advice, _) => Ok(advice),
     }
@@ -97,7 +119,7 @@ fn said<R: Env + AllocGlobal>(
     }
     let alloc = runtime.alloc();
     match asked {
-        Ok(demand) => said_of_work(alloc, file_refused(demand, status), status, front),
+        Ok(demand) => said_of_work(alloc, demand, status, front),
         Err(WordsFault::Usage(reason)) => Ok(Some(said_of_words(runtime, reason)?)),
         Err(WordsFault::NoMemory) => Ok(None),
     }

@@ -31,7 +31,7 @@ mod status;
 mod table_faults;
 mod trace_faults;
 
-pub use advice::{advice_on, advise};
+pub use advice::{advice_for, advice_on, advise};
 pub use faults::{NO_MEMORY_LINE, READ_FAULT_LINE, WRITE_FAULT_LINE, fault_line};
 pub use files::{Judge, read_judged};
 pub use files_read::{file_to_look_at, trace_to_read};

@@ -2,6 +2,7 @@
 ghost use Rattle.std.specs.Prelude.{◌≡◌, IfOk, string_bytes};
 ghost use Rattle.command_io.specs.Faults.{trace_text};
 
+use crate::status::Status;
 use std::alloc::{AllocError, Global};
 use trace_format::TraceFault;
 
@@ -25,6 +26,22 @@ pub const FILTERED_ADVICE: &str =
 /// What to do about a filtered trace whose regions are smaller than the lines.
 pub const TOO_WIDE_ADVICE: &str =
     "the trace was filtered for smaller lines: choose smaller lines, or filter for larger ones";
+
+// The same where the command is a replay.
+const FILTERED_REPLAY: &str = "the trace is filtered, and a saved state needs all accesses: replay \
+     it without --save and --resume, or use the trace that was filtered";
+
+const TOO_WIDE_REPLAY: &str = "the trace was filtered for lines smaller than the predicted ones, \
+     which have twice the size: choose smaller lines with --size, or filter for larger ones";
+
+/// What to do about a filtered trace that a replay refuses.
+pub fn replay_advice(status: &Status) -> Option<&'static str> {
+    match status {
+        Status::Filtered => Some(FILTERED_REPLAY),
+        Status::TooWide => Some(TOO_WIDE_REPLAY),
+        _ => None,
+    }
+}
 
 const TOO_LONG: &str = "the trace has more than 2^40 accesses, or 2^44 bytes or more";
 

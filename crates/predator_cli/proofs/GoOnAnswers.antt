@@ -28,7 +28,8 @@ use Rattle.predator_cli.specs.Answer.{answer_of}
 use Rattle.predator_cli.specs.GoesOn.{HoldsBoth, begun_of}
 use Rattle.command_io.specs.Readings.{Reading, first_refusal}
 use Rattle.predator_cli.specs.Replay.{begun_in, grid_in, levels_in, replay_readings, replay_work}
-use Rattle.predator_cli.specs.Replay.{state_readings, trace_reading, wanted_after}
+use Rattle.predator_cli.specs.Replay.{state_readings, trace_reading, wanted_after, wanted_behind}
+use Rattle.predator_cli.specs.Replay.{wanted_in}
 use Rattle.command_io.specs.SettingsFiles.{settings_readings}
 use Rattle.predator_cli.specs.States.{judged_state, state_of_records, state_refusal}
 use Rattle.predator_cli.specs.TraceFaults.{status_of_refusal}
@@ -67,11 +68,11 @@ module _ (w : Wanted) (t : Trace) (any : w.pcs ≡ false)
         ∙ wanted_at now.0 now.1.progress (ending_of now.1) is
 
 -- one that goes on from some records is wanted behind them
-wanted_behind : (g : Grid) (v : Levels) (harts : ℕ) (before : List TraceRecord) (h : Header)
+taken_behind : (g : Grid) (v : Levels) (harts : ℕ) (before : List TraceRecord) (h : Header)
     → near_refusal None h.near ≡ None → h.harts ≡ harts
     → h.first ≡ length (touches_in before)
-    → header_refusal (wanted_after (Some (begun_of g v harts before))) (Some h) ≡ None
-wanted_behind g v harts before h plain same first =
+    → header_refusal (wanted_behind (begun_of g v harts before)) (Some h) ≡ None
+taken_behind g v harts before h plain same first =
     rw (plain, eq-eqb h.harts harts same, eq-eqb h.first (length (touches_in before)) first) refl
 
 -- ---- all files
@@ -88,7 +89,7 @@ module _ (demand : ReplayDemand) (files : Files) (harts : ℕ) (before : List Tr
     states = state_readings (grid_in demand) (levels_in demand) demand.resume
 
     abbrev traces : List Reading
-    traces = trace_reading (λ files. wanted_after (begun_in demand files)) demand.trace ∷ []
+    traces = trace_reading (wanted_in demand) demand.trace ∷ []
 
     state_accepted : first_refusal states files ≡ None
     state_accepted =
@@ -105,10 +106,10 @@ module _ (demand : ReplayDemand) (files : Files) (harts : ℕ) (before : List Tr
         let v = levels_in demand files in
         let bytes = content files demand.trace in
         ap (λ (b : Option Begun). option_or
-        (option_map status_of_refusal (refuses (wanted_after b) bytes)) None) begun
+        (option_map status_of_refusal (refuses (wanted_after demand.save g b) bytes)) None) begun
         ∙ ap (λ (r : Option Refusal). option_or (option_map status_of_refusal r) None)
-        (trace_accepted (wanted_after (Some (begun_of g v harts before))) t refl
-        (wanted_behind g v harts before t.header so.plain so.same_harts so.first) bytes so.trace)
+        (trace_accepted (wanted_behind (begun_of g v harts before)) t refl
+        (taken_behind g v harts before t.header so.plain so.same_harts so.first) bytes so.trace)
 
     pub answered_on : (all : Work) → replay_work demand files ≡ all
         → first_refusal (settings_readings demand.settings) files ≡ None

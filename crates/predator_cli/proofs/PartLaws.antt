@@ -33,7 +33,7 @@ use Rattle.shelf.specs.Files.{bytes_for}
 use Rattle.shelf.specs.Shelf.{Files, content}
 use Rattle.trace_passes.specs.Lives.{objects_of}
 use Rattle.trace_files.specs.Copies.{unfiltered, first_half, halves, second_half}
-use Rattle.trace_files.specs.Laws.Copies.{plain_unrefused}
+use Rattle.trace_files.specs.Laws.Copies.{plain_unrefused, plain_zero}
 use Rattle.trace_format.specs.Rules.{IsGoodRecord, touch_in, touches_in}
 use Rattle.trace_format.specs.declared.record.TraceRecord.{TraceRecord}
 use Rattle.trace_format.specs.declared.record.TraceRecord.TheVariants as records
@@ -41,6 +41,7 @@ use Rattle.trace_format.specs.declared.record.Version.{Version}
 use Rattle.trace_files.specs.Halves.{AreHalves, IsWhole}
 use Rattle.trace_passes.specs.Passes.{Trace, all_records, header_refusal, refusal_of as refuses}
 use Rattle.trace_passes.specs.Passes.{spell_trace, trace_of}
+use Rattle.trace_passes.specs.declared.wanted.Wanted.{Wanted}
 use Rattle.predator_cli.specs.Again.{replayed}
 use Rattle.predator_cli.specs.Answer.{answer_of}
 use Rattle.predator_cli.specs.Copies.{copy_with}
@@ -48,7 +49,7 @@ use Rattle.predator_cli.specs.GoesOn.{HoldsBoth, IsCutIn, MayStand, work_of_both
 use Rattle.predator_cli.specs.Parts.{AllFind, Counting, Cut, Finds, StateStays, halved}
 use Rattle.predator_cli.specs.Parts.{last_replayed, part_replay}
 use Rattle.predator_cli.specs.Replay.{grid_in, levels_in, replay_readings, trace_reading, whole}
-use Rattle.predator_cli.specs.Replay.{work_after}
+use Rattle.predator_cli.specs.Replay.{wanted_in, work_after}
 use Rattle.predator_cli.specs.Split.{split_readings, split_text, split_work}
 use Rattle.predator_cli.specs.States.{state_of_records}
 use Rattle.predator_cli.specs.TraceFaults.{status_of_refusal}
@@ -133,9 +134,12 @@ plain_near Two h plain none = rw none refl
 plain_near Three h plain none = rw none refl
 plain_near Four h plain none = absurd (plain refl)
 
-wanted_whole : (t : Trace) → near_refusal None t.header.near ≡ None → t.header.first ≡ 0
-    → header_refusal whole (Some t.header) ≡ None
-wanted_whole t plain first = rw (plain, eq-eqb t.header.first 0 first) refl
+-- whichever filtered traces are taken beside it
+wanted_whole : (lines : Option ℕ) (t : Trace) → near_refusal None t.header.near ≡ None
+    → t.header.first ≡ 0
+    → header_refusal (record whole { lines = lines }) (Some t.header) ≡ None
+wanted_whole lines t plain first =
+    rw (plain_zero t.header.near plain, eq-eqb t.header.first 0 first) refl
 
 module _
     (answered : (demand : ReplayDemand) (files : Files) (harts : ℕ) (before : List TraceRecord)
@@ -162,11 +166,15 @@ module _
         → t.header.first ≡ 0
         → first_refusal (replay_readings (part_replay how None name save)) files ≡ None
     whole_read files name t save settings is plain first =
-        accepted_both (settings_readings how.settings) (trace_reading (λ f. whole) name ∷ [])
+        let demand = part_replay how None name save in
+        let wanted : Wanted = wanted_in demand files in
+        accepted_both (settings_readings how.settings)
+        (trace_reading (wanted_in demand) name ∷ [])
         (Some files) (settings_pass how.settings files s settings)
-        (none_alone (option_map status_of_refusal (refuses whole (content files name)))
+        (none_alone (option_map status_of_refusal (refuses wanted (content files name)))
         (ap (option_map status_of_refusal)
-        (trace_accepted whole t refl (wanted_whole t plain first) (content files name) is)))
+        (trace_accepted wanted t refl (wanted_whole wanted.lines t plain first)
+        (content files name) is)))
 
     whole_work : (files : Files) (name : List ℕ) (t : Trace) (save : Option (List ℕ))
         → settings_in how.settings files ≡ Ok s

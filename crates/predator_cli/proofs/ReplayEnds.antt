@@ -27,7 +27,7 @@ use Rattle.predator_cli.specs.Meets.{IsFaulty, IsWorked}
 use Rattle.predator_cli.specs.Replay.{IsCounted, IsToShow, begun_in, begun_under, grid_in}
 use Rattle.predator_cli.specs.Replay.{levels_in, refuses_trace, replay_readings}
 use Rattle.predator_cli.specs.Replay.{replay_work, shown, state_readings, trace_reading}
-use Rattle.predator_cli.specs.Replay.{wanted_after, work_after}
+use Rattle.predator_cli.specs.Replay.{wanted_after, wanted_in, work_after}
 use Rattle.predator_cli.specs.declared.state_file.Begun.{Begun}
 use Rattle.predator_cli.proofs.StateFiles.{states_accepted, states_stopped}
 use Rattle.predator_cli.proofs.WriteEnds.{IsToWrite, names_in, still_to_write, writing_cut}
@@ -41,7 +41,7 @@ pub settings_stopped : (d : ReplayDemand) (a b : Outside) (s : Status)
     → IsStopped (replay_readings d) a b s
 settings_stopped d a b s stopped =
     stopped_first (settings_readings d.settings) (state_readings (grid_in d) (levels_in d) d.resume
-    ++ trace_reading (λ files. wanted_after (begun_in d files)) d.trace ∷ []) a b s stopped
+    ++ trace_reading (wanted_in d) d.trace ∷ []) a b s stopped
 
 -- the layout and the thresholds are those of the settings, which were read
 module _ (d : ReplayDemand) (s : Settings) (g : Grid) (v : Levels)
@@ -65,19 +65,19 @@ module _ (d : ReplayDemand) (s : Settings) (g : Grid) (v : Levels)
     states = state_readings (grid_in d) (levels_in d) d.resume
 
     abbrev traces : List Reading
-    traces = trace_reading (λ files. wanted_after (begun_in d files)) d.trace ∷ []
+    traces = trace_reading (wanted_in d) d.trace ∷ []
 
     wanted_alike : (begun : Option Begun) (a : Outside)
         → Told a.held (λ files. settings_in d.settings files ≡ Ok s)
         → Told a.held (λ files. begun_under g v d.resume files ≡ begun)
-        → Told a.held (λ files. refuses_trace (wanted_after (begun_in d files)) d.trace files
-        ≡ refuses_trace
-        (wanted_after begun) d.trace files)
+        → Told a.held (λ files. refuses_trace (wanted_in d files) d.trace files
+        ≡ refuses_trace (wanted_after d.save g begun) d.trace files)
     wanted_alike begun a read is =
-        told_both a.held (λ files same e. ap
-        (λ (x : Option Begun). refuses_trace (wanted_after x) d.trace files)
-        (begun_alike files same
-        ∙ e))
+        told_both a.held (λ files same e.
+        ap (λ (x : Grid). refuses_trace (wanted_after d.save x (begun_in d files)) d.trace files)
+        same.0
+        ∙ ap (λ (x : Option Begun). refuses_trace (wanted_after d.save g x) d.trace files)
+        (begun_alike files same ∙ e))
         (chosen a read) is
 
     -- the state is refused, behind the settings
@@ -116,23 +116,25 @@ module _ (d : ReplayDemand) (s : Settings) (g : Grid) (v : Levels)
 
         -- the trace is refused, behind both
         pub trace_stopped : (st : Status)
-            → IsStopped (trace_reading (λ x. wanted_after begun) d.trace ∷ []) p b st
+            → IsStopped (trace_reading (λ x. wanted_after d.save g begun) d.trace ∷ []) p b st
             → IsStopped (replay_readings d) a b st
         trace_stopped st stopped =
             stopped_behind (settings_readings d.settings) (states ++ traces) a m b st first
             (stopped_behind states traces m p b st behind
-            (alike_stopped d.trace (λ files. refuses_trace (wanted_after begun) d.trace files)
-            (λ files. refuses_trace (wanted_after (begun_in d files)) d.trace files) p b st
+            (alike_stopped d.trace
+            (λ files. refuses_trace (wanted_after d.save g begun) d.trace files)
+            (λ files. refuses_trace (wanted_in d files) d.trace files) p b st
             (wanted_alike begun b (at_b stopped.only.held) (begun_at_b stopped.only.held))
             stopped))
 
-        all_accepted : IsAccepted (trace_reading (λ x. wanted_after begun) d.trace ∷ []) p b
-            → IsAccepted (replay_readings d) a b
+        all_accepted : IsAccepted (trace_reading (λ x. wanted_after d.save g begun) d.trace ∷ [])
+            p b → IsAccepted (replay_readings d) a b
         all_accepted last =
             accepted_behind (settings_readings d.settings) (states ++ traces) a m b first
             (accepted_behind states traces m p b behind
-            (alike_accepted d.trace (λ files. refuses_trace (wanted_after begun) d.trace files)
-            (λ files. refuses_trace (wanted_after (begun_in d files)) d.trace files) p b
+            (alike_accepted d.trace
+            (λ files. refuses_trace (wanted_after d.save g begun) d.trace files)
+            (λ files. refuses_trace (wanted_in d files) d.trace files) p b
             (wanted_alike begun b (at_b last.read.only.held) (begun_at_b last.read.only.held))
             last))
 
@@ -160,7 +162,7 @@ module _ (d : ReplayDemand) (s : Settings) (g : Grid) (v : Levels)
 
         -- all three are read
         pub trace_counted : (text state : List ℕ)
-            → IsAccepted (trace_reading (λ x. wanted_after begun) d.trace ∷ []) p b
+            → IsAccepted (trace_reading (λ x. wanted_after d.save g begun) d.trace ∷ []) p b
             → IsReadFrom b.held d.trace (λ bytes. IsCounted d.save g v begun bytes text state)
             → IsToShow d a b text state
         trace_counted text state last counted =

@@ -27,6 +27,7 @@ use Rattle.guest.specs.Runs.{Run, output_of}
 use Rattle.trace_format.specs.declared.record.TraceRecord.{TraceRecord}
 use Rattle.trace_format.specs.declared.record.Version.{Version}
 use Rattle.trace_passes.specs.Passes.{Trace, refusal_of, spell_trace, trace_of}
+use Rattle.trace_passes.specs.declared.wanted.Wanted.{Wanted}
 use Rattle.shelf.specs.Files.{AreCut, AreWritten, Output, bytes_for}
 use Rattle.shelf.specs.OnTheirWay.{AreApart}
 use Rattle.run_recorder.specs.Recorded.{IsKept, names_of, outputs_for, trace_for}
@@ -47,10 +48,10 @@ use Rattle.predator_cli.specs.Again.{whole_replay}
 use Rattle.predator_cli.specs.Answer.{HasNamesApart, answer_of}
 use Rattle.predator_cli.specs.Commands.{RepeatsReport, work_of}
 use Rattle.predator_cli.specs.Meets.{IsFaulty, IsWorked}
-use Rattle.predator_cli.specs.Replay.{begun_in, grid_in, levels_in, refuses_trace, replay_readings}
+use Rattle.predator_cli.specs.Replay.{grid_in, levels_in, refuses_trace, replay_readings}
 use Rattle.predator_cli.specs.Replay.{report_of, state_readings}
 use Rattle.predator_cli.specs.Replay.{trace_reading}
-use Rattle.predator_cli.specs.Replay.{wanted_after, whole}
+use Rattle.predator_cli.specs.Replay.{wanted_in}
 use Rattle.predator_cli.specs.Run.{version_with, IsReady, file_for, outputs_of_run, run_for_demand, run_readings}
 use Rattle.predator_cli.specs.Run.{status_for}
 use Rattle.predator_cli.specs.Run.{trace_for_demand, work_of_run}
@@ -167,20 +168,20 @@ found_bytes n bytes rest = rw ((bytes_eq-Decides n n).1 refl) refl
 
 all_pass : (d : ReplayDemand) (later : Files) (s : Settings) → settings_in d.settings later ≡ Ok s
     → first_refusal (state_readings (grid_in d) (levels_in d) d.resume) later ≡ None
-    → refusal_of (wanted_after (begun_in d later)) (content later d.trace) ≡ None
+    → refusal_of (wanted_in d later) (content later d.trace) ≡ None
     → first_refusal (replay_readings d) later ≡ None
 all_pass d later s is states none =
-    let traces = trace_reading (λ files. wanted_after (begun_in d files)) d.trace ∷ [] in
+    let traces = trace_reading (wanted_in d) d.trace ∷ [] in
     passed (settings_readings d.settings)
     (state_readings (grid_in d) (levels_in d) d.resume ++ traces) later
     (settings_pass d.settings later s is)
     ∙ passed (state_readings (grid_in d) (levels_in d) d.resume) traces later states
-    ∙ none_alone (refuses_trace (wanted_after (begun_in d later)) d.trace later)
+    ∙ none_alone (refuses_trace (wanted_in d later) d.trace later)
     (ap (option_map status_of_refusal) none)
 
 replay_passes : (settings : AskedSettings) (name : List ℕ) (later : Files) (s : Settings)
     → settings_in settings later ≡ Ok s
-    → refusal_of whole (content later name) ≡ None
+    → refusal_of (wanted_in (whole_replay settings name) later) (content later name) ≡ None
     → first_refusal (replay_readings (whole_replay settings name)) later ≡ None
 replay_passes settings name later s is none = all_pass (whole_replay settings name) later s is refl
     none
@@ -194,7 +195,8 @@ replay_work d name later s t is read = rw (read, is) refl
 
 replay_answer : (d : RunDemand) (name : List ℕ) (later : Files) (s : Settings) (t : Trace)
     → settings_in d.settings later ≡ Ok s
-    → refusal_of whole (content later name) ≡ None → trace_of (content later name) ≡ Some t
+    → refusal_of (wanted_in (whole_replay d.settings name) later) (content later name) ≡ None
+    → trace_of (content later name) ≡ Some t
     → answer_of (Some (replay (whole_replay d.settings name))) later
     ≡ done_with (report_of (levels_of None s) (native_of s) t)
 replay_answer d name later s t is none read =
@@ -221,8 +223,9 @@ replay_repeats d s files t r good plain first is answer = λ name later named_so
     let bytes : content later name ≡ spell_trace t =
     written_trace d s files later t r name answer named_so holds in
     let read : trace_of (content later name) ≡ Some t = ap trace_of bytes ∙ spelled_again t good in
-    let none : refusal_of whole (content later name) ≡ None = ap (refusal_of whole) bytes
-    ∙ spelled_wanted t good plain first in
+    let wanted : Wanted = wanted_in (whole_replay d.settings name) later in
+    let none : refusal_of wanted (content later name) ≡ None = ap (refusal_of wanted) bytes
+    ∙ spelled_wanted wanted.lines t good plain first in
     replay_answer d name later s t (same ∙ is) none read
     ∙ ap done_with (sym (ap (λ (w : Work). w.text) answer))
 

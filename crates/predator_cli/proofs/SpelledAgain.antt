@@ -11,6 +11,7 @@ use Rattle.trace_passes.specs.Passes.{Trace, first_refusal, head_of, header_refu
 use Rattle.trace_passes.specs.Passes.{refusal_of}
 use Rattle.trace_passes.specs.Passes.{spell_trace, trace_of, trace_refusal}
 use Rattle.trace_passes.specs.Laws.Spelled.{trace-spelled}
+use Rattle.trace_passes.specs.declared.wanted.Wanted.{Wanted}
 use Rattle.run_recorder.specs.Recorded.{IsKept}
 use Rattle.predator_cli.specs.Replay.{whole}
 
@@ -22,22 +23,24 @@ pub spelled_again : (t : Trace) → IsKept t → trace_of (spell_trace t) ≡ So
 spelled_again t good = trace-spelled (spell_trace t) t.version t.header t.items t.ending
     (is_spelled t good)
 
-first_wanted : (near first : ℕ) → near ≡ 0 → first ≡ 0
-    → option_or (option_or (near_refusal None near) (option_or None (first_refusal (Some 0) first)))
-    None ≡ None
-first_wanted near first plain is = rw (plain, is) refl
+first_wanted : (lines : Option ℕ) (near first : ℕ) → near ≡ 0 → first ≡ 0
+    → option_or (option_or (near_refusal lines near)
+    (option_or None (first_refusal (Some 0) first))) None ≡ None
+first_wanted lines near first plain is = rw (plain, is) refl
 
--- and a whole one, if it begins at position 0
-pub spelled_wanted : (t : Trace) → IsKept t → t.header.near ≡ 0 → t.header.first ≡ 0
-    → refusal_of whole (spell_trace t) ≡ None
-spelled_wanted t good plain first =
+-- and a whole one, if it begins at position 0, whichever filtered traces are taken beside it
+pub spelled_wanted : (lines : Option ℕ) (t : Trace) → IsKept t → t.header.near ≡ 0
+    → t.header.first ≡ 0
+    → refusal_of (record whole { lines = lines }) (spell_trace t) ≡ None
+spelled_wanted lines t good plain first =
+    let wanted : Wanted = record whole { lines = lines } in
     let is = is_spelled t good in
     let read = trace_again (spell_trace t) t.version t.header t.items t.ending is in
     let head = head_again (spell_trace t) t.version t.header t.items t.ending is in
     let begins : head.0.header.first ≡ 0 = ap (λ h. h.first) head.3 ∙ first in
     let now = (reading_of (spell_trace t)).1 in
-    ap (λ (p : Option ReadSoFar). option_or (header_refusal whole (head_of p))
+    ap (λ (p : Option ReadSoFar). option_or (header_refusal wanted (head_of p))
     (trace_refusal (ending_of now))) head.1
-    ∙ ap (λ (r : Result TraceEnd TraceFault). option_or (header_refusal whole (Some head.0.header))
+    ∙ ap (λ (r : Result TraceEnd TraceFault). option_or (header_refusal wanted (Some head.0.header))
     (trace_refusal r)) read.1
-    ∙ first_wanted head.0.header.near head.0.header.first (ap (λ h. h.near) head.3 ∙ plain) begins
+    ∙ first_wanted lines head.0.header.near head.0.header.first (ap (λ h. h.near) head.3 ∙ plain) begins

@@ -1,7 +1,7 @@
 -- The command `replay`: what it reads, the report that it gives of a trace, and the state that it
 -- saves. A trace is a whole one, or goes on from a saved state.
 use Rattle.trace_format.specs.Ends.{run_end}
-use Rattle.std.specs.Prelude.{ℕ, List, [], ◌∷◌, ◌++◌, ◌≡◌, Option, Some, None, false}
+use Rattle.std.specs.Prelude.{ℕ, List, [], ◌∷◌, ◌++◌, ◌*◌, ◌≡◌, Option, Some, None, false}
 use Rattle.std.specs.Option.{option_and_then, option_map, option_map_or}
 use Rattle.std.specs.Result.{result_ok}
 use Rattle.command_line.specs.Replay.{ReplayDemand}
@@ -60,16 +60,29 @@ whole = record { harts = None; first = Some 0; pcs = false; lines = None }
 abbrev pub whole_for : ℕ → Wanted
 whole_for size = record whole { lines = Some size }
 
--- behind a state one of its harts, from its position on
-abbrev pub wanted_after : Option Begun → Wanted
-wanted_after None = whole
-wanted_after (Some begun) =
+-- How many bytes a filtered trace's regions must have: a replay predicts lines of twice the size.
+-- None is taken whose state is to be saved.
+abbrev pub lines_for : Option (List ℕ) → Grid → Option ℕ
+lines_for None layout = Some (2 * layout.size)
+lines_for (Some save) layout = None
+
+-- behind a state one of its harts is wanted, from its position on, that isn't filtered
+abbrev pub wanted_behind : Begun → Wanted
+wanted_behind begun =
     record {
       harts = Some begun.harts;
       first = Some begun.observations.watch.position;
       pcs = false;
       lines = None;
     }
+
+-- where a state is saved, if its name is given, and under a layout
+abbrev pub wanted_after : Option (List ℕ) → Grid → Option Begun → Wanted
+wanted_after save layout None = record whole { lines = lines_for save layout }
+wanted_after save layout (Some begun) = wanted_behind begun
+
+abbrev pub wanted_in : ReplayDemand → Files → Wanted
+wanted_in demand files = wanted_after demand.save (grid_in demand files) (begun_in demand files)
 
 -- how a file is refused that is no trace as it is wanted
 abbrev pub refuses_trace : Wanted → List ℕ → Files → Option Status
@@ -84,7 +97,7 @@ abbrev pub replay_readings : ReplayDemand → List Reading
 replay_readings demand =
     settings_readings demand.settings
     ++ (state_readings (grid_in demand) (levels_in demand) demand.resume
-    ++ trace_reading (λ files. wanted_after (begun_in demand files)) demand.trace ∷ [])
+    ++ trace_reading (wanted_in demand) demand.trace ∷ [])
 
 -- ---- what is given
 

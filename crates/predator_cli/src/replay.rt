@@ -14,7 +14,7 @@ ghost use Rattle.command_io.specs.Readings.{IsAccepted, IsReadFrom, IsStopped};
 ghost use Rattle.command_io.specs.Works.{output_for};
 ghost use Rattle.predator_cli.specs.Meets.{Meets};
 ghost use Rattle.predator_cli.specs.Replay.{IsCounted, IsToShow, replay_readings, shown};
-ghost use Rattle.predator_cli.specs.Replay.{trace_reading, wanted_after};
+ghost use Rattle.predator_cli.specs.Replay.{lines_for, trace_reading, wanted_after, wanted_behind};
 ghost use Rattle.predator_cli.specs.States.{state_of_records, state_of_observed};
 
 use crate::counting::{WHOLE, see_trace};
@@ -92,11 +92,24 @@ fn counted_of(
     Ok(Counted { text, state })
 }
 
+// How many bytes a filtered trace's regions must have, where no state is saved: as many as the
+// largest lines that a replay predicts. None takes no filtered trace.
+#[tactic(auto, using(std::proofs::lemmas::Bool::Decides::nat_tests))]
+fn lines_for(save: Option<&str>, layout: Layout) -> Option<u32>
+    ensures { result ≡ lines_for (text_of save.entry) layout }
+{
+    match save {
+        Some(_) => None,
+        None => Some(2 * layout.size()),
+    }
+}
+
 // What the replay of a whole trace gives, which is seen from nothing on.
 fn count_whole<S: Shelf>(
     alloc: Global,
     options: &ReplayOptions<'_>,
     shelf: &mut S,
+    layout: Layout,
     observations: &mut Observations,
 ) -> Result<Counted, Status>
     requires begins { begins_at observations.old 0 }
@@ -106,14 +119,18 @@ fn count_whole<S: Shelf>(
         IsReadFrom (S.outside shelf.new).held options.now.trace.now (λ bytes.
         IsCounted (text_of options.now.save) g v None bytes
         counted.text.items counted.state.items)) }
-    ensures accepted { OnOk result (IsAccepted
-        (trace_reading (λ _. wanted_after None) options.now.trace.now ∷ [])
+    ensures accepted { OnOk result (IsAccepted (trace_reading
+        (λ _. wanted_after (text_of options.now.save) layout None) options.now.trace.now ∷ [])
         (S.outside shelf.old) (S.outside shelf.new)) }
-    ensures stopped { IfErr result (IsStopped
-        (trace_reading (λ _. wanted_after None) options.now.trace.now ∷ [])
+    ensures stopped { IfErr result (IsStopped (trace_reading
+        (λ _. wanted_after (text_of options.now.save) layout None) options.now.trace.now ∷ [])
         (S.outside shelf.old) (S.outside shelf.new)) }
 {
-    match see_trace(alloc, shelf, options.trace, &WHOLE, observations) {
+    let wanted = Wanted {
+        lines: lines_for(options.save, layout),
+        ..WHOLE
+    };
+    match see_trace(alloc, shelf, options.trace, &wanted, observations) {
         Ok(passed) => {
             let (harts, ending) = (passed.header.harts, passed.ending.ending());
             match counted_of(alloc, options.save, observations, harts, &ending) {
@@ -140,10 +157,10 @@ fn count_on<S: Shelf>(
         (Some (record { observations = observations.old; harts = harts })) bytes
         counted.text.items counted.state.items)) }
     ensures accepted { OnOk result (IsAccepted (trace_reading
-        (λ _. wanted_after (Some (record { observations = observations.old; harts = harts })))
+        (λ _. wanted_behind (record { observations = observations.old; harts = harts }))
         options.now.trace.now ∷ []) (S.outside shelf.old) (S.outside shelf.new)) }
     ensures stopped { IfErr result (IsStopped (trace_reading
-        (λ _. wanted_after (Some (record { observations = observations.old; harts = harts })))
+        (λ _. wanted_behind (record { observations = observations.old; harts = harts }))
         options.now.trace.now ∷ []) (S.outside shelf.old) (S.outside shelf.new)) }
 {
     let wanted = Wanted {
@@ -182,17 +199,17 @@ fn count_from<S: Shelf>(
         IsReadFrom (S.outside shelf.new).held options.now.trace.now (λ bytes.
         IsCounted (text_of options.now.save) layout thresholds begun bytes
         counted.text.items counted.state.items)) }
-    ensures accepted { OnOk result (IsAccepted
-        (trace_reading (λ _. wanted_after begun) options.now.trace.now ∷ [])
+    ensures accepted { OnOk result (IsAccepted (trace_reading
+        (λ _. wanted_after (text_of options.now.save) layout begun) options.now.trace.now ∷ [])
         (S.outside shelf.old) (S.outside shelf.new)) }
-    ensures stopped { IfErr result (IsStopped
-        (trace_reading (λ _. wanted_after begun) options.now.trace.now ∷ [])
+    ensures stopped { IfErr result (IsStopped (trace_reading
+        (λ _. wanted_after (text_of options.now.save) layout begun) options.now.trace.now ∷ [])
         (S.outside shelf.old) (S.outside shelf.new)) }
 {
     match begun {
         None => {
             let mut observations = Observations::new(alloc, layout, thresholds);
-            count_whole(alloc, options, shelf, &mut observations)
+            count_whole(alloc, options, shelf, layout, &mut observations)
         }
         Some(
             Begun {
@@ -250,7 +267,8 @@ fn show<S: Shelf>(
 
 /// Replays the trace of a name: counts its accesses under the settings and the layout, behind a
 /// saved state where one is named, saves the state at its end where a name is given for it, and
-/// prints the report.
+/// prints the report. A filtered trace is taken where no state is named and its regions have at
+/// least twice as many bytes as the lines.
 pub fn replay<S: Shelf>(alloc: Global, options: &ReplayOptions<'_>, shelf: &mut S) -> Status
     ensures { Meets (Some (asks (replay_meaning options.now)))
         (S.outside shelf.old) (S.outside shelf.new) result }

@@ -1,5 +1,5 @@
 // What is said of a call that didn't end well, as the program says it on standard error.
-use command_io::{Status, advice_on, file_to_look_at};
+use command_io::{Status, advice_for, file_to_look_at};
 use command_line::{WordsFault, read_words};
 use shelf::{MemoryShelf, Shelf};
 use std::alloc::{AllocError, Global};
@@ -28,7 +28,7 @@ pub(crate) fn message_of(
                 Some(name) => front_of(alloc, shelf, name)?,
                 None => Vec::new(alloc),
             };
-            advice_on(alloc, status, &front)
+            advice_for(alloc, &demand, status, &front)
         }
         Err(WordsFault::Usage(reason)) => Ok(Some(reason.text(alloc)?)),
         Err(WordsFault::NoMemory) => Ok(None),
