@@ -251,6 +251,14 @@ def blame_tries(count: int) -> Iterator[Try]:
     )
 
 
+def filter_tries(count: int) -> Iterator[Try]:
+    """No access is redundant where the two harts write in turn, and all of a hart are but the first writes."""
+    yield Try("filter blamed v", join_lines(f"filter {count} {count}"), 40)
+    lone = [(0, "W", BASE + 4 * (at % 2), CODE) for at in range(4 * PIECE)]
+    put_file("lone", files.trace_version_3(lone))
+    yield Try("filter lone w", join_lines(f"filter {len(lone)} 2"), 40)
+
+
 def many_pair_tries(count: int) -> Iterator[Try]:
     """Each access but the first takes the line, by an instruction of its own."""
     touches = [(at % 2, "W", BASE + 4 * (at % 2), CODE + 4 * at) for at in range(count + 1)]
@@ -480,6 +488,7 @@ def tries_by_kind(is_long: bool) -> Iterator[list[Try]]:
     os.remove("long")
     contended_trace_with_pcs("blamed", LONG)
     yield list(blame_tries(LONG))
+    yield list(filter_tries(LONG))
     os.remove("blamed")
     yield [*many_pair_tries(MANY), *long_table_tries()]
     yield [*run_tries(), *program_tries(), Try(f"gen {LONG} f", (f"generated {LONG}",), 40)]

@@ -4,34 +4,34 @@ crates/worked_runs/data. None of it comes from the program."""
 from dataclasses import dataclass, replace
 
 from judge_filter import filter_trace
-from message_files import FORM, NO_PCS
+from message_files import FILTERED, FORM, NO_PCS
 from files import (
     CUT,
     CUT_AT,
     LINES,
     LONG,
     MADE,
+    NEAR,
     SMALL,
     STATE,
     WAY,
     WRITES,
     access_records,
-    by_line,
-    contended_accesses,
     contended_blame,
     contended_caches,
     contended_misses,
     contended_report,
+    filtered_front,
     generated_accesses,
     join_lines,
     move_accesses,
     report_text,
+    sited_trace,
     split_trace,
     state_bytes,
     trace_bytes,
     trace_header,
     trace_version_2,
-    trace_version_3,
     usage_text,
     with_late_access,
     worked_text,
@@ -90,6 +90,7 @@ def writing_cases() -> list[Case]:
         "run small.elf --settings settings --schedule schedule --set quantum=3 --trace t --output o".split(),
     )
     kept = report_text("exit 0", LINES, LINES, "4 0", "1 none 1")
+    whole, left, filtered = filter_trace(sited_trace(MADE), NEAR.bit_length() - 1)
     return [
         Case(
             ("run", "long.elf", "--trace", "t", "--output", "o"),
@@ -171,12 +172,12 @@ def writing_cases() -> list[Case]:
             along="made",
         ),
         Case(
-            ("filter", "sited", "f"),
+            ("filter", "pcs", "v", "--near", str(NEAR)),
             0,
-            join_lines(f"filter {4 * LINES} {4 * LINES}"),
-            ("sited",),
-            (("f", filter_trace(trace_version_3(by_line(contended_accesses(LINES))), 12)[2]),),
-            along="sited",
+            join_lines(f"filter {whole} {left}"),
+            ("pcs",),
+            (("v", filtered),),
+            along="pcs",
         ),
         Case(
             ("replay", "written", "--size", "4", "--settings", "settings", "--save", "s"),
@@ -212,6 +213,7 @@ def unfinished_cases() -> list[Case]:
     before = trace_header() + access_records(move_accesses(generated_accesses(MADE)[:15000]))
     cut = f"cut: the trace is cut off after {CUT_AT} bytes: record or copy it again"
     first = trace_header() + access_records(move_accesses(with_late_access(MADE)[:-10]))
+    cut_at = len(sited_trace(15000)) - 23
     taken = (
         "late: an access at this address stays, and other accesses would move to it: "
         "move them elsewhere, or add a line for this address"
@@ -225,6 +227,18 @@ def unfinished_cases() -> list[Case]:
             (("m", before),),
             join_lines(f"predator: {cut}"),
             along="cut",
+            leaves=True,
+        ),
+        Case(
+            ("filter", "pcs.cut", "v", "--near", str(NEAR)),
+            5,
+            join_lines(f"predator: trace Truncated {cut_at}"),
+            ("pcs.cut",),
+            (("v", filtered_front(15000)),),
+            join_lines(
+                f"predator: pcs.cut: the trace is cut off after {cut_at} bytes: record or copy it again"
+            ),
+            along="pcs.cut",
             leaves=True,
         ),
         Case(
@@ -379,6 +393,23 @@ def refused_cases() -> list[Case]:
             ("bad",),
             (("m", b""),),
             f"bad: line 1 {FORM}",
+        ),
+        (
+            ("filter", "short", "v"),
+            5,
+            b"predator: trace NoPcs\n",
+            ("short",),
+            (("v", b""),),
+            f"short: {NO_PCS}",
+        ),
+        (
+            ("filter", "filtered", "v"),
+            5,
+            b"predator: trace Filtered\n",
+            ("filtered",),
+            (("v", b""),),
+            f"filtered: {FILTERED}this command needs all accesses: use the trace that was filtered, or"
+            " record the program without a filter",
         ),
         (
             ("move", "script", "table", "m"),

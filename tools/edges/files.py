@@ -8,6 +8,7 @@ from typing import Iterable, NamedTuple
 
 sys.path.insert(0, os.path.join(os.path.dirname(os.path.abspath(__file__)), ".."))
 
+from judge_filter import filter_trace  # noqa: E402
 from traces import encode_distance  # noqa: E402
 
 DATA = os.path.join(
@@ -103,6 +104,19 @@ def alternate(count: int) -> list[Sited]:
 def by_line(touches: list[Touch]) -> list[Sited]:
     """Accesses with pcs that each line has for itself, one for each hart."""
     return [(hart, kind, addr, addr // 64 * 64 + 4 * hart) for hart, kind, addr in touches]
+
+
+# The accesses of the made trace with pcs, and for how many bytes of a region they are filtered.
+NEAR = 64
+
+
+def sited_trace(count: int) -> bytes:
+    return trace_version_3(by_line(generated_accesses(count)))
+
+
+def filtered_front(count: int) -> bytes:
+    """What stands in the filtered trace of the first of these accesses, without its end."""
+    return filter_trace(sited_trace(count), NEAR.bit_length() - 1)[2][:-33]
 
 
 # A table of moves, and the accesses with it.
@@ -368,6 +382,9 @@ def input_files() -> dict[str, bytes]:
         "written": trace_bytes([(0, "W", 0x100000 + 4 * it) for it in range(LINES)]),
         "sited": trace_version_3(by_line(shared)),
         "few": trace_version_3(alternate(3)),
+        "pcs": sited_trace(MADE),
+        "pcs.cut": sited_trace(15000)[:-23],
+        "filtered": filter_trace(sited_trace(200), NEAR.bit_length() - 1)[2],
         "state": STATE,
         "rest": trace_header(first=2) + trace_end(0),
         "bad": b"harts = 0\n",

@@ -38,7 +38,7 @@ def try_names_by_case(bench: Bench) -> None:
 
 
 # Of these the trace is standard input.
-WITH_INPUT = ("replay - --save -", "move - table -")
+WITH_INPUT = ("replay - --save -", "move - table -", "filter - -")
 
 
 def try_same_names(bench: Bench) -> None:

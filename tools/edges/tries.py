@@ -203,6 +203,7 @@ def try_dash(bench: Bench) -> None:
         "caches - --size 64 --sets 64 --ways 64",
         "sweep - --size 8",
         "move - table m",
+        "filter - f",
     ):
         with open("bad", "rb") as given:
             found = Ended(bench, words.split(), stdin=given).faults(
