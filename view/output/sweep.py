@@ -31,12 +31,13 @@ class Sweep:
     where none differs from it."""
 
     def __init__(self, text: str, of: str = "sweep") -> None:
-        head = re.match(r"sweep (\d+)\naccesses (\d+)\nshift ", text)
+        head = re.match(r"sweep (\d+)\naccesses (\d+)\n(?:whole (\d+)\n)?shift ", text)
         least = re.search(r"^least (\d+) total (\d+)\nend\n", text, re.MULTILINE)
         self.shifts = [Shift(*map(int, it)) for it in SHIFT.findall(text)]
         if not head or not least or not self.shifts or self.shifts[0].shift != 0:
             raise Fault(f"{of}: unexpected output of `predator sweep`")
-        self.size, self.accesses = int(head[1]), int(head[2])
+        # (of a filtered trace all accesses that the program made)
+        self.size, self.accesses = int(head[1]), int(head[3] or head[2])
         self.own = self.shifts[0]
         self.least = next((it for it in self.shifts if it.shift == int(least[1])), self.own)
         self.most = max(self.shifts, key=lambda shift: shift.total)
