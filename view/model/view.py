@@ -97,6 +97,8 @@ class View:
 
     def __init__(self, call: Call, report: Report, naming: Naming) -> None:
         self.call, self.report, self.naming = call, report, naming
+        # Of a filtered trace what it says of itself, or none.
+        self.filtered = call.filtered
         self.misses: Misses | None = None
         self.word_misses: Misses | None = None
         self.every_line: Report | None = None
@@ -125,6 +127,29 @@ class View:
         self.worth = Worth(self, None)
         self.effects: dict[int, MemoryEffect] = {}
 
+    @property
+    def accesses(self) -> int:
+        """How many accesses the program made. A filtered trace has fewer."""
+        return self.filtered.whole if self.filtered else self.report.accesses
+
+    def note_filter(self) -> None:
+        """Notes that a trace is filtered, where the call has named it, or shows what is of its own accesses alone."""
+        own = self.filtered
+        if own is None:
+            return
+        if own.is_unknown() and self.report.outcome == "part":
+            self.notes.append(
+                f"the filtered trace was cut: how many accesses it leaves out isn't known, so rates are of the {own.accesses:,} recorded ones"
+            )
+        elif self.call.recorded_quantum is None:
+            self.notes.append(
+                f"the trace is filtered: it has {own.accesses:,} of {own.whole:,} accesses, without those that change no cache"
+            )
+        if "words" in self.call.options:
+            self.notes.append(
+                f"reads and writes of words are those of the {own.accesses:,} recorded accesses; --whole records all"
+            )
+
     def count_misses(self, predator: Predator | None, passes: Passes | None) -> None:
         """Counts the misses, under the report's layout, for each word, and under the layouts of predicted lines."""
         if predator is None:
@@ -144,7 +169,8 @@ class View:
             return
         brief, foreseen = is_brief(self.call), self.predicted_layouts()
         asked = first_readers(
-            (self.report.size, self.report.offset), can_blame(self.call, predator), brief
+            *((self.report.size, self.report.offset), can_blame(self.call, predator), brief),
+            self.filtered is not None,
         )
         readers = [*asked.values(), *map(misses_reader, foreseen)]
         try:
@@ -170,6 +196,9 @@ class View:
         self.every_line, self.blame = cast("Report | None", results.get("each")), cast(
             "Blame | None", results.get("blame")
         )
+        if self.filtered is not None:
+            # (a report of each line that was ever invalidated)
+            self.every_line = self.report
         self.misses_by_layout = dict(zip(foreseen, cast(list[Misses], counted[len(asked) :])))
         if brief:
             self.notes.append(
@@ -225,6 +254,7 @@ class View:
         if (
             predator is None
             or self.report.ended_well()
+            or self.filtered is not None
             or not self.naming.memory.stack_bytes
             or self.call.reads_trace_once()
         ):
@@ -244,6 +274,7 @@ class View:
         if (
             predator is None
             or trace is None
+            or self.filtered is not None
             or not predator.has_command("place")
             or is_brief(self.call)
         ):
@@ -266,7 +297,9 @@ class View:
         self.naming.learn_symbols("\n".join(one.text for one in sources))
         self.naming.find_lines({it for one in sources for it in one.sites()})
         self.objects, self.objects_by_key = group_lines(
-            self.report, self.misses, self.naming, self.every_line
+            *(self.report, self.misses, self.naming, self.every_line),
+            # (a report of a filtered trace has no thresholds, and lists lines without a miss)
+            is_listed=self.filtered is None or self.misses is None,
         )
         for obj in self.objects_by_key.values():
             obj.name = self.naming.object_name(obj.key, obj.example)
@@ -401,7 +434,10 @@ class View:
         )
 
     def invalidation_kinds(self, thing: DataObject) -> dict[str, int] | None:
-        """How many invalidations of each kind an object's worst line has, or none where it isn't explained."""
+        """How many invalidations of each kind an object's worst line has, or none where it isn't explained, or a filtered trace doesn't have
+        the last accesses of victims."""
+        if self.filtered is not None:
+            return None
         found = self.invalidations_by_line.get(thing.worst_line().base)
         return count_kinds(found.pairs, self.effects) if found else None
 
@@ -502,7 +538,7 @@ class View:
         own = thing.useless + thing.useful
         return (
             own * advice.LITTLE < self.total()
-            or own * MIN_ACCESS_SHARE_DIVISOR < self.report.accesses
+            or own * MIN_ACCESS_SHARE_DIVISOR < self.accesses
         )
 
     def chosen_first(self) -> list[DataObject]:
@@ -516,7 +552,7 @@ class View:
 
     def is_clean(self) -> bool:
         """Whether so few accesses of a trace miss that no change is worth it. (Of a run the severity says that.)"""
-        return not self.report.steps and 0 < self.total() * RARE_MISS_DIVISOR < self.report.accesses
+        return not self.report.steps and 0 < self.total() * RARE_MISS_DIVISOR < self.accesses
 
     def is_little(self, thing: DataObject) -> bool:
         """Whether an object has so few of the misses that it isn't worth a change."""

@@ -10,7 +10,7 @@ from view.faults import Fault
 from view.reading import filtered_traces
 from view.reading.filtered_traces import Filter, read_filter
 from view.reading.file_kinds import KIND_NAMES, Action, action_for
-from view.reading.settings import ASKED, BARE, KEYS, OPTIONS, WRITTEN
+from view.reading.settings import ASKED, BARE, KEYS, OPTIONS, USUAL, WRITTEN
 
 USAGE = """usage: predator view run PROGRAM [options of run] [OPTIONS] [-- WORD ..]
        predator view replay TRACE [options of replay] [--program PROGRAM] [OPTIONS]
@@ -195,6 +195,10 @@ class Call:
                     f"'--filtered' takes a power of two from {NEAR_BYTES[0]} to {NEAR_BYTES[-1]}, not"
                     f" '{word.partition('=')[2]}'"
                 )
+            near = int(word.partition("=")[2] or filtered_traces.USUAL_NEAR)
+            size = self.option_value("--size") or ""
+            if 2 * (int(size) if size.isdigit() else USUAL["line"]) > near:
+                raise Fault(f"'{word}' takes lines of at most {near // 2} bytes: see `--size`")
         if found and "--whole" in self.recorder_flags:
             raise Fault("'--whole' and '--filtered' exclude each other")
         if found and "--no-pcs" in self.recorder_flags:
