@@ -416,7 +416,10 @@ def prediction(view: View, group: Sequence[PredictedLine]) -> str:
 def predictions(view: View, paint: Paint, width: int) -> Iterator[str]:
     """The predicted lines that are shown, and how many aren't."""
     found, is_all = view.chosen_predictions(), "predicted" in view.call.options
-    chosen = [it for it in found if it.is_shown or is_all]
+    # (of a filtered trace only their misses are known)
+    chosen = [
+        it for it in found if it.is_shown or is_all and (it.useless is not None or not view.filtered)
+    ]
     folded = len(found) - len(chosen)
     if chosen:
         yield ""

@@ -11,6 +11,7 @@ from view.output.drawings import Given, curve, templates
 from view.faults import Fault, plain
 from view.reading.pipes import copy_whole
 from view.reading.engine import Predator
+from view.reading.filtered_traces import read_filter
 from view.output.screen import counted
 
 SHIFT = re.compile(r"^shift (\d+) total (\d+) lines (\d+)$", re.MULTILINE)
@@ -99,7 +100,10 @@ def sweep_of(call: Call) -> Sweep:
     with trace_of(call) as trace:
         words = [trace if it == call.subject else it for it in call.words]
         sweep = Sweep(Predator().output(["sweep", *words]))
-        sweep.look(trace)
+        filtered = read_filter(trace)
+        # (a report also looks at lines of twice the size)
+        if filtered is None or 2 * sweep.size <= filtered.near:
+            sweep.look(trace)
         return sweep
 
 
