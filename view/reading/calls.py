@@ -9,7 +9,7 @@ from typing import Any, Iterable, Iterator, Sequence
 from view.faults import Fault
 from view.reading import filtered_traces
 from view.reading.filtered_traces import Filter, read_filter
-from view.reading.file_kinds import KIND_NAMES, Action, action_for
+from view.reading.file_kinds import KIND_NAMES, Action, action_for, is_report
 from view.reading.settings import ASKED, BARE, KEYS, OPTIONS, USUAL, WRITTEN
 
 USAGE = """usage: predator view run PROGRAM [options of run] [OPTIONS] [-- WORD ..]
@@ -214,17 +214,18 @@ class Call:
         """Refuses what a filtered trace can't be asked for, under lines of a size."""
         if self.filtered is None:
             return
-        what = ""
+        given = self.option_values_of("--set")
+        why = ""
         if 2 * size > self.filtered.near:
-            what = f"lines of {size} bytes: it has lines of at most {self.filtered.near // 2}"
-        elif "live" in self.options:
-            what = "'--live'"
-        elif self.options.get("by") == "count":
-            what = "'--by count'"
-        elif not self.option_values_of("--set").keys().isdisjoint(EXACT_THRESHOLDS):
-            what = "other thresholds than 1"
-        if what:
-            raise Fault(f"{self.named} is a filtered trace, without {what}; {filtered_traces.WHOLE}")
+            why = f"takes lines of at most {self.filtered.near // 2} bytes"
+        elif any(given.get(it, own) != own for it, own in EXACT_THRESHOLDS.items()):
+            why = "has no thresholds above 1"
+        elif "live" in self.options or self.options.get("by") == "count":
+            why = f"has too few accesses for '--{'live' if 'live' in self.options else 'by count'}'"
+        elif is_report(self.options.get("against", "")):
+            why = "has no thresholds, so that a kept report has other counts"
+        if why:
+            raise Fault(f"{self.named} is a filtered trace and {why}; {filtered_traces.WHOLE}")
 
     def option_values_of(self, option: str) -> dict[str, str]:
         """The settings that the words give by one of the program's options, a later one in the place of an earlier one."""

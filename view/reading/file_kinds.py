@@ -25,6 +25,11 @@ def has_pcs(path: str) -> bool:
     return first_bytes(path)[:8] in (b"PRDTRC03", b"PRDTRC04")
 
 
+def is_report(path: str) -> bool:
+    """Whether a file is a kept report."""
+    return first_bytes(path).startswith(b"predator report ")
+
+
 def action_for(path: str) -> Action:
     """What is done with a file. (What is wrong with a program for another machine the program says.)"""
     head = first_bytes(path)

@@ -14,6 +14,7 @@ from view.reading.calls import EXPLAIN, RECORDS, Call
 from view.faults import Fault
 from view.reading import guard
 from view.reading.engine import Predator, launcher
+from view.reading.file_kinds import is_report
 
 # What the recorder ends with where it refuses words, files or programs.
 REFUSAL_STATUSES = (125, 126, 127)
@@ -81,18 +82,9 @@ def is_filtered(call: Call) -> bool:
         or call.options.get("by") == "count"
         or not thresholds.isdisjoint(call.option_values_of("--set"))
         or call.option_value("--settings") is not None
-        or is_report(call.options.get("against"))
+        or is_report(call.options.get("against", ""))
     )
     return IS_FILTERED_BY_DEFAULT and not needs_all
-
-
-def is_report(path: str | None) -> bool:
-    """Whether a file is a kept report, whose counts are those of its thresholds."""
-    with contextlib.suppress(OSError):
-        if path is not None and os.path.isfile(path):
-            with open(path, "rb") as file:
-                return file.read(16).startswith(b"predator report")
-    return False
 
 
 @contextlib.contextmanager
