@@ -35,6 +35,7 @@ from view.reading.settings import USUAL  # noqa: E402
 from view.output.screen import Paint, counted, screen, width_of_screen  # noqa: E402
 from view.names.source_lines import Sources  # noqa: E402
 from view.model.explained_lines import explain  # noqa: E402
+from view.model.filter_notes import note_filter  # noqa: E402
 from view.model.fine_grain import begin_fine_run  # noqa: E402
 from view.model.miss_rates import Worth  # noqa: E402
 
@@ -221,7 +222,7 @@ def found(call: Call, predator: Predator | None, passes: Passes | None) -> View:
     reading = read_ahead(view, predator)
     fine = begin_fine_run(call, view.accesses, lambda own, quiet: found(own, quiet, None))
     trial = trial_of(view, predator, reading)
-    view.note_filter()
+    note_filter(view)
     view.count_misses(predator, passes)
     count_bytes(view, predator, reading)
     view.look_for_overflow(predator)

@@ -6,17 +6,12 @@ import functools
 import os
 import re
 from collections import Counter
-from typing import TYPE_CHECKING, Iterable, Mapping, Sequence, cast
+from typing import TYPE_CHECKING, Mapping, Sequence, cast
 
 from view.repairs import advice
 from view.reading.calls import EXPLAIN, Call
-from view.model.object_keys import (
-    Key,
-    BlocksKey,
-    MemoryKey,
-    SymbolKey,
-    key_order,
-)
+from view.model.lasting_keys import make_lasting_keys
+from view.model.object_keys import Key, BlocksKey, MemoryKey, SymbolKey
 from view.model.instruction_pairs import MemoryEffect, count_kinds
 from view.model.foreign_objects import is_foreign
 from view.model.object_fixes import ObjectFixes
@@ -131,24 +126,6 @@ class View:
     def accesses(self) -> int:
         """How many accesses the program made. A filtered trace has fewer."""
         return self.filtered.whole if self.filtered else self.report.accesses
-
-    def note_filter(self) -> None:
-        """Notes that a trace is filtered, where the call has named it, or shows what is of its own accesses alone."""
-        own = self.filtered
-        if own is None:
-            return
-        if own.is_unknown() and self.report.outcome == "part":
-            self.notes.append(
-                f"the filtered trace was cut: how many accesses it leaves out isn't known, so rates are of the {own.accesses:,} recorded ones"
-            )
-        elif self.call.recorded_quantum is None:
-            self.notes.append(
-                f"the trace is filtered: it has {own.accesses:,} of {own.whole:,} accesses, without those that change no cache"
-            )
-        if "words" in self.call.options:
-            self.notes.append(
-                f"reads and writes of words are those of the {own.accesses:,} recorded accesses; --whole records all"
-            )
 
     def count_misses(self, predator: Predator | None, passes: Passes | None) -> None:
         """Counts the misses, under the report's layout, for each word, and under the layouts of predicted lines."""
@@ -434,8 +411,8 @@ class View:
         )
 
     def invalidation_kinds(self, thing: DataObject) -> dict[str, int] | None:
-        """How many invalidations of each kind an object's worst line has, or none where it isn't explained, or a filtered trace doesn't have
-        the last accesses of victims."""
+        """How many invalidations of each kind an object's worst line has, or none where it isn't explained, or the trace may not have each
+        victim's last access."""
         if self.filtered is not None:
             return None
         found = self.invalidations_by_line.get(thing.worst_line().base)
@@ -536,10 +513,7 @@ class View:
         if "object" in self.call.options or self.is_clean() or first is thing or not self.misses:
             return False
         own = thing.useless + thing.useful
-        return (
-            own * advice.LITTLE < self.total()
-            or own * MIN_ACCESS_SHARE_DIVISOR < self.accesses
-        )
+        return own * advice.LITTLE < self.total() or own * MIN_ACCESS_SHARE_DIVISOR < self.accesses
 
     def chosen_first(self) -> list[DataObject]:
         """The object of the first row, where there is one."""
@@ -591,28 +565,6 @@ class View:
             place = self.naming.own_place(self.naming.own_sites(thing.example.sites)[0].addr)
             return (place.file, place.line) if place else None
         return None
-
-
-def make_lasting_keys(things: Iterable[DataObject], naming: Naming) -> dict[Key, str]:
-    """For each object a text that another build of the program has too: no address, and no line of a source."""
-    found: dict[Key, str] = {}
-    groups: dict[str, list[DataObject]] = {}
-    for obj in sorted(things, key=lambda obj: key_order(obj.key)):
-        if isinstance(obj.key, SymbolKey):
-            text = f"symbol {naming.names.lasting_name(obj.key.name)}"
-        elif isinstance(obj.key, BlocksKey):
-            text = "block " + (
-                " < ".join(naming.site_functions(obj.example.sites))
-                if isinstance(obj.example, Block) and obj.example.sites
-                else "-"
-            )
-        else:
-            text = "memory" if isinstance(obj.key, MemoryKey) else f"{obj.key.kind} {obj.key[1]}"
-        groups.setdefault(text, []).append(obj)
-    for text, own in groups.items():
-        for at, obj in enumerate(own):
-            found[obj.key] = text if at == 0 else f"{text} #{at + 1}"
-    return found
 
 
 def stack_memory(

@@ -418,7 +418,9 @@ def predictions(view: View, paint: Paint, width: int) -> Iterator[str]:
     found, is_all = view.chosen_predictions(), "predicted" in view.call.options
     # (of a filtered trace only their misses are known)
     chosen = [
-        it for it in found if it.is_shown or is_all and (it.useless is not None or not view.filtered)
+        it
+        for it in found
+        if it.is_shown or is_all and (it.useless is not None or not view.filtered)
     ]
     folded = len(found) - len(chosen)
     if chosen:

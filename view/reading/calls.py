@@ -98,8 +98,8 @@ BY, MISSES = ("false-sharing", "invalidations", "useless", "count"), ("false-sha
 LISTS = ("type", "shape")
 # Those that what counts a trace alone takes.
 ALONE = {"sweep": ("html", "top"), "caches": ("html", "shape", "top")}
-# Options of `predator native` that have no value, view's own to record all accesses, and those that have a value. (`--filtered` may have one
-# behind a `=`.)
+# Options of `predator native` that have no value, view's own to record all accesses, and those that have a value. (`--filtered` may have
+# one behind a `=`.)
 MARKS = ("all", "marked", "child", "built", "pcs", "no-pcs", "filtered", "whole")
 RECORDS = ("--quantum", "--most", "--max-disk", "--trace", "--skip", "--for", "--windows")
 # Options of a replay that goes on from another one, which a trace of a program of this machine doesn't.

@@ -49,7 +49,8 @@ def first_readers(
     layout: Layout, is_blamed: bool, is_brief: bool = False, is_filtered: bool = False
 ) -> dict[str, TraceReader]:
     """What is asked of each trace, the longest first: the misses of words and of lines, each line that was ever taken, and by what. In
-    brief the last stands for the misses of words where it is known. Of a filtered trace the report has each line already."""
+    brief the last stands for the misses of words where it is known. Of a filtered trace the report has each line already.
+    """
     asked = {
         "words": misses_reader(WORD_LAYOUT),
         "lines": misses_reader(layout),

@@ -21,7 +21,8 @@ FILE_OPTIONS = [it for it in ASKED if it != "--set"]
 @contextlib.contextmanager
 def open_as_pipe(path: str, is_read_once: bool = False) -> Iterator[int]:
     """A pipe that gets what is read of a file, or of standard input, for the standard input of a program: that opens it anew, and a pipe
-    with a name may have no writer any more by then. A filtered trace isn't read once: its counts need thresholds of 1, and its end."""
+    with a name may have no writer any more by then. A filtered trace isn't read once: its counts need thresholds of 1, and its end.
+    """
     try:
         source: BinaryIO = (
             sys.stdin.buffer if path == "-" else open(path, "rb", 0)

@@ -297,9 +297,7 @@ class Misses:
     """What `misses` counts of a trace under one layout."""
 
     def __init__(self, text: str, of: str = "misses") -> None:
-        found = re.match(
-            r"misses (\d+) (\d+)\naccesses (\d+)\n(?:whole \d+\n)?lines (\d+)\n", text
-        )
+        found = re.match(r"misses (\d+) (\d+)\naccesses (\d+)\n(?:whole \d+\n)?lines (\d+)\n", text)
         total = re.search(
             r"^total cold (\d+) useful (\d+) useless (\d+)\nend\n", text, re.MULTILINE
         )

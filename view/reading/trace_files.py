@@ -71,7 +71,8 @@ def access_pieces(data: mmap.mmap) -> Iterator[tuple[int, bytes]]:
 
 class ThreadPhase:
     """How often each access is made while threads run: from the first access of another hart than the first one on, up to the last such
-    access. `front` is the first part of a long trace, a trace too, or empty, and has so many accesses."""
+    access. `front` is the first part of a long trace, a trace too, or empty, and has so many accesses.
+    """
 
     def __init__(self, data: mmap.mmap) -> None:
         self.counts: "Counter[int]" = Counter()

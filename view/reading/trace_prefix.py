@@ -36,7 +36,9 @@ def trace_accesses(trace: str) -> int:
 def part_end(accesses: int, filtered: Filter | None) -> bytes:
     """The end of a part of so many accesses; of a filtered trace nobody knows how many were left out of the part."""
     fields = (END, OF_PART, 0, 0, 0, 0, accesses)
-    return PART_END.pack(*fields) if filtered is None else filtered_traces.END.pack(*fields, accesses)
+    return (
+        PART_END.pack(*fields) if filtered is None else filtered_traces.END.pack(*fields, accesses)
+    )
 
 
 def other_record_size(data: mmap.mmap, place: int) -> int:

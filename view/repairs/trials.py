@@ -121,7 +121,9 @@ class TrialRunner:
             parts, room = keep_far_apart(parts, room, self.layout[0])
         is_far = False
         for base in (
-            [0] if repair.is_in_place else itertools.islice(free_places(self.words, room), MAX_PLACES)
+            [0]
+            if repair.is_in_place
+            else itertools.islice(free_places(self.words, room), MAX_PLACES)
         ):
             with open(of_table, "w", encoding="ascii") as file:
                 file.write(move_table(parts, base))
@@ -261,7 +263,8 @@ def cost_of(misses: Misses, cold: int) -> int:
 
 class TrialGround(NamedTuple):
     """What repairs are tried on: a trace or its first part, who uses its words, its misses, how many accesses the program made meanwhile
-    and how many of them it has; `in_part` are the misses of the part, and none where it is the whole."""
+    and how many of them it has; `in_part` are the misses of the part, and none where it is the whole.
+    """
 
     trial: TrialRunner
     uses: WordUses

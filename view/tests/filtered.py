@@ -1,5 +1,5 @@
-"""Filtered traces for the stand-in: what a command refuses of one, its accesses as a trace of version 3, and whether a table of `move` brings
-words together that were far from each other."""
+"""Filtered traces for the stand-in: what a command refuses of one, its accesses as a trace of version 3, and whether a table of `move`
+brings words together that were far from each other."""
 
 import os
 import struct
@@ -48,7 +48,13 @@ def filtered_bytes(trace, near=4096):
 
 def plain_as_filtered(plain, k, whole):
     """What `move` writes of a filtered trace: a moved trace of version 3 in version 4 again."""
-    return MAGIC + plain[8:18] + struct.pack("<H", min(k, MOVED_K)) + plain[20:] + struct.pack("<Q", whole)
+    return (
+        MAGIC
+        + plain[8:18]
+        + struct.pack("<H", min(k, MOVED_K))
+        + plain[20:]
+        + struct.pack("<Q", whole)
+    )
 
 
 def is_far(addr, to, ranges, k):

@@ -1,8 +1,8 @@
 #!/usr/bin/python3
 """Stands for the proved program in the tests of view, where that isn't built: `run`, `replay`, `misses`, `explain`, `sweep` and `check`
 of small programs and traces, by machine.py and the judges of tools/. STAND_IN_LACKS names commands that it hasn't, and `pipes` if it
-reads none; with `move` in STAND_IN_HAS it has that and `convert` too. STAND_IN_PUTS is what a program puts out, and STAND_IN_SAYS what each run says on
-standard error beside it."""
+reads none; with `move` in STAND_IN_HAS it has that too, and `convert`. STAND_IN_PUTS is what a program puts out, and STAND_IN_SAYS what
+each run says on standard error beside it."""
 
 import os
 import struct
