@@ -11,7 +11,7 @@ from typing import TYPE_CHECKING, Mapping, Sequence, cast
 from view.repairs import advice
 from view.reading.calls import EXPLAIN, Call
 from view.model.lasting_keys import make_lasting_keys
-from view.model.object_keys import Key, BlocksKey, MemoryKey, SymbolKey
+from view.model.object_keys import Key, MemoryKey, SymbolKey
 from view.model.instruction_pairs import MemoryEffect, count_kinds
 from view.model.foreign_objects import is_foreign
 from view.model.object_fixes import ObjectFixes
@@ -21,7 +21,14 @@ from view.model.objects import DataObject, ObjectLine, WordUse, group_lines, wor
 from view.model.stack_overflow import Overflow, last_bytes_of_file, last_bytes_of_run, find_overflow
 from view.reading.passes import Layout, Passes, first_readers, can_blame, is_brief
 from view.model.predicted_lines import PredictedLine, judge_predicted_lines, choose_layouts
-from view.reading.engine import Predator, Refused, misses_reader, setting_value, stack_range
+from view.reading.engine import (
+    PassResult,
+    Predator,
+    Refused,
+    misses_reader,
+    setting_value,
+    stack_range,
+)
 from view.reading.reports import (
     Blame,
     Block,
@@ -166,7 +173,16 @@ class View:
             )
             return
         self.note_missing_harts(predator)
-        results = dict(zip(asked, counted))
+        self.take_counts(dict(zip(asked, counted)))
+        self.misses_by_layout = dict(zip(foreseen, cast(list[Misses], counted[len(asked) :])))
+        if brief:
+            self.notes.append(
+                "the trace is long: fixes were tried on its first part, predicted lines weren't"
+                " counted; --words does both in full"
+            )
+
+    def take_counts(self, results: Mapping[str, PassResult]) -> None:
+        """Takes what was counted of the trace, by what it is."""
         self.word_misses, self.misses = cast("Misses | None", results.get("words")), cast(
             Misses, results["lines"]
         )
@@ -176,12 +192,6 @@ class View:
         if self.filtered is not None:
             # (a report of each line that was ever invalidated)
             self.every_line = self.report
-        self.misses_by_layout = dict(zip(foreseen, cast(list[Misses], counted[len(asked) :])))
-        if brief:
-            self.notes.append(
-                "the trace is long: fixes were tried on its first part, predicted lines weren't"
-                " counted; --words does both in full"
-            )
 
     def note_bytes(self, counted: "Mapping[int, SharingMisses]") -> None:
         """Takes the misses of some lines as they are by bytes. By words and by bytes a line has as many."""
