@@ -26,13 +26,13 @@ from view.repairs.far_parts import FAR_LAYOUTS, keep_far_apart  # noqa: E402
 from view.repairs.layouts import MovedRange  # noqa: E402
 
 RECORDER = os.path.join(TOP, "native", "out", "predator-amd64-linux")
-PROGRAMS = ("ring", "shards", "arena", "pieces", "anderson", "apart")
-MOVES = {"STAND_IN_HAS": "move"}
+PROGRAMS = ("ring", "shards", "arena", "anderson")
 KNOWS = has(PROGRAM, "misses", "move", "filter")
 
 
 class Traces(unittest.TestCase):
-    program = STAND_IN
+    # (whether the stand-in moves words, which takes long)
+    program, moves = STAND_IN, ""
 
     def setUp(self):
         self.folder = tempfile.mkdtemp()
@@ -42,7 +42,8 @@ class Traces(unittest.TestCase):
         return os.path.join(self.folder, name)
 
     def view(self, *words, **more):
-        return view(*words, program=self.program, cwd=self.folder, **{**MOVES, **more})
+        more = {"STAND_IN_HAS": self.moves, **more}
+        return view(*words, program=self.program, cwd=self.folder, **more)
 
     def record(self, name, near=4096):
         """A guest's whole trace with pcs, and the same filtered."""
@@ -99,6 +100,7 @@ class OfGuests(Traces):
                 self.assertNotIn("filtered", whole["screen"])
 
     def test_a_fix_comes_to_the_same(self):
+        self.moves = "move"
         self.record("ring")
         words = ("--program", built("ring.elf"))
         found = [self.found("replay", self.path(it), *words) for it in ("whole", "filtered")]
@@ -137,6 +139,7 @@ class OfGuests(Traces):
                 jsonschema.validate(found, json.load(file))
 
     def test_bytes_of_words_are_not_known(self):
+        self.moves = "move"
         self.record("flags")
         found = self.found("replay", self.path("filtered"), "--program", built("flags.elf"))
         self.assertIn("threads may use different bytes of words on 1 lines", found["screen"])
@@ -186,6 +189,7 @@ class OfGuests(Traces):
         status, text, _ = self.view("sweep", self.path("filtered"), "--size", "64")
         self.assertEqual((status, "object (and its" in text), (0, True))
         self.assertEqual(text, self.view("sweep", self.path("whole"), "--size", "64")[1])
+        self.moves = "move"
         status, text, _ = self.view(
             *("replay", self.path("filtered"), "--size", "512", "--program", built("ring.elf"))
         )
@@ -365,10 +369,12 @@ int main(void)
 """
 
 
-@unittest.skipUnless(os.path.exists(RECORDER), "the recorder of native/ isn't built")
+@unittest.skipUnless(
+    os.path.exists(RECORDER) and KNOWS,
+    "the recorder of native/ isn't built, or no program that knows filtered traces",
+)
 class OfThisMachine(Traces):
-    # (a program that knows filtered traces, or what stands for it)
-    program = PROGRAM if KNOWS else STAND_IN
+    program = PROGRAM
 
     def compile(self, name, source):
         with open(self.path(f"{name}.c"), "w", encoding="utf-8") as file:
