@@ -27,7 +27,29 @@ from view.repairs.layouts import MovedRange  # noqa: E402
 
 RECORDER = os.path.join(TOP, "native", "out", "predator-amd64-linux")
 PROGRAMS = ("ring", "shards", "arena", "anderson")
-KNOWS = has(PROGRAM, "misses", "move", "filter")
+# Three of the four accesses of a program, by docs/FORMATS.md.
+SMALL = bytes.fromhex(
+    "5052445452433034000000000000000008000600240080408801140140900124003f10060000000000000000"
+    "000000000000000003000000000000000400000000000000"
+)
+
+
+def knows_filtered_traces(program):
+    """Whether a program is there that replays and moves filtered traces."""
+    if not has(program, "misses", "move"):
+        return False
+    with tempfile.TemporaryDirectory() as folder:
+        trace, table, out = (os.path.join(folder, it) for it in ("trace", "table", "out"))
+        for path, content in ((trace, SMALL), (table, b"")):
+            with open(path, "wb") as file:
+                file.write(content)
+        calls = (["replay", "--size", "16", "--shift", "0", trace], ["move", trace, table, out])
+        return all(
+            subprocess.run([program, *it], capture_output=True).returncode == 0 for it in calls
+        )
+
+
+KNOWS = knows_filtered_traces(PROGRAM)
 
 
 class Traces(unittest.TestCase):
