@@ -162,7 +162,7 @@ def trial(view: View, obj: DataObject) -> Record | None:
     return {
         "before": {**numbers_of(tried.before), "bytes": before},
         "after": {**numbers_of(tried.after), "bytes": after},
-        "accesses": tried.accesses,
+        "accesses": tried.accesses if tried.own_misses_in_part is None else tried.recorded,
     }
 
 

@@ -363,8 +363,8 @@ def try_objects(
         found, wrappers = [], dict[str, tuple[object, ...]]()
         if not ground.trial.can_count(view.report.size):
             view.notes.append(
-                f"no fixes were tried: of a filtered trace that takes lines of at most {MOVED_NEAR} bytes;"
-                " --whole records all"
+                f"no fixes were tried: on a filtered trace they need lines of at most {MOVED_NEAR} bytes;"
+                " --whole records all accesses"
             )
             return
         for thing in worth[: max(ACCESS_BUDGET // max(ground.recorded, 1), 1)]:

@@ -217,7 +217,7 @@ class OfGuests(Traces):
         status, text, _ = self.view(
             *("replay", self.path("filtered"), "--size", "512", "--program", built("ring.elf"))
         )
-        self.assertIn("no fixes were tried: of a filtered trace that takes", joined(text))
+        self.assertIn("no fixes were tried: on a filtered trace they need lines of", joined(text))
 
     def test_a_pipe(self):
         self.record("ring")
