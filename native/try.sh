@@ -505,7 +505,7 @@ if /usr/bin/python3 -c 'import elftools, jinja2' 2>/dev/null && command -v llvm-
     # What ends a call that records ends the program, and its screen is shown; an interrupt comes to the program from the terminal.
     for number in TERM HUP INT; do
         mkdir view-$number
-        TMPDIR=$work/view-$number PYTHONDONTWRITEBYTECODE=1 setsid env --default-signal "$here/../bin/predator" view native --most 100000000 -- ./forever >said 2>&1 &
+        TMPDIR=$work/view-$number PYTHONDONTWRITEBYTECODE=1 setsid env --default-signal "$here/../bin/predator" view native --whole --most 100000000 -- ./forever >said 2>&1 &
         pid=$!
         for _ in $(seq 1 100); do
             trace=$(echo view-$number/predator-view-*/trace)

@@ -26,14 +26,16 @@ from view.faults import Fault, plain  # noqa: E402
 from view.model.view import View, stack_memory  # noqa: E402
 from view.names.naming import Naming  # noqa: E402
 from view.model.objects import DataObject  # noqa: E402
-from view.reading.passes import Passes, start_passes  # noqa: E402
+from view.reading.passes import Passes, layout_of, start_passes  # noqa: E402
 from view.reading.pipes import open_as_pipe, copy_pipes  # noqa: E402
 from view.reading.engine import Predator  # noqa: E402
 from view.reading.recording import record_program, keep_run_trace  # noqa: E402
 from view.reading.reports import Report, Symbol  # noqa: E402
+from view.reading.settings import USUAL  # noqa: E402
 from view.output.screen import Paint, counted, screen, width_of_screen  # noqa: E402
 from view.names.source_lines import Sources  # noqa: E402
 from view.model.explained_lines import explain  # noqa: E402
+from view.model.filter_notes import note_filter  # noqa: E402
 from view.model.fine_grain import begin_fine_run  # noqa: E402
 from view.model.miss_rates import Worth  # noqa: E402
 
@@ -134,8 +136,8 @@ def report_of(call: Call, predator: Predator | None) -> Report:
     if predator is None:
         return Report(read(call.subject), call.subject)
     if not call.reads_trace_once():
-        return predator.read_report([call.action, *call.words, *call.guest_words])
-    with open_as_pipe(call.subject) as trace:
+        return predator.read_report([call.action, *call.report_words(), *call.guest_words])
+    with open_as_pipe(call.subject, is_read_once=True) as trace:
         return predator.read_report([call.action, *call.words_of_pipe()], stdin=trace)
 
 
@@ -195,6 +197,7 @@ def look(call: Call) -> View:
 
         templates()
     predator = Predator() if call.action != "file" else None
+    call.check_filtered_trace((layout_of(call) or (USUAL["line"], 0))[0])
     with start_passes(call, predator) as passes:
         return found(call, predator, passes)
 
@@ -217,8 +220,9 @@ def found(call: Call, predator: Predator | None, passes: Passes | None) -> View:
     view = View(call, report, Naming(report, program, sources, call.options["type"], memory))
     view.worth = Worth(view, miss_rates.begin_count(call, predator, (report.size, report.offset)))
     reading = read_ahead(view, predator)
-    fine = begin_fine_run(call, report.accesses, lambda own, quiet: found(own, quiet, None))
+    fine = begin_fine_run(call, view.accesses, lambda own, quiet: found(own, quiet, None))
     trial = trial_of(view, predator, reading)
+    note_filter(view)
     view.count_misses(predator, passes)
     count_bytes(view, predator, reading)
     view.look_for_overflow(predator)

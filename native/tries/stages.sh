@@ -9,7 +9,7 @@ stages=$work/stages
 mkdir -p "$stages"
 gcc -O1 -g -pthread "$here/tries/forever.c" -o forever
 begin_call() { # [PROGRAM]
-    TMPDIR=$stages PYTHONDONTWRITEBYTECODE=1 setsid env --default-signal "$here/../bin/predator" view native --html "$stages/page.html" --most 100000000 -- "$work/${1:-long}" >said 2>&1 &
+    TMPDIR=$stages PYTHONDONTWRITEBYTECODE=1 setsid env --default-signal "$here/../bin/predator" view native --whole --html "$stages/page.html" --most 100000000 -- "$work/${1:-long}" >said 2>&1 &
     pid=$!
 }
 # What is left of a call after ten seconds at most: its processes name the program or the folder.
@@ -79,7 +79,7 @@ done 2>/dev/null
 said=$(PYTHONDONTWRITEBYTECODE=1 "$here/../bin/predator" view native --explain 0 --trace own --quantum 1000 -- ./counters 2>&1)
 expect_part "view: --trace" "counters" "$said"
 expect_equal "view: --trace: it is kept" "exit 0" "$("$judge" end own)"
-said=$(PYTHONDONTWRITEBYTECODE=1 "$here/../bin/predator" view native --explain 0 --max-disk 1M -- ./long 2>&1)
+said=$(PYTHONDONTWRITEBYTECODE=1 "$here/../bin/predator" view native --whole --explain 0 --max-disk 1M -- ./long 2>&1)
 expect_part "view: --max-disk: the program goes on" "sum 600000" "$said"
 expect_part "view: --max-disk: it is said" "THE RECORDING IS INCOMPLETE" "$said"
 expect_part "view: --max-disk: what to do" "raise \`--max-disk\`" "$said"

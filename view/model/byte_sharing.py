@@ -55,7 +55,7 @@ def count_by_bytes(
 def mixed_lines(view: View, uses: WordUses) -> list[int]:
     """The lines with true-sharing misses on which threads use different bytes of a word."""
     lines, size = view.misses.lines if view.misses else {}, view.report.size
-    found = {it // size * size for it in uses.words if uses.is_mixed(it)}
+    found = {it // size * size for it in uses.words if uses.may_be_mixed(it)}
     return sorted(it for it in found if it in lines and lines[it].useful)[:MAX_LINES]
 
 
@@ -66,6 +66,12 @@ def count_mixed_lines(view: View, predator: Predator | None, uses: WordUses | No
         return
     bases = mixed_lines(view, uses)
     if not bases or view.report.offset:
+        return
+    if view.filtered is not None:
+        view.notes.append(
+            f"threads may use different bytes of words on {len(bases):,} lines, whose misses are counted by"
+            " words: --whole counts them by bytes"
+        )
         return
     if view.report.accesses > MAX_ACCESSES:
         view.notes.append(

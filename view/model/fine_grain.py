@@ -91,7 +91,7 @@ def view_fine_run(call: Call, look: Callable[[Call, Predator], View]) -> View | 
 
 def is_contended(view: View, obj: DataObject) -> bool:
     """Whether an object has false-sharing misses that are worth a row."""
-    return obj.useless * MIN_ACCESS_SHARE_DIVISOR >= view.report.accesses
+    return obj.useless * MIN_ACCESS_SHARE_DIVISOR >= view.accesses
 
 
 def has_repair(view: View, obj: DataObject | None) -> bool:

@@ -141,7 +141,7 @@ class Worth:
 
     def rate(self, useless: int) -> float | None:
         """So many false-sharing misses per 1,000 instructions or accesses, or none where that isn't known."""
-        of = self.view.report.steps or self.view.report.accesses
+        of = self.view.report.steps or self.view.accesses
         return 1000 * useless / of if of and self.view.misses else None
 
     def is_of_study(self) -> bool:

@@ -25,7 +25,7 @@ class ObjectFixes:
     def choose(self, thing: DataObject, words: list[WordUse]) -> str:
         """The fix for an object."""
         if self.is_small():
-            return f"none: only {self.view.report.accesses:,} accesses were seen; did the compiler remove a loop?"
+            return f"none: only {self.view.accesses:,} accesses were seen; did the compiler remove a loop?"
         tried = self.view.decisive_trial(thing)
         if (
             self.view.misses
@@ -67,7 +67,7 @@ class ObjectFixes:
     def is_small(self) -> bool:
         """Whether the program ran too short for advice."""
         is_run = self.view.call.action == "run" or self.view.call.recorded_quantum is not None
-        return is_run and self.view.report.ended_well() and self.view.report.accesses < FEW_ACCESSES
+        return is_run and self.view.report.ended_well() and self.view.accesses < FEW_ACCESSES
 
     def true_sharing(self, thing: DataObject, words: Sequence[WordUse]) -> str:
         """The advice for an object without a false-sharing miss."""
@@ -87,7 +87,11 @@ class ObjectFixes:
         tried = self.view.decisive_trial(thing)
         if self.is_small() or not thing.useless and tried and not tried.has_other_reason():
             return ""
-        return tried.outcome(bool(tried.mixed_words())) if tried else ""
+        if tried is None:
+            # (where nothing was counted, why)
+            found = (self.view.trials or {}).get(thing.key)
+            return f"left out: {', '.join(found.left_out)}" if found and found.left_out else ""
+        return tried.outcome(bool(tried.mixed_words()))
 
     def needed_alignment(self, thing: DataObject) -> int:
         """The alignment that keeps apart what is seen, and what is predicted of lines twice as long."""

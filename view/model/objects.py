@@ -205,16 +205,15 @@ def has_accesses(line: Line, things: Sequence[Symbol | Block]) -> bool:
 
 
 def object_lines(
-    report: Report, misses: Misses | None, each: Report | None = None
+    report: Report, misses: Misses | None, each: Report | None = None, is_listed: bool = True
 ) -> Iterator[ObjectLine]:
-    """The lines that the report lists, in its order, and those beside them that have misses."""
+    """The lines that the report lists, in its order, unless it has no thresholds, and those beside them that have misses."""
     missed = misses.lines if misses else {}
-    for line in report.lines:
-        if line.kind == "observed":
-            base = line.base
-            yield ObjectLine(base, line, missed.get(base))
+    listed = report.observed() if is_listed else []
+    for line in listed:
+        yield ObjectLine(line.base, line, missed.get(line.base))
     if missed:
-        seen, words = {it.base for it in report.observed()}, each.observed_by_base() if each else {}
+        seen, words = {it.base for it in listed}, each.observed_by_base() if each else {}
         for base, missed_line in missed.items():
             if base not in seen:
                 yield ObjectLine(base, None, missed_line, words.get(base))
@@ -266,11 +265,15 @@ class ObjectGrouping:
 
 
 def group_lines(
-    report: Report, misses: Misses | None, naming: Naming, each: Report | None = None
+    report: Report,
+    misses: Misses | None,
+    naming: Naming,
+    each: Report | None = None,
+    is_listed: bool = True,
 ) -> tuple[list[DataObject], dict[Key, DataObject]]:
     """The objects that have lines, the worst first, and all by their keys, those beside them too."""
     folding = ObjectGrouping(naming)
-    for spot in object_lines(report, misses, each):
+    for spot in object_lines(report, misses, each, is_listed):
         folding.add(spot)
     found = folding.objects
     return sorted((it for it in found.values() if it.lines), key=DataObject.rank), found

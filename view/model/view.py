@@ -6,17 +6,12 @@ import functools
 import os
 import re
 from collections import Counter
-from typing import TYPE_CHECKING, Iterable, Mapping, Sequence, cast
+from typing import TYPE_CHECKING, Mapping, Sequence, cast
 
 from view.repairs import advice
 from view.reading.calls import EXPLAIN, Call
-from view.model.object_keys import (
-    Key,
-    BlocksKey,
-    MemoryKey,
-    SymbolKey,
-    key_order,
-)
+from view.model.lasting_keys import make_lasting_keys
+from view.model.object_keys import Key, MemoryKey, SymbolKey
 from view.model.instruction_pairs import MemoryEffect, count_kinds
 from view.model.foreign_objects import is_foreign
 from view.model.object_fixes import ObjectFixes
@@ -26,7 +21,14 @@ from view.model.objects import DataObject, ObjectLine, WordUse, group_lines, wor
 from view.model.stack_overflow import Overflow, last_bytes_of_file, last_bytes_of_run, find_overflow
 from view.reading.passes import Layout, Passes, first_readers, can_blame, is_brief
 from view.model.predicted_lines import PredictedLine, judge_predicted_lines, choose_layouts
-from view.reading.engine import Predator, Refused, misses_reader, setting_value, stack_range
+from view.reading.engine import (
+    PassResult,
+    Predator,
+    Refused,
+    misses_reader,
+    setting_value,
+    stack_range,
+)
 from view.reading.reports import (
     Blame,
     Block,
@@ -97,6 +99,8 @@ class View:
 
     def __init__(self, call: Call, report: Report, naming: Naming) -> None:
         self.call, self.report, self.naming = call, report, naming
+        # Of a filtered trace what it says of itself, or none.
+        self.filtered = call.filtered
         self.misses: Misses | None = None
         self.word_misses: Misses | None = None
         self.every_line: Report | None = None
@@ -125,6 +129,11 @@ class View:
         self.worth = Worth(self, None)
         self.effects: dict[int, MemoryEffect] = {}
 
+    @property
+    def accesses(self) -> int:
+        """How many accesses the program made. A filtered trace has fewer."""
+        return self.filtered.whole if self.filtered else self.report.accesses
+
     def count_misses(self, predator: Predator | None, passes: Passes | None) -> None:
         """Counts the misses, under the report's layout, for each word, and under the layouts of predicted lines."""
         if predator is None:
@@ -144,7 +153,8 @@ class View:
             return
         brief, foreseen = is_brief(self.call), self.predicted_layouts()
         asked = first_readers(
-            (self.report.size, self.report.offset), can_blame(self.call, predator), brief
+            *((self.report.size, self.report.offset), can_blame(self.call, predator), brief),
+            self.filtered is not None,
         )
         readers = [*asked.values(), *map(misses_reader, foreseen)]
         try:
@@ -163,19 +173,25 @@ class View:
             )
             return
         self.note_missing_harts(predator)
-        results = dict(zip(asked, counted))
-        self.word_misses, self.misses = cast("Misses | None", results.get("words")), cast(
-            Misses, results["lines"]
-        )
-        self.every_line, self.blame = cast("Report | None", results.get("each")), cast(
-            "Blame | None", results.get("blame")
-        )
+        self.take_counts(dict(zip(asked, counted)))
         self.misses_by_layout = dict(zip(foreseen, cast(list[Misses], counted[len(asked) :])))
         if brief:
             self.notes.append(
                 "the trace is long: fixes were tried on its first part, predicted lines weren't"
                 " counted; --words does both in full"
             )
+
+    def take_counts(self, results: Mapping[str, PassResult]) -> None:
+        """Takes what was counted of the trace, by what it is."""
+        self.word_misses, self.misses = cast("Misses | None", results.get("words")), cast(
+            Misses, results["lines"]
+        )
+        self.every_line, self.blame = cast("Report | None", results.get("each")), cast(
+            "Blame | None", results.get("blame")
+        )
+        if self.filtered is not None:
+            # (a report of each line that was ever invalidated)
+            self.every_line = self.report
 
     def note_bytes(self, counted: "Mapping[int, SharingMisses]") -> None:
         """Takes the misses of some lines as they are by bytes. By words and by bytes a line has as many."""
@@ -225,6 +241,7 @@ class View:
         if (
             predator is None
             or self.report.ended_well()
+            or self.filtered is not None
             or not self.naming.memory.stack_bytes
             or self.call.reads_trace_once()
         ):
@@ -244,6 +261,7 @@ class View:
         if (
             predator is None
             or trace is None
+            or self.filtered is not None
             or not predator.has_command("place")
             or is_brief(self.call)
         ):
@@ -266,7 +284,9 @@ class View:
         self.naming.learn_symbols("\n".join(one.text for one in sources))
         self.naming.find_lines({it for one in sources for it in one.sites()})
         self.objects, self.objects_by_key = group_lines(
-            self.report, self.misses, self.naming, self.every_line
+            *(self.report, self.misses, self.naming, self.every_line),
+            # (a report of a filtered trace has no thresholds, and lists lines without a miss)
+            is_listed=self.filtered is None or self.misses is None,
         )
         for obj in self.objects_by_key.values():
             obj.name = self.naming.object_name(obj.key, obj.example)
@@ -401,7 +421,10 @@ class View:
         )
 
     def invalidation_kinds(self, thing: DataObject) -> dict[str, int] | None:
-        """How many invalidations of each kind an object's worst line has, or none where it isn't explained."""
+        """How many invalidations of each kind an object's worst line has, or none where it isn't explained, or the trace may not have each
+        victim's last access."""
+        if self.filtered is not None:
+            return None
         found = self.invalidations_by_line.get(thing.worst_line().base)
         return count_kinds(found.pairs, self.effects) if found else None
 
@@ -500,10 +523,7 @@ class View:
         if "object" in self.call.options or self.is_clean() or first is thing or not self.misses:
             return False
         own = thing.useless + thing.useful
-        return (
-            own * advice.LITTLE < self.total()
-            or own * MIN_ACCESS_SHARE_DIVISOR < self.report.accesses
-        )
+        return own * advice.LITTLE < self.total() or own * MIN_ACCESS_SHARE_DIVISOR < self.accesses
 
     def chosen_first(self) -> list[DataObject]:
         """The object of the first row, where there is one."""
@@ -516,7 +536,7 @@ class View:
 
     def is_clean(self) -> bool:
         """Whether so few accesses of a trace miss that no change is worth it. (Of a run the severity says that.)"""
-        return not self.report.steps and 0 < self.total() * RARE_MISS_DIVISOR < self.report.accesses
+        return not self.report.steps and 0 < self.total() * RARE_MISS_DIVISOR < self.accesses
 
     def is_little(self, thing: DataObject) -> bool:
         """Whether an object has so few of the misses that it isn't worth a change."""
@@ -555,28 +575,6 @@ class View:
             place = self.naming.own_place(self.naming.own_sites(thing.example.sites)[0].addr)
             return (place.file, place.line) if place else None
         return None
-
-
-def make_lasting_keys(things: Iterable[DataObject], naming: Naming) -> dict[Key, str]:
-    """For each object a text that another build of the program has too: no address, and no line of a source."""
-    found: dict[Key, str] = {}
-    groups: dict[str, list[DataObject]] = {}
-    for obj in sorted(things, key=lambda obj: key_order(obj.key)):
-        if isinstance(obj.key, SymbolKey):
-            text = f"symbol {naming.names.lasting_name(obj.key.name)}"
-        elif isinstance(obj.key, BlocksKey):
-            text = "block " + (
-                " < ".join(naming.site_functions(obj.example.sites))
-                if isinstance(obj.example, Block) and obj.example.sites
-                else "-"
-            )
-        else:
-            text = "memory" if isinstance(obj.key, MemoryKey) else f"{obj.key.kind} {obj.key[1]}"
-        groups.setdefault(text, []).append(obj)
-    for text, own in groups.items():
-        for at, obj in enumerate(own):
-            found[obj.key] = text if at == 0 else f"{text} #{at + 1}"
-    return found
 
 
 def stack_memory(

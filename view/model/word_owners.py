@@ -88,9 +88,11 @@ def own_elements(thing: DataObject, groups: Iterable[Sequence[WordUse]]) -> list
     return [next(iter(own)) if len(own) == 1 and times[min(own)] == 1 else "" for own in found]
 
 
-def names_of(thing: DataObject, words: Sequence[WordUse], element: str, worst: WordUse) -> str:
-    """The fields of a group, the most written word with its numbers."""
-    numbers = accesses(worst) if any(it is worst for it in words) else ""
+def names_of(
+    thing: DataObject, words: Sequence[WordUse], element: str, worst: WordUse, is_numbered: bool
+) -> str:
+    """The fields of a group, the most written word with its numbers, unless the trace leaves out some of its accesses."""
+    numbers = accesses(worst) if is_numbered and any(it is worst for it in words) else ""
     if element:
         return element + numbers
     names = advice.patterns(field_in(thing, it) for it in words)
@@ -130,7 +132,11 @@ def own_words(view: View, thing: DataObject, own: Sequence[WordUse]) -> str:
     # (the group of the most written word is always named)
     first = sorted(groups, key=lambda owner: not any(one is worst for one in groups[owner]))
     named = [it for it in groups if len(groups) <= GROUPS + 1 or it in first[:GROUPS]]
-    parts = [group_text(it, names_of(thing, groups[it], elements[it], worst)) for it in named]
+    is_numbered = view.filtered is None
+    parts = [
+        group_text(it, names_of(thing, groups[it], elements[it], worst, is_numbered))
+        for it in named
+    ]
     more = len(groups) - len(named)
     text = "; ".join(parts) + (f"; and {more} more" if more else "")
     if len(groups) < 2 or any(it.does != "own" for it in groups):

@@ -13,6 +13,7 @@ from view.names.naming import Naming
 from view.model.objects import ObjectLine, contending_objects
 from view.reading.pipes import open_as_pipe
 from view.reading.engine import REPORT_STATUSES, Predator, copy_pipe
+from view.reading.filtered_traces import WHOLE
 from view.reading.reports import Report
 from view.output.screen import counted
 
@@ -299,6 +300,10 @@ def show(call: Call) -> tuple[list[str], str | None]:
     """The lines of the screen, and the page where one is asked for."""
     if "html" in call.options:
         templates()
+    if call.filtered is not None:
+        raise Fault(
+            f"{call.named} is a filtered trace, and finite caches need all accesses; {WHOLE}"
+        )
     sizes = found(call)
     return [plain(row) for it in sizes for row in rows(it)], page(
         sizes, call.named

@@ -162,7 +162,7 @@ def trial(view: View, obj: DataObject) -> Record | None:
     return {
         "before": {**numbers_of(tried.before), "bytes": before},
         "after": {**numbers_of(tried.after), "bytes": after},
-        "accesses": tried.accesses,
+        "accesses": tried.accesses if tried.own_misses_in_part is None else tried.recorded,
     }
 
 
@@ -178,7 +178,7 @@ def thing(view: View, obj: DataObject) -> Record:
         "false_sharing": obj.useless if known else None,
         "true_sharing": obj.useful if known else None,
         "invalidations": view.invalidations(obj),
-        "reported_invalidations": obj.count,
+        "reported_invalidations": view.invalidations(obj) if view.filtered else obj.count,
         "blocks": len(obj.block_ids),
         "neighbours": [view.objects_by_key[key].name for key in obj.neighbours],
         "rate": rounded(view.worth.rate(obj.useless)),
@@ -200,7 +200,7 @@ def thing(view: View, obj: DataObject) -> Record:
                 "invalidator": instruction(view, one.invalidator),
                 "victim": instruction(view, one.victim),
                 "invalidations": one.times,
-                "same_word": one.same_word_times,
+                "same_word": None if view.filtered else one.same_word_times,
                 "kind": KINDS[pair_kind(one, view.effects)],
             }
             for one in seen.conflicts()[:8]
@@ -215,13 +215,16 @@ def thing(view: View, obj: DataObject) -> Record:
 
 
 def foretold(view: View, predicted: PredictedLine) -> Record:
+    line = predicted.line
+    # (of a filtered trace these are of its own accesses alone)
+    counted = None if view.filtered else line
     return {
-        "kind": predicted.line.kind,
-        "base": address_text(predicted.line.base),
-        "size": predicted.line.size,
-        "start": predicted.line.start,
-        "invalidations": predicted.line.count,
-        "verdict": predicted.line.verdict,
+        "kind": line.kind,
+        "base": address_text(line.base),
+        "size": line.size,
+        "start": counted and counted.start,
+        "invalidations": counted and counted.count,
+        "verdict": counted and counted.verdict,
         "objects": [view.name_of(key) for key in predicted.keys],
         "false_sharing": predicted.useless,
         "observed_false_sharing": predicted.observed_useless,
@@ -248,7 +251,9 @@ def record(view: View) -> Record:
         "program": {"file": program.path, "sha256": program.sha256} if program else None,
         "outcome": report.outcome,
         "instructions": report.steps,
-        "accesses": report.accesses,
+        "accesses": view.accesses,
+        "recorded_accesses": report.accesses,
+        "filtered": view.filtered.near if view.filtered else None,
         "layout": {"size": report.size, "offset": report.offset},
         "thresholds": dict(
             zip(

@@ -204,7 +204,7 @@ def pairs(view: View, seen: ObjectDetails) -> Iterator[Given]:
             side(view, conflicting.victim, "loses the line"),
         ]
         yield {
-            "text": f"{counted(conflicting.times, 'invalidation')}, {same_words(conflicting)}",
+            "text": f"{counted(conflicting.times, 'invalidation')}{same_words(view, conflicting)}",
             "sides": sides,
         }
 
@@ -325,7 +325,10 @@ def page(view: View) -> str:
     first = chosen[:top]
     is_all = "predicted" in view.call.options
     observed, foretold = {
-        spot.base: spot for obj in view.objects for spot in obj.lines if spot.line
+        spot.base: spot
+        for obj in view.objects
+        for spot in obj.lines
+        if spot.line or view.filtered and spot.each
     }, view.chosen_predictions()
     strips = [
         strip(view, predicted, observed)
@@ -339,6 +342,7 @@ def page(view: View) -> str:
             title=title(view, chosen),
             ended_well=view.report.ended_well(),
             outcome=outcome_of(view),
+            is_filtered=view.filtered is not None,
             summary=summary(view),
             next_step=next_step(view),
             totals=totals(view) if view.misses else "",

@@ -106,7 +106,7 @@ def summary(view: View) -> str:
     """What was run, how it ended, how much it did, and under which layout and interleaving it was counted."""
     report = view.report
     name = "standard input" if view.call.named == "-" else os.path.basename(view.call.named)
-    did = [counted(report.accesses, "access")]
+    did = [counted(view.accesses, "access")]
     if report.steps:
         did.insert(0, counted(report.steps, "instruction"))
     offset = f" at offset {report.offset}" if report.offset else ""
@@ -248,13 +248,15 @@ def type_and_place(view: View, thing: DataObject, seen: ObjectDetails) -> str:
     return f": {found}" if found else ""
 
 
-def same_words(pair: InstructionPair) -> str:
-    """How often the two instructions of a pair used the same word."""
+def same_words(view: View, pair: InstructionPair) -> str:
+    """How often the two instructions of a pair used the same word; or nothing where the trace may not have the victim's last access."""
+    if view.filtered is not None:
+        return ""
     if not pair.same_word_times:
-        return "always different words"
+        return ", always different words"
     if pair.same_word_times == pair.times:
-        return "always the same word"
-    return f"{pair.same_word_times:,} of them on the same word"
+        return ", always the same word"
+    return f", {pair.same_word_times:,} of them on the same word"
 
 
 def conflict(view: View, pair: InstructionPair) -> str:
@@ -262,8 +264,8 @@ def conflict(view: View, pair: InstructionPair) -> str:
     victim, invalidator = (view.naming.instruction_name(it) for it in pair[:2])
     times = counted(pair.times, "time")
     return (
-        f"{invalidator} invalidates {victim}: {times},"
-        f" {same_words(pair)}{BY[pair_kind(pair, view.effects)]}"
+        f"{invalidator} invalidates {victim}: {times}"
+        f"{same_words(view, pair)}{BY[pair_kind(pair, view.effects)]}"
     )
 
 
@@ -414,11 +416,17 @@ def prediction(view: View, group: Sequence[PredictedLine]) -> str:
 def predictions(view: View, paint: Paint, width: int) -> Iterator[str]:
     """The predicted lines that are shown, and how many aren't."""
     found, is_all = view.chosen_predictions(), "predicted" in view.call.options
-    chosen = [it for it in found if it.is_shown or is_all]
+    # (of a filtered trace only their misses are known)
+    chosen = [
+        it
+        for it in found
+        if it.is_shown or is_all and (it.useless is not None or not view.filtered)
+    ]
     folded = len(found) - len(chosen)
     if chosen:
         yield ""
-        yield paint(BOLD, "predicted, if data were placed otherwise or lines were longer:")
+        by = " (found by the recorded accesses)" if view.filtered else ""
+        yield paint(BOLD, f"predicted, if data were placed otherwise or lines were longer{by}:")
     for group in group_predicted_lines(chosen):
         yield from fold(view.naming.names.shorten(prediction(view, group)), "   ", "      ", width)
     if folded:

@@ -11,6 +11,7 @@ from view.output.drawings import Given, curve, templates
 from view.faults import Fault, plain
 from view.reading.pipes import copy_whole
 from view.reading.engine import Predator
+from view.reading.filtered_traces import read_filter
 from view.output.screen import counted
 
 SHIFT = re.compile(r"^shift (\d+) total (\d+) lines (\d+)$", re.MULTILINE)
@@ -31,12 +32,13 @@ class Sweep:
     where none differs from it."""
 
     def __init__(self, text: str, of: str = "sweep") -> None:
-        head = re.match(r"sweep (\d+)\naccesses (\d+)\nshift ", text)
+        head = re.match(r"sweep (\d+)\naccesses (\d+)\n(?:whole (\d+)\n)?shift ", text)
         least = re.search(r"^least (\d+) total (\d+)\nend\n", text, re.MULTILINE)
         self.shifts = [Shift(*map(int, it)) for it in SHIFT.findall(text)]
         if not head or not least or not self.shifts or self.shifts[0].shift != 0:
             raise Fault(f"{of}: unexpected output of `predator sweep`")
-        self.size, self.accesses = int(head[1]), int(head[2])
+        # (of a filtered trace all accesses that the program made)
+        self.size, self.accesses = int(head[1]), int(head[3] or head[2])
         self.own = self.shifts[0]
         self.least = next((it for it in self.shifts if it.shift == int(least[1])), self.own)
         self.most = max(self.shifts, key=lambda shift: shift.total)
@@ -98,7 +100,10 @@ def sweep_of(call: Call) -> Sweep:
     with trace_of(call) as trace:
         words = [trace if it == call.subject else it for it in call.words]
         sweep = Sweep(Predator().output(["sweep", *words]))
-        sweep.look(trace)
+        filtered = read_filter(trace)
+        # (a report also looks at lines of twice the size)
+        if filtered is None or 2 * sweep.size <= filtered.near:
+            sweep.look(trace)
         return sweep
 
 

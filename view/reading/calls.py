@@ -1,13 +1,16 @@
 """The arguments of a call of view."""
 
 import difflib
+import functools
 import os
 import re
 from typing import Any, Iterable, Iterator, Sequence
 
 from view.faults import Fault
-from view.reading.file_kinds import KIND_NAMES, Action, action_for
-from view.reading.settings import ASKED, BARE, KEYS, OPTIONS, WRITTEN
+from view.reading import filtered_traces
+from view.reading.filtered_traces import Filter, read_filter
+from view.reading.file_kinds import KIND_NAMES, Action, action_for, is_report
+from view.reading.settings import ASKED, BARE, KEYS, OPTIONS, USUAL, WRITTEN
 
 USAGE = """usage: predator view run PROGRAM [options of run] [OPTIONS] [-- WORD ..]
        predator view replay TRACE [options of replay] [--program PROGRAM] [OPTIONS]
@@ -36,6 +39,8 @@ Options:
   --no-predicted     count and show no predicted lines
   --explain N        find the conflicting instructions of the first N objects (3), with one run each; 0 for none. A trace with program
                      counters names those of all objects
+  --whole            record all accesses of a program of this machine; otherwise those that change no cache are left out
+  --filtered[=N]     leave these out: lines of at most N bytes keep their counts, N a power of two (4096)
   --fine             also run a guest of more than 4,000,000 accesses at a quantum of 3, to find what is contended only there
   --no-fine          run a guest at the given quantum only
   --type SITE=TYPE   the type of the blocks of a call site, as arena.c:78=node: a type, or a pointer variable
@@ -93,13 +98,17 @@ BY, MISSES = ("false-sharing", "invalidations", "useless", "count"), ("false-sha
 LISTS = ("type", "shape")
 # Those that what counts a trace alone takes.
 ALONE = {"sweep": ("html", "top"), "caches": ("html", "shape", "top")}
-# Options of `predator native` that have no value, and those that have one.
-MARKS = ("all", "marked", "child", "built", "pcs", "no-pcs")
+# Options of `predator native` that have no value, view's own to record all accesses, and those that have a value. (`--filtered` may have
+# one behind a `=`.)
+MARKS = ("all", "marked", "child", "built", "pcs", "no-pcs", "filtered", "whole")
 RECORDS = ("--quantum", "--most", "--max-disk", "--trace", "--skip", "--for", "--windows")
 # Options of a replay that goes on from another one, which a trace of a program of this machine doesn't.
 STATES = ("--save", "--resume")
 # What view writes.
 OUTPUTS = ("html", "json", "sarif", "patch")
+# The thresholds under which the counts of a filtered trace are those of the whole one, and what `--filtered` may be.
+EXACT_THRESHOLDS = {"tracking": "1", "report": "1"}
+NEAR_BYTES = [1 << it for it in range(6, 17)]
 # How many objects the first screen shows, and how many of their lines are explained, where the call doesn't say.
 TOP, EXPLAIN = 10, 3
 
@@ -169,12 +178,76 @@ class Call:
             raise Fault(f"{where} has no option '{word}'{near and '; '}{near}\n{USAGE}")
         if self.recorder_flags and self.action != "native":
             raise Fault(f"'{self.recorder_flags[0]}' applies to native programs only")
+        self.check_filter()
         for pair in (one for value in self.option_values("--set") for one in value.split(",")):
             key, is_set, _ = pair.partition("=")
             if is_set and key not in KEYS:
                 raise Fault(
                     f"'--set {pair}': there is no setting '{key}'; {suggest_nearest(key, KEYS)}the settings are {', '.join(KEYS)}"
                 )
+
+    def check_filter(self) -> None:
+        """Refuses options of a filtered recording that exclude each other, and a size that no recorder takes."""
+        found = [it for it in self.recorder_flags if it.partition("=")[0] == "--filtered"]
+        for word in found:
+            if word.partition("=")[1] and word.partition("=")[2] not in map(str, NEAR_BYTES):
+                raise Fault(
+                    f"'--filtered' takes a power of two from {NEAR_BYTES[0]} to {NEAR_BYTES[-1]}, not"
+                    f" '{word.partition('=')[2]}'"
+                )
+            near = int(word.partition("=")[2] or filtered_traces.USUAL_NEAR)
+            size = self.option_value("--size") or ""
+            if 2 * (int(size) if size.isdigit() else USUAL["line"]) > near:
+                raise Fault(f"'{word}' takes lines of at most {near // 2} bytes: see `--size`")
+        if found and "--whole" in self.recorder_flags:
+            raise Fault("'--whole' and '--filtered' exclude each other")
+        if found and "--no-pcs" in self.recorder_flags:
+            raise Fault("'--filtered' and '--no-pcs' exclude each other: a filtered trace has pcs")
+
+    @functools.cached_property
+    def filtered(self) -> Filter | None:
+        """What the trace of a call says of itself where it is a filtered one, or none. (Of a program that is yet to be recorded this isn't
+        known.)"""
+        return read_filter(self.subject) if self.action in ("replay", *ALONE) else None
+
+    def check_filtered_trace(self, size: int) -> None:
+        """Refuses what a filtered trace can't be asked for, under lines of a size."""
+        if self.filtered is None:
+            return
+        given = self.option_values_of("--set")
+        why = ""
+        if 2 * size > self.filtered.near:
+            why = f"takes lines of at most {self.filtered.near // 2} bytes"
+        elif any(given.get(it, own) != own for it, own in EXACT_THRESHOLDS.items()):
+            why = "has no thresholds above 1"
+        elif "live" in self.options or self.options.get("by") == "count":
+            why = f"has too few accesses for '--{'live' if 'live' in self.options else 'by count'}'"
+        elif is_report(self.options.get("against", "")):
+            why = "has no thresholds, so that a kept report has other counts"
+        if why:
+            raise Fault(f"{self.named} is a filtered trace and {why}; {filtered_traces.WHOLE}")
+
+    def option_values_of(self, option: str) -> dict[str, str]:
+        """The settings that the words give by one of the program's options, a later one in the place of an earlier one."""
+        pairs = (one.partition("=") for it in self.option_values(option) for one in it.split(","))
+        return {name: value for name, _, value in pairs}
+
+    def report_words(self) -> list[str]:
+        """The words of the call for its report: of a filtered trace the thresholds under which its counts are those of the whole one."""
+        if self.filtered is None:
+            return self.words
+        given = {**self.option_values_of("--set"), **EXACT_THRESHOLDS}
+        rest: list[str] = []
+        at = 0
+        while at < len(self.words):
+            if self.words[at] == "--":
+                rest += self.words[at:]
+                break
+            width = option_width(self.words[at])
+            if self.words[at].partition("=")[0] != "--set":
+                rest += self.words[at : at + width]
+            at += width
+        return ["--set", ",".join(f"{it}={own}" for it, own in given.items()), *rest]
 
     def merge_settings(self) -> None:
         """Makes one list of the settings of several `--set`, of which a later one replaces an earlier one."""
@@ -228,11 +301,7 @@ class Call:
                         raise Fault(f"'{word}' needs a value")
                     value, at = words[at], at + 1
                 self.set_option("help" if word == "-h" else name[2:], value)
-            elif (
-                word[2:] in MARKS
-                and word[:2] == "--"
-                and not (self.action == "run" and word in BARE)
-            ):
+            elif is_mark(word) and not (self.action == "run" and word in BARE):
                 self.recorder_flags.append(word)
             elif word.startswith("-") and word != "-":
                 self.engine_options.append(word)
@@ -385,6 +454,11 @@ class Call:
                 kept += self.words[at : at + width]
             at += width
         return kept
+
+
+def is_mark(word: str) -> bool:
+    """Whether a word is an option of the recorder that has no value of its own."""
+    return word[:2] == "--" and (word[2:] in MARKS or word.startswith("--filtered="))
 
 
 def option_width(word: str) -> int:

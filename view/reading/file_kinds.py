@@ -22,7 +22,12 @@ def first_bytes(path: str) -> bytes:
 
 def has_pcs(path: str) -> bool:
     """Whether a file is a trace that has the instruction of each access."""
-    return first_bytes(path)[:8] == b"PRDTRC03"
+    return first_bytes(path)[:8] in (b"PRDTRC03", b"PRDTRC04")
+
+
+def is_report(path: str) -> bool:
+    """Whether a file is a kept report."""
+    return first_bytes(path).startswith(b"predator report ")
 
 
 def action_for(path: str) -> Action:

@@ -46,10 +46,11 @@ class Passes:
 
 
 def first_readers(
-    layout: Layout, is_blamed: bool, is_brief: bool = False
+    layout: Layout, is_blamed: bool, is_brief: bool = False, is_filtered: bool = False
 ) -> dict[str, TraceReader]:
     """What is asked of each trace, the longest first: the misses of words and of lines, each line that was ever taken, and by what. In
-    brief the last stands for the misses of words where it is known."""
+    brief the last stands for the misses of words where it is known. Of a filtered trace the report has each line already.
+    """
     asked = {
         "words": misses_reader(WORD_LAYOUT),
         "lines": misses_reader(layout),
@@ -57,6 +58,7 @@ def first_readers(
         "blame": blame_reader(layout),
     }
     left_out = {"each", "words" if is_blamed else ""} if is_brief else set()
+    left_out |= {"each"} if is_filtered else set()
     return {
         name: reader
         for name, reader in asked.items()
@@ -107,7 +109,10 @@ def start_passes(call: Call, predator: Predator | None) -> Iterator[Passes | Non
             and layout
             and predator.has_command("misses")
         ):
-            passes.begin(first_readers(layout, can_blame(call, predator), is_brief(call)).values())
+            readers = first_readers(
+                layout, can_blame(call, predator), is_brief(call), call.filtered is not None
+            )
+            passes.begin(readers.values())
         yield passes
     finally:
         passes.pool.shutdown(cancel_futures=True)

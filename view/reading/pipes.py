@@ -12,32 +12,38 @@ from view.reading.calls import Call
 from view.faults import Fault
 from view.reading import guard
 from view.reading.engine import PIECE_BYTES
+from view.reading.filtered_traces import MAGIC, is_filtered
 from view.reading.settings import ASKED
 
 FILE_OPTIONS = [it for it in ASKED if it != "--set"]
 
 
 @contextlib.contextmanager
-def open_as_pipe(path: str) -> Iterator[int]:
+def open_as_pipe(path: str, is_read_once: bool = False) -> Iterator[int]:
     """A pipe that gets what is read of a file, or of standard input, for the standard input of a program: that opens it anew, and a pipe
-    with a name may have no writer any more by then."""
+    with a name may have no writer any more by then. A filtered trace isn't read once: its counts need thresholds of 1, and its end.
+    """
     try:
         source: BinaryIO = (
             sys.stdin.buffer if path == "-" else open(path, "rb", 0)
         )  # noqa: SIM115 (the thread closes it)
     except OSError as error:
         raise Fault(f"{path}: {error.strerror}") from error
+    first = source.read(len(MAGIC)) if is_read_once else b""
+    if is_filtered(first):
+        raise Fault("a filtered trace is read several times: write it to a file")
     take, give = os.pipe()
-    threading.Thread(target=copy_to_pipe, args=(source, give), daemon=True).start()
+    threading.Thread(target=copy_to_pipe, args=(source, give, first), daemon=True).start()
     try:
         yield take
     finally:
         os.close(take)
 
 
-def copy_to_pipe(source: BinaryIO, give: int) -> None:
-    """Copies a file into a pipe, as long as that has a reader."""
+def copy_to_pipe(source: BinaryIO, give: int, first: bytes = b"") -> None:
+    """Copies a file into a pipe, behind what was read of it already, as long as that has a reader."""
     with contextlib.suppress(OSError), source, open(give, "wb", 0) as pipe:
+        pipe.write(first)
         while piece := source.read(PIECE_BYTES):
             left = memoryview(piece)
             while left:

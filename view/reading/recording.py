@@ -14,11 +14,14 @@ from view.reading.calls import EXPLAIN, RECORDS, Call
 from view.faults import Fault
 from view.reading import guard
 from view.reading.engine import Predator, launcher
+from view.reading.file_kinds import is_report
 
 # What the recorder ends with where it refuses words, files or programs.
 REFUSAL_STATUSES = (125, 126, 127)
 # How much of a disk a trace takes that is kept for the call alone.
 MAX_DISK = "2G"
+# Whether accesses that change no cache are left out where the call doesn't say.
+IS_FILTERED_BY_DEFAULT = False
 # Signals that end a program: the first two are handed on to it, and the others come to it from the terminal.
 FORWARDED_SIGNALS, TERMINAL_SIGNALS = (signal.SIGTERM, signal.SIGHUP), (
     signal.SIGINT,
@@ -51,16 +54,37 @@ def is_built(program: str) -> bool:
 
 
 def recorder_flags(call: Call) -> list[str]:
-    """The words of the recorder that have no value: those of the call, the recorder that the program is for, and that the trace is to have
-    no instructions of its accesses where these have no use."""
-    marks = dict.fromkeys(call.recorder_flags)
+    """The words of the recorder that have no value: those of the call, the recorder that the program is for, what the trace leaves out, and
+    that it is to have no instructions of its accesses where these have no use."""
+    marks = dict.fromkeys(it for it in call.recorder_flags if it != "--whole")
     if is_built(call.subject):
         marks["--built"] = None
-    if "--pcs" not in marks and not (
+    if is_filtered(call):
+        if not any(it.partition("=")[0] == "--filtered" for it in marks):
+            marks["--filtered"] = None
+    elif "--pcs" not in marks and not (
         call.number_option("explain", EXPLAIN) and Predator().has_command("blame")
     ):
         marks["--no-pcs"] = None
     return list(marks)
+
+
+def is_filtered(call: Call) -> bool:
+    """Whether a program is recorded without the accesses that change no cache: where the call wants that, and usually where nothing that it
+    asks for needs the others."""
+    names = {it.partition("=")[0] for it in call.recorder_flags}
+    if "--filtered" in names:
+        return True
+    thresholds = {"tracking", "prediction", "report"}
+    needs_all = (
+        not names.isdisjoint({"--whole", "--no-pcs"})
+        or "live" in call.options
+        or call.options.get("by") == "count"
+        or not thresholds.isdisjoint(call.option_values_of("--set"))
+        or call.option_value("--settings") is not None
+        or is_report(call.options.get("against", ""))
+    )
+    return IS_FILTERED_BY_DEFAULT and not needs_all
 
 
 @contextlib.contextmanager
@@ -179,4 +203,6 @@ def record_program(call: Call) -> Iterator[None]:
         call.recorded_quantum = int(option_value(recorder, "--quantum") or RECORDER_QUANTUM)
         call.action, call.subject, call.guest_words = "replay", trace, []
         call.words = [trace, *replay]
+        # (until now there was no trace)
+        call.__dict__.pop("filtered", None)
         yield

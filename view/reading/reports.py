@@ -297,7 +297,7 @@ class Misses:
     """What `misses` counts of a trace under one layout."""
 
     def __init__(self, text: str, of: str = "misses") -> None:
-        found = re.match(r"misses (\d+) (\d+)\naccesses (\d+)\nlines (\d+)\n", text)
+        found = re.match(r"misses (\d+) (\d+)\naccesses (\d+)\n(?:whole \d+\n)?lines (\d+)\n", text)
         total = re.search(
             r"^total cold (\d+) useful (\d+) useless (\d+)\nend\n", text, re.MULTILINE
         )
@@ -349,7 +349,8 @@ class Blame:
 
     def __init__(self, text: str, of: str = "blame") -> None:
         head = re.match(
-            r"predator blame 1\naccesses (\d+)\nlayout (\d+) (\d+)\nlines (\d+)\n", text
+            r"predator blame 1\naccesses (\d+)\n(?:whole \d+\n)?layout (\d+) (\d+)\nlines (\d+)\n",
+            text,
         )
         if not head or not re.search(r"^total takings \d+\nend\n\Z", text[-80:], re.MULTILINE):
             raise Fault(f"{of}: unexpected output of `predator blame`")

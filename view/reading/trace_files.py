@@ -10,6 +10,7 @@ from collections import Counter
 from typing import Iterator, NamedTuple
 
 from view.reading.engine import Predator
+from view.reading.filtered_traces import is_filtered, write_plain
 
 HEADER, ACCESS = 20, 8
 # The end of a part of a trace, with how many accesses it has.
@@ -70,11 +71,12 @@ def access_pieces(data: mmap.mmap) -> Iterator[tuple[int, bytes]]:
 
 class ThreadPhase:
     """How often each access is made while threads run: from the first access of another hart than the first one on, up to the last such
-    access. `front` is the first part of a long trace, a trace too, or empty."""
+    access. `front` is the first part of a long trace, a trace too, or empty, and has so many accesses.
+    """
 
     def __init__(self, data: mmap.mmap) -> None:
         self.counts: "Counter[int]" = Counter()
-        self.front = b""
+        self.front, self.front_accesses = b"", 0
         pending: "Counter[int]" = Counter()
         first, accesses, enough, step = b"", 0, 0, len(data) // (ACCESS * ENOUGH) + 1
         for at, (place, piece) in enumerate(access_pieces(data)):
@@ -101,15 +103,18 @@ class ThreadPhase:
                 self.front = data[: place + len(piece)] + PART_END.pack(
                     END, OF_PART, 0, 0, 0, 0, accesses
                 )
+                self.front_accesses = accesses
 
 
 class WordUses:
-    """Who uses which words of a trace while threads run."""
+    """Who uses which words of a trace while threads run. Where the trace is filtered these are the accesses that it has: each thread that
+    writes a word writes it there too, but not each of its bytes, nor as often."""
 
-    def __init__(self, path: str) -> None:
+    def __init__(self, path: str, is_filtered: bool = False) -> None:
         with open(path, "rb") as file, mmap.mmap(file.fileno(), 0, access=mmap.ACCESS_READ) as data:
             running = ThreadPhase(data)
-        self.front = running.front
+        self.front, self.front_accesses = running.front, running.front_accesses
+        self.is_filtered = is_filtered
         self.words: dict[int, ByHart] = {}
         self.cached: dict[int, ByHart] = {}
         for key, much in running.counts.items():
@@ -139,7 +144,11 @@ class WordUses:
         return found
 
     def is_mixed(self, word: int) -> bool:
-        """Whether harts use different bytes of a word, one of them to write."""
+        """Whether harts use different bytes of a word, one of them to write. Of a filtered trace this isn't known."""
+        return not self.is_filtered and self.may_be_mixed(word)
+
+    def may_be_mixed(self, word: int) -> bool:
+        """The same by the accesses that the trace has."""
         own = self.users_of(word).values()
         return len({it.bytes for it in own}) > 1 and any(it.writes for it in own)
 
@@ -147,12 +156,17 @@ class WordUses:
 def read_word_uses(predator: Predator, trace: str) -> WordUses | None:
     """Who uses the words of a trace, or none where it can't be read so."""
     with tempfile.TemporaryDirectory(prefix="predator-view-") as folder:
-        for at in range(3):
+        is_part = False
+        for at in range(4):
             with open(trace, "rb") as file:
                 version = file.read(8)
             if version == b"PRDTRC01":
-                return WordUses(trace)
+                return WordUses(trace, is_part)
             other = os.path.join(folder, str(at))
-            predator.quiet_output(["convert", "--", trace, other])
+            if is_filtered(version):
+                write_plain(trace, other)
+                is_part = True
+            else:
+                predator.quiet_output(["convert", "--", trace, other])
             trace = other
     return None

@@ -21,6 +21,7 @@ ACCESS_PATTERNS = {
     b"PRDTRC01": rb"[\1\2].{7}",
     b"PRDTRC02": _TAG + _NUMBER,
     b"PRDTRC03": _TAG + _NUMBER + _NUMBER,
+    b"PRDTRC04": _TAG + _NUMBER + _NUMBER,
 }
 
 

@@ -52,6 +52,7 @@ class Trial:
         subject: Subject | None = None,
         uses: WordUses | None = None,
         own_misses_in_part: int | None = None,
+        recorded: int | None = None,
     ) -> None:
         self.thing, self.before, self.accesses, self.subject, self.uses = (
             thing,
@@ -61,6 +62,8 @@ class Trial:
             uses,
         )
         self.own_misses_in_part = own_misses_in_part
+        # (how many of the accesses the trace has: all, unless it is filtered)
+        self.recorded = accesses if recorded is None else recorded
         self.cached_mixed_words: list[int] | None = None
         # The best repair, the best one of another kind, all words apart by their threads, and what each of them comes to.
         self.repair: Repair | None = None
@@ -85,7 +88,10 @@ class Trial:
 
     def part_text(self) -> str:
         """The part of the trace that was counted, where it isn't the whole."""
-        return "" if self.own_misses_in_part is None else f" (first {self.accesses:,} accesses)"
+        if self.own_misses_in_part is None:
+            return ""
+        which = "recorded " if self.recorded != self.accesses else ""
+        return f" (first {self.recorded:,} {which}accesses)"
 
     def is_rare(self) -> bool:
         """Whether the object is missed so seldom that no repair is worth anything."""

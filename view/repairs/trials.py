@@ -14,8 +14,10 @@ from view.repairs import advice
 from view.model.trace_uses import UsesFuture, can_move, read_uses, read_uses_once
 from view.model.byte_sharing import SharingMisses, convert_to_version_1, count_by_bytes
 from view.reading.byte_traces import MAX_ACCESSES, Occupied, write_moved_bytes
+from view.reading.filtered_traces import MOVED_NEAR
 from view.reading.trace_prefix import write_prefix
 from view.names.fields import value_or_default
+from view.repairs.far_parts import FAR_LAYOUTS, keep_far_apart
 from view.repairs.layouts import MovedRange, round_up
 from view.model.view import View
 from view.model.objects import DataObject
@@ -76,18 +78,31 @@ class TrialRunner:
         self.lock, self.plain_traces, self.byte_accesses = threading.Lock(), dict[str, str](), 0
         # (whether layouts by bytes were left out)
         self.is_full = False
+        # Of a filtered trace what it says of itself, and how many layouts brought data together that were far from each other.
+        self.filtered, self.far_layouts = view.filtered, 0
         # (whether the trace is the one whose misses the view shows)
         self.is_whole = trace == view.call.trace_file()
         if view.misses is not None:
             self.note_front(view.misses)
 
-    def set_front(self, front: str | bytes) -> None:
+    def set_front(self, front: str) -> None:
         """Names the first part of a long trace."""
-        self.front = front if isinstance(front, str) else os.path.join(self.folder, "front")
-        if isinstance(front, bytes):
-            with open(self.front, "wb") as part:
-                part.write(front)
+        self.front = front
         self.note_front(self.misses_of(self.front))
+
+    def write_front(self, uses: WordUses) -> None:
+        """Writes the first part of a long trace, in the version of that."""
+        front = os.path.join(self.folder, "front")
+        if self.filtered is not None:
+            write_prefix(self.trace, uses.front_accesses, front)
+        else:
+            with open(front, "wb") as part:
+                part.write(uses.front)
+        self.set_front(front)
+
+    def can_count(self, size: int) -> bool:
+        """Whether lines of a size can be counted once words have moved."""
+        return self.filtered is None or size <= min(self.filtered.near, MOVED_NEAR)
 
     def note_front(self, misses: Misses) -> None:
         self.cold = misses.total["cold"]
@@ -99,18 +114,26 @@ class TrialRunner:
     def read_moved(
         self, trace: str, repair: Repair, readers: Sequence[TraceReader]
     ) -> list[PassResult] | None:
-        """The counts of a trace whose words lie where a repair would put them; none if there is no room."""
+        """The counts of a trace whose words lie where a repair would put them; none if there is no room, or a filtered trace can't say."""
         of_table = os.path.join(self.folder, f"table-{next(self.moves)}")
+        parts, room = repair.parts, repair.room
+        if self.filtered is not None and not repair.is_in_place:
+            parts, room = keep_far_apart(parts, room, self.layout[0])
+        is_far = False
         for base in (
             [0]
             if repair.is_in_place
-            else itertools.islice(free_places(self.words, repair.room), MAX_PLACES)
+            else itertools.islice(free_places(self.words, room), MAX_PLACES)
         ):
             with open(of_table, "w", encoding="ascii") as file:
-                file.write(move_table(repair.parts, base))
+                file.write(move_table(parts, base))
             # (where an access uses what isn't known to be used, another place is tried)
-            with contextlib.suppress(Refused):
+            try:
                 return self.predator.read_moved_trace(trace, of_table, readers)
+            except Refused as refused:
+                is_far = is_far or " table Far " in str(refused)
+        with self.lock:
+            self.far_layouts += is_far
         return None
 
     def plain(self, trace: str) -> str:
@@ -169,6 +192,10 @@ class TrialRunner:
         """Whether a repair may be counted: few are by bytes in a long trace."""
         if not repair.is_bytewise:
             return True
+        if self.filtered is not None:
+            # (it has each word of a thread, but not each byte)
+            self.is_full = True
+            return False
         self.byte_accesses += self.accesses(self.front)
         self.is_full = self.is_full or self.byte_accesses > MAX_BYTE_ACCESSES
         return not self.is_full
@@ -176,11 +203,11 @@ class TrialRunner:
     def count_whole(self, repair: Repair) -> TrialCount | None:
         """What a repair comes to in the whole trace, or none. Lines whose misses are counted by bytes are so again."""
         size, shift = self.layout
-        readers = [
-            misses_reader(self.layout),
-            every_line_reader(self.layout),
-            misses_reader((2 * size, shift)),
-        ]
+        readers = [misses_reader(self.layout)]
+        if self.can_count(2 * size):
+            readers += [every_line_reader(self.layout), misses_reader((2 * size, shift))]
+        if repair.is_bytewise and self.filtered is not None:
+            return None
         left = [it for it in self.view.byte_changes if is_moved(repair, it, self.layout[0])]
         if (repair.is_bytewise or left) and self.is_long():
             return None
@@ -208,9 +235,11 @@ class TrialRunner:
         if self.is_whole:
             total["useless"] += sum(changes)
             total["useful"] -= sum(changes)
+        if len(found) == 1:
+            return TrialCount(total, None)
         return TrialCount(
             total,
-            sum(it.count for it in cast(Report, found[1]).observed()),
+            total_invalidations(cast(Report, found[1])),
             cast(Misses, found[2]).total["useless"],
         )
 
@@ -233,13 +262,15 @@ def cost_of(misses: Misses, cold: int) -> int:
 
 
 class TrialGround(NamedTuple):
-    """What repairs are tried on: a trace or its first part, who uses its words, and its misses; `in_part` are those of the part, and none
-    where it is the whole."""
+    """What repairs are tried on: a trace or its first part, who uses its words, its misses, how many accesses the program made meanwhile
+    and how many of them it has; `in_part` are the misses of the part, and none where it is the whole.
+    """
 
     trial: TrialRunner
     uses: WordUses
     before: TrialCount
     accesses: int
+    recorded: int
     in_part: Misses | None = None
 
     def trial_of(self, thing: DataObject, subject: Subject) -> Trial:
@@ -251,7 +282,7 @@ class TrialGround(NamedTuple):
                 if spot.base in self.in_part.lines
             ]
             own = sum(it.useless + it.useful for it in there)
-        return Trial(thing, self.before, self.accesses, subject, self.uses, own)
+        return Trial(thing, self.before, self.accesses, subject, self.uses, own, self.recorded)
 
 
 def whole_ground(
@@ -262,8 +293,8 @@ def whole_ground(
         return None
     trial = TrialRunner(view, predator, trace, folder)
     if uses.front:
-        trial.set_front(uses.front)
-    return TrialGround(trial, uses, count_before(view), view.report.accesses)
+        trial.write_front(uses)
+    return TrialGround(trial, uses, count_before(view), view.accesses, view.report.accesses)
 
 
 def part_ground(
@@ -273,7 +304,8 @@ def part_ground(
     trace = view.call.trace_file()
     if trace is None or not can_move(view, predator):
         return None
-    start = max((line.start for it in things if (line := it.worst_line().line)), default=0)
+    worst = (it.worst_line().line_with_words() for it in things)
+    start = max((line.start for line in worst if line), default=0)
     part, front = (os.path.join(folder, it) for it in ("part", "first"))
     accesses = write_prefix(trace, start + PART_ACCESSES, part)
     write_prefix(part, start + FRONT_ACCESSES, front)
@@ -289,6 +321,8 @@ def part_ground(
         trial,
         uses,
         TrialCount(found.total, total_invalidations(cast(Report, each))),
+        # (of a filtered trace as many were left out of this part as elsewhere)
+        accesses * view.accesses // max(view.report.accesses, 1),
         accesses,
         found,
     )
@@ -311,7 +345,7 @@ def try_objects(
     if predator is None or view.misses is None:
         return
     before = count_before(view)
-    tried = {it.key: Trial(it, before, view.report.accesses) for it in things}
+    tried = {it.key: Trial(it, before, view.accesses) for it in things}
     worth = [it for it in things if not tried[it.key].is_rare() and is_worth_trying(it, before)][
         :MAX_TRIED_OBJECTS
     ]
@@ -327,7 +361,13 @@ def try_objects(
             return
         view.trials = tried
         found, wrappers = [], dict[str, tuple[object, ...]]()
-        for thing in worth[: max(ACCESS_BUDGET // max(ground.accesses, 1), 1)]:
+        if not ground.trial.can_count(view.report.size):
+            view.notes.append(
+                f"no fixes were tried: on a filtered trace they need lines of at most {MOVED_NEAR} bytes;"
+                " --whole records all accesses"
+            )
+            return
+        for thing in worth[: max(ACCESS_BUDGET // max(ground.recorded, 1), 1)]:
             subject = value_or_default(
                 functools.partial(subject_of, view, thing, ground.uses, wrappers), None
             )
@@ -356,11 +396,14 @@ def choose_repair(
             functools.partial(bytewise_fix, subject, uses, line), "give each its own line"
         )
     subjects = [subject, *subject.neighbours]
+    trial.far_layouts = 0
     result = Search(subjects, uses, line, trial.before, trial.count_fronts).run()
     found.repair, found.other_repair, found.bound_repair = result.best, result.other, result.bound
     found.tried_repairs, found.left_out = result.layouts, [*subject.left_out, *result.left_out]
     if trial.is_full:
         found.left_out.append("layouts by bytes")
+    if trial.far_layouts:
+        found.left_out.append(FAR_LAYOUTS)
     found.expected_savings = (
         (trial.before - result.misses) * found.before.all_misses() // max(trial.before, 1)
         if result.best
@@ -386,6 +429,9 @@ def count_repairs(trial: TrialRunner, found: Sequence[Trial]) -> TrialCount | No
         counts = list(pool.map(lambda job: trial.count_whole(job) if job else None, jobs))
     for at, result in enumerate(found):
         result.after, result.other, result.bound = counts[3 * at : 3 * at + 3]
+        is_far = trial.filtered and (result.repair and not result.after or not result.bound)
+        if is_far and FAR_LAYOUTS not in result.left_out:
+            result.left_out.append(FAR_LAYOUTS)
     saving = [it for it in found if it.is_saving()]
     if len(saving) < 2 or saving == likely:
         return counts[-1] if len(saving) > 1 else None

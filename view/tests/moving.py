@@ -11,6 +11,7 @@ from bisect import bisect_right
 HERE = os.path.dirname(os.path.abspath(__file__))
 sys.path.insert(0, os.path.join(HERE, "..", "..", "tools"))
 
+import filtered  # noqa: E402
 import traces  # noqa: E402
 
 # The status of a fault of the table, and that of words that can't be.
@@ -95,8 +96,8 @@ def spelled(version, tag, access, before, pcs):
     return found
 
 
-def moved(trace, table):
-    """The moved trace, piece by piece, each with whether it is an access and was moved."""
+def moved(trace, table, found=None):
+    """The moved trace, piece by piece, each with whether it is an access and was moved; `found` is what a filtered one says of itself."""
     version, before, pcs, end = int(trace[6:8]), 0, {}, 20
     yield trace[:20], None
     for begin, end, it in traces.located_records(trace):
@@ -107,6 +108,8 @@ def moved(trace, table):
         if to is None and table.is_place(it.addr):
             raise Refused(f"table Occupied {it.addr:#010x}")
         access = it if to is None else it._replace(addr=to)
+        if found and filtered.is_far(it.addr, access.addr, table.ranges, found.k):
+            raise Refused(f"table Far {it.addr:#010x}")
         yield spelled(version, (trace[begin], trace[end - 1]), access, before, pcs), to is not None
         before = access.addr
     yield trace[end:], None
@@ -123,12 +126,16 @@ def move(names):
         table = Table(table_of(file.read()))
     with sys.stdin.buffer if name == "-" else open(name, "rb") as file:
         trace = file.read()
+    found = filtered.Filtered(trace) if trace[:8] == filtered.MAGIC else None
     accesses = count = 0
+    pieces = []
+    for piece, is_moved in moved(found.plain if found else trace, table, found):
+        pieces.append(piece)
+        accesses += is_moved is not None
+        count += bool(is_moved)
+    whole = b"".join(pieces)
     with open(out, "wb") as file:
-        for piece, is_moved in moved(trace, table):
-            file.write(piece)
-            accesses += is_moved is not None
-            count += bool(is_moved)
+        file.write(filtered.plain_as_filtered(whole, found.k, found.whole) if found else whole)
     return f"move {accesses} {count}"
 
 

@@ -1,8 +1,8 @@
 #!/usr/bin/python3
 """Stands for the proved program in the tests of view, where that isn't built: `run`, `replay`, `misses`, `explain`, `sweep` and `check`
 of small programs and traces, by machine.py and the judges of tools/. STAND_IN_LACKS names commands that it hasn't, and `pipes` if it
-reads none; with `move` in STAND_IN_HAS it has that too. STAND_IN_PUTS is what a program puts out, and STAND_IN_SAYS what each run says on
-standard error beside it."""
+reads none; with `move` in STAND_IN_HAS it has that too, and `convert`. STAND_IN_PUTS is what a program puts out, and STAND_IN_SAYS what
+each run says on standard error beside it."""
 
 import os
 import struct
@@ -13,6 +13,7 @@ HERE = os.path.dirname(os.path.abspath(__file__))
 sys.path[:0] = [HERE, os.path.join(HERE, "..", "..", "tools")]
 
 import bounded  # noqa: E402
+import filtered  # noqa: E402
 import judge_report  # noqa: E402
 import moving  # noqa: E402
 import recount_blame  # noqa: E402
@@ -41,6 +42,7 @@ USAGE = {
     "explain": "PROGRAM BASE SIZE START [--settings F] [--schedule F]",
     "place": "TRACE NAME [--size N]",
     "move": "TRACE TABLE FILE",
+    "convert": "TRACE FILE",
     "sweep": "TRACE --size N",
     "caches": "TRACE --size N --sets S --ways W",
 }
@@ -82,6 +84,37 @@ def read(name):
         return sys.stdin.buffer.read()
     with open(name, "rb") as file:
         return file.read()
+
+
+def read_trace(command, words, options):
+    """A trace as one of a version below 4, and what it said of itself where it was a filtered one, or none."""
+    trace = read(words[0])
+    if trace[:8] != filtered.MAGIC:
+        return trace, None
+    found = filtered.Filtered(trace)
+    found.check(command, int(options.get("--size", 64)), options)
+    return found.plain, found
+
+
+def told_of(found, lines):
+    return lines if found is None else list(found.with_whole(lines))
+
+
+def convert(names):
+    """As version 1, where the command writes version 2 of version 1."""
+    trace = read_trace("convert", names, {})[0]
+    parts, place = [b"PRDTRC01" + trace[8:20]], 20
+    for begin, place, it in traces.located_records(trace):
+        is_access = isinstance(it, traces.Access)
+        size = trace[begin] & 15
+        parts.append(
+            struct.pack("<BHIB", 1 + it.writes, it.hart, it.addr, size)
+            if is_access
+            else trace[begin:place]
+        )
+    with open(names[1], "wb") as file:
+        file.write(b"".join((*parts, trace[place:])))
+    return "convert"
 
 
 def case_of(trace, settings, options):
@@ -220,30 +253,35 @@ def explain(names, options):
 
 
 def replay(names, options):
-    return judge_report.report_text(case_of(read(names[0]), settings_of(options), options))
+    trace = read_trace("replay", names, options)[0]
+    return judge_report.report_text(case_of(trace, settings_of(options), options))
 
 
 def misses(names, options):
-    return recount_misses.misses_text(
-        read(names[0]), int(options.get("--size", 64)), int(options.get("--shift", 0))
+    trace, found = read_trace("misses", names, options)
+    return told_of(
+        found,
+        recount_misses.misses_text(
+            trace, int(options.get("--size", 64)), int(options.get("--shift", 0))
+        ),
     )
 
 
 def blame(names, options):
+    trace, found = read_trace("blame", names, options)
     lines = list(
         recount_blame.blame_text(
-            read(names[0]), int(options.get("--size", 64)), int(options.get("--shift", 0))
+            trace, int(options.get("--size", 64)), int(options.get("--shift", 0))
         )
     )
     if lines[0].startswith("predator: "):
         raise LookupError(lines[0])
-    return lines
+    return told_of(found, lines)
 
 
 def place(names, options):
-    lines = recount_place.place_text(
-        read(names[0]), names[1].encode(), int(options.get("--size", 64))
-    )
+    trace = read_trace("place", names, options)[0]
+    lines = recount_place.place_text(trace, names[1].encode(), int(options.get("--size", 64)))
     if lines[0].startswith("predator: "):
         raise LookupError(lines[0])
     return lines
@@ -252,9 +290,9 @@ def place(names, options):
 def sweep(names, options):
     """By the definition: of each shift the writes behind a line's first one that find it in the cache of another hart."""
     size = int(options["--size"])
+    trace, found = read_trace("sweep", names, options)
     accesses = [
-        (it[0], it[2], it[1])
-        for it in case_of(read(names[0]), settings_of(options), options).accesses
+        (it[0], it[2], it[1]) for it in case_of(trace, settings_of(options), options).accesses
     ]
     totals = []
     for shift in range(0, size, 4):
@@ -268,13 +306,14 @@ def sweep(names, options):
                 taken.setdefault(line, 0)
             held[line] = {hart} if writes else held.get(line, set()) | {hart}
         totals.append((sum(taken.values()), shift, sum(map(bool, taken.values()))))
-    yield from (f"sweep {size}", f"accesses {len(accesses)}")
+    yield from told_of(found, [f"sweep {size}", f"accesses {len(accesses)}"])
     yield from (f"shift {shift} total {total} lines {lines}" for total, shift, lines in totals)
     yield from ("least {1} total {0}".format(*min(totals)), "end")
 
 
 def caches(names, options):
-    accesses = case_of(read(names[0]), settings_of(options), options).accesses
+    trace = read_trace("caches", names, options)[0]
+    accesses = case_of(trace, settings_of(options), options).accesses
     return bounded.told(
         [(it[0], it[2], it[1]) for it in accesses],
         *(int(options[it]) for it in ("--size", "--sets", "--ways")),
@@ -285,7 +324,7 @@ def main(words):
     known = {
         name: told
         for name, told in USAGE.items()
-        if name not in LACKS and (name != "move" or HAS_MOVE)
+        if name not in LACKS and (name not in ("move", "convert") or HAS_MOVE)
     }
     works = {
         it.__name__: it for it in (run, replay, check, misses, blame, explain, place, sweep, caches)
@@ -296,9 +335,15 @@ def main(words):
     if words[0] == "move":
         return moving.told(words_of(words[1:])[0])
     try:
-        lines = list(works[words[0]](*words_of(words[1:])))
+        if words[0] == "convert":
+            lines = [convert(words_of(words[1:])[0])]
+        else:
+            lines = list(works[words[0]](*words_of(words[1:])))
     except UnicodeEncodeError:
         return 1
+    except filtered.Refused as fault:
+        print(f"predator: {fault}")
+        return filtered.OF_TRACE
     except OSError:
         print("predator: read fault")
         return 7
