@@ -119,7 +119,7 @@ place_bounded rows d is =
     (λ n given. option_and_then_some size_at (number_or 64 (first_of (codes "size") rows)) n given
     (λ m _ taken. passed is_line_size m n taken)) d last))
 
-from_6_to_16 : ℕ → Bool
+abbrev from_6_to_16 : ℕ → Bool
 from_6_to_16 k = nat_le 6 k && nat_le k 16
 
 near_bounded : (n k : ℕ) → near_at n ≡ Some k → (6 ≤ k) × (k ≤ 16)
