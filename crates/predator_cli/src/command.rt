@@ -101,19 +101,19 @@ fn obey_words<S: Shelf>(alloc: Global, words: &[String], shelf: &mut S) -> Statu
 /// its end and judge it, and write under their names as they read it again. `move` reads a table of
 /// at most 1 MiB, of ranges and their places, and writes a trace with its accesses moved so as it
 /// reads that once; it prints how many accesses there are and how many are moved. Its status is
-/// `Table` where the table is refused, and `Occupied` where no range has the address of an access
-/// and a place has. `sweep`, `caches`,
-/// `misses` and `blame` pass over a whole trace: `sweep` prints what every shift of a line size
-/// counts, `caches` how many of each line's invalidations are left in private caches of a shape,
-/// `misses` what the sharing of each of its lines costs, and `blame` which instructions and which
-/// harts took each of its lines from each other. `blame` needs the pc of each access: its status
-/// is `NoPcs` exactly where the first 8 bytes are the magic of version 1 or 2, whatever is behind
-/// them. `place` reads a whole trace three times: for the object that it is asked about, for who
-/// touches its words, and for what the accesses come to with each word at a new place. It prints
-/// these places; its status is `Place` where there is no such object, where it is too large, or
-/// where the addresses have no room for the new places. `explain` makes the run that `run` makes
-/// of the same files, with an eye on one line, and ends as it does; it writes no file and prints
-/// which instructions and which harts took the line from each other.
+/// `Table` where the table is refused, `Occupied` where no range has the address of an access and a
+/// place has, and `Far` where the trace is filtered and a place brings a byte near an access that
+/// wasn't near it. `sweep`, `caches`, `misses` and `blame` pass over a whole trace: `sweep` prints
+/// what every shift of a line size counts, `caches` how many of each line's invalidations are left
+/// in private caches of a shape, `misses` what the sharing of each of its lines costs, and `blame`
+/// which instructions and which harts took each of its lines from each other. `blame` needs the pc
+/// of each access: its status is `NoPcs` exactly where the first 8 bytes are the magic of version 1
+/// or 2, whatever is behind them. `place` reads a whole trace three times: for the object that it
+/// is asked about, for who touches its words, and for what the accesses come to with each word at a
+/// new place. It prints these places; its status is `Place` where there is no such object, where it
+/// is too large, or where the addresses have no room for the new places. `explain` makes the run
+/// that `run` makes of the same files, with an eye on one line, and ends as it does; it writes no
+/// file and prints which instructions and which harts took the line from each other.
 pub fn predator<S: Shelf>(alloc: Global, words: &[String], shelf: &mut S) -> Status
     // It ends as the words and the files ask, or by a fault of the outside before which nothing is
     // refused: for the files that are told still, so on a disk for all contents that agree with
