@@ -301,6 +301,11 @@ LINES = {
 FILES: dict[str, bytes] = {
     "table": b"0 4 0xfffffffc\n",
     "way": b"0x1000 4 0x1004\n",
+    "beside": b"0x10c0 4 0x1040\n",
+    # two harts in words that aren't near, under regions of 64 bytes
+    "filtered": struct.pack("<8sQHH", b"PRDTRC04", 0, 8, 6)
+    + bytes.fromhex("240080400014018003 00")
+    + struct.pack("<B16xQQ", 6, 2, 4),
     "t": trace(symbol(8, b"pair") + write(0x1000) + write(0x1004, 1), 2),
     "p": program(),
     "rest": trace(b"", 0, first=1),
@@ -363,6 +368,12 @@ def list_faults() -> Iterator[Fault]:
         "move them elsewhere, or add a line for this address"
     )
     yield ["move", "t", "way", "a"], 14, "table Occupied 0x00001004", occupied
+    far = (
+        "filtered: the trace is filtered, and a range would move near an access at this address"
+        " from memory that was not near it: record the whole trace, or filter it with a larger"
+        " --near"
+    )
+    yield ["move", "filtered", "beside", "a"], 14, "table Far 0x00001000", far
     for name in ("t", "second"):
         yield ["blame", name], 5, "trace NoPcs", f"{name}: {NO_PCS}"
     needed = (

@@ -97,6 +97,10 @@ table_text table.NoMemory = codes "NoMemory"
 abbrev pub occupied_text : ℕ → List ℕ
 occupied_text addr = codes "Occupied " ++ address_text (pos addr)
 
+-- an access that a place comes near from far has its address too
+abbrev pub far_text : ℕ → List ℕ
+far_text addr = codes "Far " ++ address_text (pos addr)
+
 abbrev pub fault_text : Status → List ℕ
 fault_text status.Done = []
 fault_text status.Usage = usage_text
@@ -117,3 +121,4 @@ fault_text status.Trapped = []
 fault_text (status.Place refused) = line (codes "predator: place " ++ place_text refused)
 fault_text (status.Table fault) = line (codes "predator: table " ++ table_text fault)
 fault_text (status.Occupied addr) = line (codes "predator: table " ++ occupied_text addr)
+fault_text (status.Far addr) = line (codes "predator: table " ++ far_text addr)

@@ -33,6 +33,7 @@ refused_name files trace status.NoPcs = trace
 refused_name files trace status.Filtered = trace
 refused_name files trace status.TooWide = trace
 refused_name files trace (status.Occupied addr) = trace
+refused_name files trace (status.Far addr) = trace
 refused_name files trace (status.State fault) =
     if is_of_trace fault then trace else option_copied files.state
 refused_name files trace other = None

@@ -23,3 +23,4 @@ number_of status.Trapped = 12
 number_of (status.Place refusal) = 13
 number_of (status.Table fault) = 14
 number_of (status.Occupied addr) = 14
+number_of (status.Far addr) = 14

@@ -49,6 +49,7 @@ kind_of status.Trapped = done
 kind_of (status.Place refused) = refusal
 kind_of (status.Table fault) = refusal
 kind_of (status.Occupied addr) = refusal
+kind_of (status.Far addr) = refusal
 
 -- ---- lower faults: want of memory is a status of its own, whoever wanted it
 

@@ -8,7 +8,7 @@ use crate::schedule_faults::schedule_advice;
 use crate::settings_faults::settings_advice;
 use crate::state_faults::state_advice;
 use crate::status::Status;
-use crate::table_faults::{OCCUPIED_ADVICE, table_advice};
+use crate::table_faults::{FAR_ADVICE, OCCUPIED_ADVICE, table_advice};
 use crate::trace_faults::{
     FILTERED_ADVICE, NO_PCS_ADVICE, TOO_WIDE_ADVICE, replay_advice, trace_advice,
 };
@@ -46,6 +46,7 @@ pub fn advice_on(
         Status::Place(refusal) => String::from_str(alloc, place_advice(*refusal))?,
         Status::Table(fault) => table_advice(alloc, *fault)?,
         Status::Occupied(_) => String::from_str(alloc, OCCUPIED_ADVICE)?,
+        Status::Far(_) => String::from_str(alloc, FAR_ADVICE)?,
         Status::Budget => String::from_str(alloc, BUDGET)?,
         Status::Deadlock => String::from_str(alloc, DEADLOCK)?,
         Status::Trapped => String::from_str(alloc, TRAPPED)?,

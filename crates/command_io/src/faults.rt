@@ -10,7 +10,7 @@ use crate::schedule_faults::schedule_name;
 use crate::settings_faults::settings_name;
 use crate::state_faults::state_name;
 use crate::status::Status;
-use crate::table_faults::{occupied_name, table_name};
+use crate::table_faults::{far_name, occupied_name, table_name};
 use crate::trace_faults::trace_name;
 use command_line::USAGE;
 use std::alloc::{AllocError, Global};
@@ -69,6 +69,10 @@ pub fn fault_line(alloc: Global, status: &Status) -> Result<String, AllocError>
         }
         Status::Occupied(addr) => {
             let name = occupied_name(alloc, *addr)?;
+            line_of(alloc, "table", name.as_str())
+        }
+        Status::Far(addr) => {
+            let name = far_name(alloc, *addr)?;
             line_of(alloc, "table", name.as_str())
         }
         Status::ReadFault => String::from_str(alloc, READ_FAULT_LINE),

@@ -65,6 +65,7 @@ fn name_refused<'a>(
         | Status::Filtered
         | Status::TooWide
         | Status::Occupied(_)
+        | Status::Far(_)
         | Status::State(StateFault::WrongSettings(HARTS) | StateFault::WrongPosition { .. }) => {
             trace
         }

@@ -74,6 +74,9 @@ pub enum Status {
     Table(TableFault),
     /// The access of this address is in no range of the table of moves, and lies in a place of it.
     Occupied(u32),
+    /// The trace is filtered, and the table of moves brings a byte near the access of this address
+    /// that wasn't near it before.
+    Far(u32),
 }
 
 impl Status {
@@ -96,7 +99,7 @@ impl Status {
             Status::Deadlock => 11,
             Status::Trapped => 12,
             Status::Place(_) => 13,
-            Status::Table(_) | Status::Occupied(_) => 14,
+            Status::Table(_) | Status::Occupied(_) | Status::Far(_) => 14,
         }
     }
 }

@@ -1,6 +1,6 @@
 // The faults of a table of moves: what each is called, and what is said of it.
 ghost use Rattle.std.specs.Prelude.{◌≡◌, IfOk, string_bytes};
-ghost use Rattle.command_io.specs.Faults.{occupied_text, table_text};
+ghost use Rattle.command_io.specs.Faults.{far_text, occupied_text, table_text};
 
 use base::push_address;
 use std::alloc::{AllocError, Global};
@@ -10,6 +10,11 @@ use trace_files::TableFault;
 pub const OCCUPIED_ADVICE: &str =
     "an access at this address stays, and other accesses would move to it: move them elsewhere, or \
      add a line for this address";
+
+/// What to do about an access of a filtered trace that others would come near.
+pub const FAR_ADVICE: &str =
+    "the trace is filtered, and a range would move near an access at this address from memory that \
+     was not near it: record the whole trace, or filter it with a larger --near";
 
 // What a fault of the table is called.
 pub fn table_name(alloc: Global, fault: TableFault) -> Result<String, AllocError>
@@ -28,6 +33,15 @@ pub fn occupied_name(alloc: Global, addr: u32) -> Result<String, AllocError>
     ensures { IfOk result (λ text. string_bytes text ≡ occupied_text addr) }
 {
     let mut text = String::from_str(alloc, "Occupied ")?;
+    push_address(&mut text, u64::from(addr))?;
+    Ok(text)
+}
+
+// What an access is called that a place comes near from far.
+pub fn far_name(alloc: Global, addr: u32) -> Result<String, AllocError>
+    ensures { IfOk result (λ text. string_bytes text ≡ far_text addr) }
+{
+    let mut text = String::from_str(alloc, "Far ")?;
     push_address(&mut text, u64::from(addr))?;
     Ok(text)
 }

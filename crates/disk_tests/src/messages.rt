@@ -199,7 +199,7 @@ fn the_wrong_word_is_named(rt: HostRuntime) -> Result<(), Fail> {
     Ok(())
 }
 
-const ADVICE: [(Status, &str); 15] = [
+const ADVICE: [(Status, &str); 16] = [
     (
         Status::Elf(ElfFault::BadFlags),
         "the program uses compressed instructions, floating-point registers or RV32E registers: \
@@ -270,6 +270,11 @@ const ADVICE: [(Status, &str); 15] = [
         Status::Occupied(0x1000),
         "an access at this address stays, and other accesses would move to it: move them \
             elsewhere, or add a line for this address",
+    ),
+    (
+        Status::Far(0x1000),
+        "the trace is filtered, and a range would move near an access at this address from memory \
+            that was not near it: record the whole trace, or filter it with a larger --near",
     ),
 ];
 

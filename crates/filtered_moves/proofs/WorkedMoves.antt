@@ -7,7 +7,7 @@ use Rattle.std.specs.Prelude.{IsTrue}
 use Rattle.base.specs.Touch.{Touch}
 use Rattle.base.specs.declared.access.Kind.TheVariants.{Read, Write}
 use Rattle.sharing_rules.specs.Filtered.{filtered, is_near}
-use Rattle.filtered_moves.specs.NearMoves.{IsNearFor, IsNearTable, origin}
+use Rattle.trace_files.specs.NearMoves.{IsNearFor, IsNearTable, origin}
 use Rattle.trace_files.specs.Moves.{is_in_place, moved_addr, moved_list}
 use Rattle.trace_files.specs.declared.move_row.Move.{Move}
 

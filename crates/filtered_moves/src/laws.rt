@@ -10,7 +10,8 @@ ghost use Rattle.trace_files.specs.Tables.{IsTable};
 ghost use Rattle.trace_files.specs.declared.move_row.Move.{Move};
 ghost use Rattle.filtered_counts.specs.SameCounts.{IsWithin, SameCounts};
 ghost use Rattle.filtered_counts.specs.SameHarts.{IsSitedWithoutRedundant, SameHarts};
-ghost use Rattle.filtered_moves.specs.NearMoves.{IsNearTable, moved_near, moved_sited};
+ghost use Rattle.trace_files.specs.NearMoves.{IsNearTable, moved_near};
+ghost use Rattle.filtered_moves.specs.MovedSites.{moved_sited};
 
 /// By a near table the moved list of a list without redundant accesses is the moved list of the
 /// whole one without redundant accesses, and has its counts.

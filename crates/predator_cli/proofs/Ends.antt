@@ -113,6 +113,7 @@ no_memory_hidden status.Trapped kind = refl
 no_memory_hidden (status.Place refused) kind = refl
 no_memory_hidden (status.Table fault) kind = let k : refusal ≡ done = kind in cc
 no_memory_hidden (status.Occupied addr) kind = refl
+no_memory_hidden (status.Far addr) kind = refl
 
 no_usage : (s : Status) → kind_of s ≡ done → s ≡ status.Usage → ⊥
 no_usage s kind u = let k : kind_of status.Usage ≡ done = ap kind_of (sym u) ∙ kind in cc
@@ -457,4 +458,7 @@ stopped_faulty demand a b (status.Table fault) stopped = file_faulty demand a b
     stopped.why.0 stopped.why.1 stopped.only
 stopped_faulty demand a b (status.Occupied addr) stopped = file_faulty demand a b
     (status.Occupied addr) refl stopped.words stopped.memory
+    stopped.why.0 stopped.why.1 stopped.only
+stopped_faulty demand a b (status.Far addr) stopped = file_faulty demand a b
+    (status.Far addr) refl stopped.words stopped.memory
     stopped.why.0 stopped.why.1 stopped.only

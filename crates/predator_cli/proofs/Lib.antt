@@ -14,6 +14,7 @@ pub mod GoodLaws
 pub mod ListedCounts
 pub mod Manners
 pub mod MoveEnds
+pub mod MovedLists
 pub mod OnDiskLaws
 pub mod PartLaws
 pub mod PlaceApart

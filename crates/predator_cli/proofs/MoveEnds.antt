@@ -13,19 +13,19 @@ use Rattle.shelf.specs.Files.{AreWhole, BegunInOrder, Output, bytes_for, one_fil
 use Rattle.shelf.specs.Laws.Files.{AreWritten-behind}
 use Rattle.shelf.specs.Laws.Told.{goes_map, told, told_both, told_map}
 use Rattle.shelf.specs.Shelf.{Files, Goes, Outside, Told, content}
-use Rattle.trace_files.specs.Copies.{HasCopied, IsUnfiltered}
+use Rattle.trace_files.specs.Copies.{HasCopied}
 use Rattle.trace_files.specs.Moves.{IsFree, moved_list}
-use Rattle.trace_files.specs.Moving.{HasGivenUp, IsCounted, IsRefused, fault_of, moved, moving}
-use Rattle.trace_files.specs.Moving.{written_of}
+use Rattle.trace_files.specs.Moving.{HasGivenUp, IsCounted, IsNearFiltered, IsRefused, fault_of}
+use Rattle.trace_files.specs.Moving.{moved, moving, written_of}
 use Rattle.trace_files.specs.Tables.{IsTable, table_of}
 use Rattle.trace_files.specs.declared.move_fault.MoveFault.{MoveFault}
-use Rattle.trace_files.specs.declared.move_fault.MoveFault.TheVariants.{NoMemory, Occupied}
+use Rattle.trace_files.specs.declared.move_fault.MoveFault.TheVariants.{Far, NoMemory, Occupied}
 use Rattle.trace_files.specs.declared.move_fault.MoveFault.TheVariants.{ReadFault, Refused}
 use Rattle.trace_files.specs.declared.move_fault.MoveFault.TheVariants.{WriteFault}
 use Rattle.trace_files.specs.declared.move_row.Move.{Move}
 use Rattle.trace_files.specs.declared.relocation.Moved.{Moved}
 use Rattle.trace_files.specs.declared.table_fault.TableFault.{TableFault}
-use Rattle.trace_format.specs.Rules.{longest_trace, touches_in}
+use Rattle.trace_format.specs.Rules.{HasRegions, longest_trace, touches_in}
 use Rattle.trace_format.specs.declared.fault.TraceFault.TheVariants as trace
 use Rattle.trace_passes.specs.Passes.{Trace, spell_trace, trace_of}
 use Rattle.trace_passes.specs.declared.wanted.Refusal.{Refusal}
@@ -47,14 +47,17 @@ use Rattle.predator_cli.specs.TraceFaults.{status_of_move}
 use Rattle.predator_cli.specs.Written.{OnlyAt, StandsInPart, StandsWhole, Writes}
 use Rattle.predator_cli.proofs.Ends.{accepted_answer}
 use Rattle.predator_cli.proofs.FaultEnds.{starved}
+use Rattle.predator_cli.proofs.MovedLists.{stands_for}
 use Rattle.predator_cli.proofs.PlaceEnds.{faulty_behind}
 use Rattle.predator_cli.proofs.TraceFiles.{refusal_cases}
 use Rattle.predator_cli.proofs.WriteEnds.{IsToWrite, or_false, written_worked}
 
 -- what a law of moved traces says under a table
 pub record Moves (table : List Move) : Type 0 where
-  pub accepted : (bytes : List ℕ) (t : Trace) → trace_of bytes ≡ Some t → IsUnfiltered t
-      → IsFree table (touches_in t.items) → fault_of table bytes ≡ None
+  pub accepted : (bytes : List ℕ) (t : Trace) → trace_of bytes ≡ Some t
+      → IsFree table (touches_in t.items) → IsNearFiltered table t → fault_of table bytes ≡ None
+  pub regions : (bytes : List ℕ) (t : Trace) → All (λ b. b < 256) bytes → trace_of bytes ≡ Some t
+      → HasRegions t.version t.header
   pub found : (bytes : List ℕ) → fault_of table bytes ≡ None
       → (t : Trace) × (trace_of bytes ≡ Some t)
   pub whole : (file bytes : List ℕ) (t : Trace) → trace_of bytes ≡ Some t
@@ -135,10 +138,10 @@ module _ (d : MoveDemand) (table : List Move) (moves : Moves table) where
 
   repeats : (files : Files) → table_of (content files d.table) ≡ Ok table
       → (t : Trace) → trace_of (content files d.trace) ≡ Some t
-      → IsUnfiltered t → IsFree table (touches_in t.items) → MoveRepeats d files
-  repeats files holds t is unfiltered free = λ other later small also at short.
+      → IsFree table (touches_in t.items) → IsNearFiltered table t → MoveRepeats d files
+  repeats files holds t is free near = λ other later small also at short.
       let same : t ≡ other = same_Some t other (sym is ∙ also) in
-      let none = moves.accepted (content files d.trace) t is unfiltered free in
+      let none = moves.accepted (content files d.trace) t is free near in
       let answer : judged (move_readings d) (move_work d) files
       ≡ copy_with (move_text table) (moving table d.file) t =
       ap (λ (o : Option Status). option_map_or refused_with o (move_work d files))
@@ -153,6 +156,8 @@ module _ (d : MoveDemand) (table : List Move) (moves : Moves table) where
         accesses = moves.accesses t;
         free = free;
         is_table = moves.is_table;
+        filtered = stands_for table t moves.is_table free near
+            (moves.regions (content files d.trace) t small is) (moves.accesses t);
       } in
       subst (λ (x : Trace). HasMovedList (table_in d files) x (content later d.file)) same
       (subst (λ (r : Result (List Move) TableFault).
@@ -174,15 +179,15 @@ module _ (d : MoveDemand) (table : List Move) (moves : Moves table) where
           let ready : IsToWrite (relocate d) w b.held = record {
             accepts = told_both b.held (λ files same e. accepts files e
                 (ap (fault_of table) (sym same)
-                ∙ moves.accepted copied.bytes t copied.is copied.told.unfiltered
-                copied.told.free)) copied.whole holds;
+                ∙ moves.accepted copied.bytes t copied.is copied.told.free copied.told.near))
+                copied.whole holds;
             works = told_both b.held (λ files same e. work_is files e t
                 (ap trace_of (sym same) ∙ copied.is)) copied.whole holds;
             names = refl;
           } in
           written_worked (relocate d) w a b status.Done shown ready refl is
           (told_both b.held (λ files same e. repeats files e t (ap trace_of (sym same) ∙ copied.is)
-          copied.told.unfiltered copied.told.free) copied.whole holds)
+          copied.told.free copied.told.near) copied.whole holds)
           (AreWritten-behind (moving table d.file t) a m b read.read copied.written)
 
       -- ---- it gave up
@@ -307,21 +312,27 @@ module _ (d : MoveDemand) (table : List Move) (moves : Moves table) where
           → IsRefused b.held d.trace d.file table m b (Refused r))
           → ((addr : ℕ) → fault ≡ Occupied addr
           → IsRefused b.held d.trace d.file table m b (Occupied addr))
+          → ((addr : ℕ) → fault ≡ Far addr
+          → IsRefused b.held d.trace d.file table m b (Far addr))
           → fault ≢ Refused (refusals.Trace trace.NoMemory)
           → HasGivenUp b.held d.trace d.file table m b fault
           → IsFaulty (Some (relocate d)) m b (status_of_move fault)
-      faulty_at (Refused r) refused occupied memory gave =
+      faulty_at (Refused r) refused occupied far memory gave =
           elim (refusal_cases r) [
             | inl is ↦ absurd (memory (ap Refused is))
             | inr judged ↦ refused_faulty (Refused r) judged (refused r refl) gave (λ e. cc) (λ e. cc)
           ]
-      faulty_at (Occupied addr) refused occupied memory gave =
+      faulty_at (Occupied addr) refused occupied far memory gave =
           refused_faulty (Occupied addr)
           (record { kind = refl; words = λ e. cc; memory = refl }) (occupied addr refl) gave
           (λ e. cc) (λ e. cc)
-      faulty_at ReadFault refused occupied memory gave = read_faulty ReadFault gave refl
-      faulty_at WriteFault refused occupied memory gave = write_faulty WriteFault gave refl
-      faulty_at NoMemory refused occupied memory gave =
+      faulty_at (Far addr) refused occupied far memory gave =
+          refused_faulty (Far addr)
+          (record { kind = refl; words = λ e. cc; memory = refl }) (far addr refl) gave
+          (λ e. cc) (λ e. cc)
+      faulty_at ReadFault refused occupied far memory gave = read_faulty ReadFault gave refl
+      faulty_at WriteFault refused occupied far memory gave = write_faulty WriteFault gave refl
+      faulty_at NoMemory refused occupied far memory gave =
           no_memory_faulty NoMemory gave (λ e. cc) (λ e. cc)
 
       -- it isn't moved, or not all of it
@@ -330,9 +341,11 @@ module _ (d : MoveDemand) (table : List Move) (moves : Moves table) where
           → IsRefused b.held d.trace d.file table m b (Refused r))
           → ((addr : ℕ) → fault ≡ Occupied addr
           → IsRefused b.held d.trace d.file table m b (Occupied addr))
+          → ((addr : ℕ) → fault ≡ Far addr
+          → IsRefused b.held d.trace d.file table m b (Far addr))
           → fault ≢ Refused (refusals.Trace trace.NoMemory)
           → HasGivenUp b.held d.trace d.file table m b fault
           → IsFaulty (Some (relocate d)) a b (status_of_move fault)
-      move_faulty fault refused occupied memory gave =
+      move_faulty fault refused occupied far memory gave =
           faulty_behind (Some (relocate d)) a m b read.read (status_of_move fault)
-          (faulty_at fault refused occupied memory gave)
+          (faulty_at fault refused occupied far memory gave)

@@ -1,9 +1,17 @@
 -- The command `move`: a trace with its accesses moved as a table says, written as the trace is
 -- read.
-use Rattle.std.specs.Prelude.{◌≡◌, ◌<◌, ◌≤◌, ℕ, List, [], ◌∷◌, codes, length, Option, None, Some}
+use Rattle.std.specs.Prelude.{◌≡◌, ◌≢◌, ◌<◌, ◌≤◌, ℕ, List, [], ◌∷◌, codes, length, Option, None, Some}
 use Rattle.std.specs.Prelude.{Result, Ok, Err, option_map}
 use Rattle.std.specs.List.{All}
+use Rattle.base.specs.Lines.{Grid}
 use Rattle.command_line.specs.Relocate.{MoveDemand}
+use Rattle.filtered_counts.specs.SameCounts.{IsWithin, SameCounts}
+use Rattle.filtered_counts.specs.SameHarts.{IsSitedWithoutRedundant, SameHarts}
+use Rattle.filtered_moves.specs.MovedSites.{moved_sited}
+use Rattle.invalidations.specs.BlameRecords.{sited_in}
+use Rattle.invalidations.specs.declared.sited.Sited.{Sited}
+use Rattle.sharing_rules.specs.AccessLists.{AccessList}
+use Rattle.sharing_rules.specs.Filtered.{IsWithoutRedundant}
 use Rattle.shelf.specs.Files.{Output, bytes_for}
 use Rattle.shelf.specs.Shelf.{Files, content}
 use Rattle.trace_files.specs.Moves.{IsFree, count_moved, moved_list}
@@ -40,7 +48,7 @@ table_in demand files = unless_refused (table_of (content files demand.table))
 
 -- ---- the trace
 
--- a trace is refused for its first fault, or for an access in the way before that
+-- a trace is refused for its first fault, or for an access that is refused before that
 abbrev pub moved_refusal : List ℕ → Files → List Move → Option Status
 moved_refusal name files table = option_map status_of_move (fault_of table (content files name))
 
@@ -74,13 +82,39 @@ move_left demand files =
 
 -- ---- what its file is
 
+-- Of a list of which a filtered trace has all but some redundant accesses: it is free too, and the
+-- moved trace has all of its moved list but some redundant accesses, under the regions of the moved
+-- trace. So both have the same counts under each layout whose lines fit these.
+pub record IsMovedWith (table : List Move) (t : Trace) (u : AccessList) : Type 0 where
+  pub free : IsFree table u
+  pub rest : IsWithoutRedundant (moved table t).header.near (moved_list table u)
+      (touches_in (moved table t).items)
+  pub counts : (g : Grid) → IsWithin (moved table t).header.near g
+      → SameCounts g (moved_list table u) (touches_in (moved table t).items)
+
+-- the same of a list with pcs: both have the same invalidations by pairs of harts
+pub record AreMovedWith (table : List Move) (t : Trace) (u : List Sited) : Type 0 where
+  pub rest : IsSitedWithoutRedundant (moved table t).header.near (moved_sited table u)
+      (sited_in (moved table t).items)
+  pub harts : (g : Grid) → IsWithin (moved table t).header.near g
+      → SameHarts g (moved_sited table u) (sited_in (moved table t).items)
+
+-- what a moved trace is for each list that was filtered
+pub record StandsForMoved (table : List Move) (t : Trace) : Type 0 where
+  pub lists : (u : AccessList) → IsWithoutRedundant t.header.near u (touches_in t.items)
+      → IsMovedWith table t u
+  pub sited_lists : (u : List Sited)
+      → IsSitedWithoutRedundant t.header.near u (sited_in t.items) → AreMovedWith table t u
+
 -- Some bytes are a trace with its accesses moved: the accesses in them are the moved list of its
--- own, which is free for the table.
+-- own, which is free for the table. Where the trace is filtered, they stand for the moved list of
+-- what was filtered.
 pub record HasMovedList (table : List Move) (t : Trace) (bytes : List ℕ) : Type 0 where
   pub read : trace_of bytes ≡ Some (moved table t)
   pub accesses : touches_in (moved table t).items ≡ moved_list table (touches_in t.items)
   pub free : IsFree table (touches_in t.items)
   pub is_table : IsTable table
+  pub filtered : t.header.near ≢ 0 → StandsForMoved table t
 
 -- Where files hold the file that a move wrote, of at most 2^44 bytes, it is so.
 abbrev pub MoveRepeats : MoveDemand → Files → Type 0

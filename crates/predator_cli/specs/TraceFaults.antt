@@ -37,10 +37,11 @@ status_of_copy copies.ReadFault = status.ReadFault
 status_of_copy copies.WriteFault = status.WriteFault
 status_of_copy copies.NoMemory = status.NoMemory
 
--- or it is refused, or has an access in the way, once the moved trace is begun
+-- or it is refused, or an access of it is, once the moved trace is begun
 abbrev pub status_of_move : MoveFault → Status
 status_of_move (moves.Refused r) = status_of_refusal r
 status_of_move (moves.Occupied addr) = status.Occupied addr
+status_of_move (moves.Far addr) = status.Far addr
 status_of_move moves.ReadFault = status.ReadFault
 status_of_move moves.WriteFault = status.WriteFault
 status_of_move moves.NoMemory = status.NoMemory

@@ -103,8 +103,9 @@ fn obey_words<S: Shelf>(alloc: Global, words: &[String], shelf: &mut S) -> Statu
 /// its end and judge it, and write under their names as they read it again. `move` reads a table of
 /// at most 1 MiB, of ranges and their places, and writes a trace with its accesses moved so as it
 /// reads that once; it prints how many accesses there are and how many are moved. Its status is
-/// `Table` where the table is refused, and `Occupied` where no range has the address of an access
-/// and a place has. `filter` reads a trace once and writes its filtered trace, for regions of 2^near
+/// `Table` where the table is refused, `Occupied` where no range has the address of an access and a
+/// place has, and `Far` where the trace is filtered and a place brings a byte near an access that
+/// wasn't near it. `filter` reads a trace once and writes its filtered trace, for regions of 2^near
 /// bytes: it leaves out each access that its hart made before to the same word, as a write if this
 /// is one, since when no other hart came near; it prints how many accesses there are and how many
 /// are kept. Its status is `NoPcs` for versions 1 and 2, and `Filtered` for a filtered trace.

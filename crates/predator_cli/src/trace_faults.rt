@@ -55,6 +55,7 @@ pub fn status_of_move(fault: MoveFault) -> Status
     match fault {
         MoveFault::Refused(refusal) => status_of_refusal(refusal),
         MoveFault::Occupied(addr) => Status::Occupied(addr),
+        MoveFault::Far(addr) => Status::Far(addr),
         MoveFault::ReadFault => Status::ReadFault,
         MoveFault::WriteFault => Status::WriteFault,
         MoveFault::NoMemory => Status::NoMemory,

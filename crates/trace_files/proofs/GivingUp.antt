@@ -1,13 +1,13 @@
 -- What stands where a moved trace gives up, and that it is whole where it doesn't.
-use Rattle.std.proofs.Common.{◌≡◌, ◌≢◌, ◌≤◌, ℕ, false, List, [], ◌∷◌, ◌++◌}
+use Rattle.std.proofs.Common.{◌≡◌, ◌≢◌, ◌≤◌, ℕ, Bool, true, false, List, [], ◌∷◌, ◌++◌}
 use Rattle.std.proofs.Common.{length}
-use Rattle.std.specs.Prelude.{IfOk, OnOk}
+use Rattle.std.specs.Prelude.{IfOk, OnOk, is_some, if◌then◌else◌}
 use Rattle.std.proofs.Common.{Option, Some, None, Result, Ok, Err, inl, inr, refl, sym, ap}
 use Rattle.std.proofs.Common.{◌∙◌, subst, arith, append-nil, option_map}
-use Rattle.std.specs.List.{list_any}
+use Rattle.std.specs.List.{All, list_any}
 use Rattle.std.specs.Option.{option_map_or, option_or}
 use Rattle.std.proofs.lemmas.List.{map-append, take_all}
-use Rattle.std.proofs.lemmas.List.Elements.{All-cons, All-nil, filter_map-append}
+use Rattle.std.proofs.lemmas.List.Elements.{All-cons, All-nil, All-weaker, filter_map-append}
 use Rattle.std.proofs.lemmas.List.Folds.{list_any-append}
 use Rattle.base.specs.Touch.{Touch}
 use Rattle.trace_format.specs.declared.record.TraceEnd.{TraceEnd}
@@ -15,9 +15,8 @@ use Rattle.shelf.specs.Shelf.{Files, Goes, Narrows, OnlyReads, Outside, Rose, To
 use Rattle.shelf.specs.Fetch.{IsFront}
 use Rattle.shelf.specs.declared.shelf.ShelfError.{ShelfError}
 use Rattle.shelf.specs.declared.shelf.ShelfError.TheVariants as errors
-use Rattle.shelf.specs.Files.{AreCut, AreWritten, BegunInOrder, GoOn, Output, RoseAmong, one_file}
-use Rattle.shelf.specs.OnTheirWay.{IsNew}
-use Rattle.shelf.specs.Laws.Files.{AreCut-longer, IsOutputs-cut, output_names}
+use Rattle.shelf.specs.Files.{AreCut, AreWritten, BegunInOrder, Output, RoseAmong, one_file}
+use Rattle.shelf.specs.Laws.Files.{AreCut-longer, IsOutputs-cut}
 use Rattle.shelf.specs.Laws.Told.{goes_map, narrows_then, told_map}
 use Rattle.trace_format.specs.declared.fault.TraceFault.{TraceFault}
 use Rattle.trace_format.specs.declared.fault.TraceFault.TheVariants as trace_faults
@@ -46,22 +45,20 @@ use Rattle.trace_files.specs.declared.move_row.Move.{Move}
 use Rattle.trace_files.specs.declared.mover.Mover.{Mover}
 use Rattle.trace_files.specs.declared.relocation.Moved.{Moved}
 use Rattle.trace_files.specs.Copies.{HasCopied, any}
-use Rattle.trace_files.specs.Movers.{EndsAt, HasMoved, IsAllWritten, IsCutAt, IsOccupied, StopsAt}
-use Rattle.trace_files.specs.Movers.{IsTurnedAway}
+use Rattle.trace_files.specs.Movers.{EndsAt, HasMoved, IsAllWritten, IsCutAt, IsHeldUp, StopsAt}
 use Rattle.trace_files.specs.Laws.Copies.{any_header}
 use Rattle.trace_files.specs.Moves.{IsFree, count_moved, is_taken}
-use Rattle.trace_files.specs.Moving.{head_refusal, narrowed}
+use Rattle.trace_files.specs.NearMoves.{IsNearFor, IsNearTable, is_far}
 use Rattle.trace_files.specs.Moving.{HasGivenUp, HasMoveCause, IsCounted, IsRefused}
-use Rattle.trace_files.specs.Moving.{before_the_first, first_in_the_way, is_in_the_way}
-use Rattle.trace_files.specs.Moving.{moved_item, moved_items, moved_so_far, moving, written_of}
-use Rattle.trace_files.proofs.Headed.{away_fault, away_head, away_written, go_all, head_in, head_kept}
-use Rattle.trace_files.proofs.Headed.{known_or_not, new_name, only_filtered, plain_fault}
-use Rattle.trace_files.proofs.Headed.{plain_written}
+use Rattle.trace_files.specs.Moving.{before_the_first, first_fault, is_at_fault, moved_item}
+use Rattle.trace_files.specs.Moving.{moved_items, moved_so_far, moving, narrowed, near_of, written_of}
+use Rattle.trace_files.proofs.Headed.{go_all, head_in, head_kept, known_or_not, new_name}
+use Rattle.trace_files.proofs.NearRanges.{not_far}
 use Rattle.trace_files.proofs.Readings.{front_first, same_at}
 use Rattle.trace_files.proofs.Relocations.{none_read}
 use Rattle.trace_files.proofs.Stopped.{others_stay}
 use Rattle.trace_files.proofs.Takings.{all_free, first_stays, front_same, neither_passes}
-use Rattle.trace_files.proofs.Takings.{none_in_the_way}
+use Rattle.trace_files.proofs.Takings.{none_at_fault}
 
 -- ---- who is the cause
 
@@ -135,77 +132,51 @@ reading_cause trace file before mid now passes.ReadFault cause reads writes = re
 
 -- ---- the bytes where it gives up
 
-none_occupied : (table : List Move) (seen : List TraceRecord) (addr : ℕ) → seen ≡ []
-    → first_in_the_way table seen ≡ Some addr → ⊥
-none_occupied table seen addr none first =
-    let no_one : None ≡ Some addr = ap (first_in_the_way table) (sym none) ∙ first in absurd cc
+none_held : (near : ℕ) (table : List Move) (seen : List TraceRecord) (fault : MoveFault)
+    → seen ≡ [] → first_fault near table seen ≡ Some fault → ⊥
+none_held near table seen fault none first =
+    let no_one : None ≡ Some fault = ap (first_fault near table) (sym none) ∙ first in absurd cc
 
--- the bytes where an access is in the way, or all that are told behind them
-occupied_by : (held : Option Files) (trace file : List ℕ) (table : List Move) (bytes : List ℕ)
-    → Told held (λ fs. IsFront (content fs trace) bytes) → (before now : Outside) (addr : ℕ)
-    → IsOccupied table file (version_and_header (reading_of bytes).1.progress)
-    (reading_of bytes).0 before now addr
-    → IsRefused held trace file table before now (faults.Occupied addr)
-occupied_by None trace file table bytes front before now addr occupied = record {
+-- the bytes where an access is refused, or all that are told behind them
+held_by : (held : Option Files) (trace file : List ℕ) (table : List Move) (bytes : List ℕ)
+    → Told held (λ fs. IsFront (content fs trace) bytes) → (before now : Outside)
+    (fault : MoveFault)
+    → IsHeldUp table file (head_in bytes) (reading_of bytes).0 before now fault
+    → IsRefused held trace file table before now fault
+held_by None trace file table bytes front before now fault stops = record {
   bytes = bytes;
   whole = tt;
-  refused = plain_fault table bytes occupied.cut.plain
-      ∙ ap (λ (o : Option ℕ). option_map_or (λ n. Some (faults.Occupied n)) o
-      (option_map faults.Refused (refusal_of any bytes))) occupied.first;
-  written = subst (λ (l : List Output). AreWritten l before now)
-      (sym (plain_written table file bytes occupied.cut.plain)) occupied.written;
+  refused = ap (λ (o : Option MoveFault). option_map_or (λ f. Some f) o
+      (option_map faults.Refused (refusal_of any bytes))) stops.first;
+  written = stops.written;
 }
-occupied_by (Some files) trace file table bytes front before now addr occupied =
+held_by (Some files) trace file table bytes front before now fault stops =
     let all = content files trace in
     let seen = (reading_of bytes).0 in
     let more = front_first all bytes front in
-    let head = version_and_header (reading_of bytes).1.progress in
-    let first : first_in_the_way table (reading_of all).0 ≡ Some addr =
-    ap (first_in_the_way table) more.1 ∙ first_stays table seen more.0 addr occupied.first in
-    let same : before_the_first table (reading_of all).0 ≡ before_the_first table seen =
-    ap (before_the_first table) more.1 ∙ front_same table seen more.0 addr occupied.first in
-    let known : version_and_header (reading_of all).1.progress ≡ head =
-    known_or_not head (version_and_header (reading_of all).1.progress ≡ head)
-    (λ none. absurd (none_occupied table seen addr (none_read bytes none) occupied.first))
+    let head = head_in bytes in
+    let near = near_of head in
+    let known : head_in all ≡ head =
+    known_or_not head (head_in all ≡ head)
+    (λ none. absurd (none_held near table seen fault (none_read bytes none) stops.first))
     (λ h is. head_kept all bytes front h is ∙ sym is) in
-    let plain : head_refusal (head_in all) ≡ None = ap head_refusal known ∙ occupied.cut.plain in
+    let first : first_fault (near_of (head_in all)) table (reading_of all).0 ≡ Some fault =
+    ap (λ (k : Option (Version × Header)). first_fault (near_of k) table (reading_of all).0) known
+    ∙ ap (first_fault near table) more.1
+    ∙ first_stays near table seen more.0 fault stops.first in
+    let same : before_the_first near table (reading_of all).0 ≡ before_the_first near table seen =
+    ap (before_the_first near table) more.1
+    ∙ front_same near table seen more.0 fault stops.first in
     record {
       bytes = all;
       whole = refl;
-      refused = plain_fault table all plain
-          ∙ ap (λ (o : Option ℕ). option_map_or (λ n. Some (faults.Occupied n)) o
+      refused = ap (λ (o : Option MoveFault). option_map_or (λ f. Some f) o
           (option_map faults.Refused (refusal_of any all))) first;
-      written = subst (λ (l : List Output). AreWritten l before now)
-          (sym (plain_written table file all plain))
-          (subst (λ (k : Option (Version × Header)). AreWritten
-          (moved_so_far table file k (before_the_first table (reading_of all).0)) before now)
-          (sym known)
+      written = subst (λ (k : Option (Version × Header)). AreWritten
+          (moved_so_far table file k (before_the_first (near_of k) table (reading_of all).0)) before
+          now) (sym known)
           (subst (λ (l : List TraceRecord). AreWritten (moved_so_far table file head l) before now)
-          (sym same) occupied.written));
-    }
-
--- the bytes whose header is refused, or all that are told behind them
-away_by : (held : Option Files) (trace file : List ℕ) (table : List Move) (bytes : List ℕ)
-    → Told held (λ fs. IsFront (content fs trace) bytes) → (before now : Outside)
-    (refusal : Refusal) → IsTurnedAway (head_in bytes) before now refusal
-    → IsRefused held trace file table before now (faults.Refused refusal)
-away_by None trace file table bytes front before now refusal away = record {
-  bytes = bytes;
-  whole = tt;
-  refused = away_fault table bytes refusal away.refused;
-  written = subst (λ (l : List Output). AreWritten l before now)
-      (sym (away_written table file bytes refusal away.refused)) away.written;
-}
-away_by (Some files) trace file table bytes front before now refusal away =
-    let all = content files trace in
-    let is : head_refusal (head_in all) ≡ Some refusal =
-    ap head_refusal (away_head all bytes refusal front away.refused) ∙ away.refused in
-    record {
-      bytes = all;
-      whole = refl;
-      refused = away_fault table all refusal is;
-      written = subst (λ (l : List Output). AreWritten l before now)
-          (sym (away_written table file all refusal is)) away.written;
+          (sym same) stops.written);
     }
 
 module _ (held : Option Files) (trace file : List ℕ) (table : List Move) (bytes : List ℕ)
@@ -214,17 +185,17 @@ module _ (held : Option Files) (trace file : List ℕ) (table : List Move) (byte
     abbrev pub head : Option (Version × Header)
     head = version_and_header (reading_of bytes).1.progress
 
-    -- the file was cut, which goes on to what is written of the bytes, and only reads came then
-    gives_up_at : (outs : List Output)
-        → ((all : List ℕ) → IsFront all bytes → GoOn outs (written_of table file all))
-        → ((n : List ℕ) → n ≢ file → IsNew n (output_names outs))
-        → (before last now : Outside) (error : ShelfError) (fault : MoveFault)
-        → AreCut outs before last error
+    -- some records were put, the file was cut, and only reads came then
+    pub gives_up : (put more : List TraceRecord) (before last now : Outside) (error : ShelfError)
+        (fault : MoveFault) → (reading_of bytes).0 ≡ put ++ more
+        → list_any (is_at_fault (near_of head) table) put ≡ false
+        → AreCut (moved_so_far table file head put) before last error
         → now.written ≡ last.written → HasMoveCause trace file before now fault
         → Narrows before.held now.held → now.printed ≡ before.printed
         → now.print_faults ≡ before.print_faults
         → HasGivenUp held trace file table before now fault
-    gives_up_at outs goes_on new before last now error fault cut written cause narrow printed prints =
+    gives_up put more before last now error fault is free cut written cause narrow printed prints =
+        let outs = moved_so_far table file head put in
         let later : (P : Files → Files → Type 0) → Goes before.written last.written P
         → Goes before.written now.written P =
         λ P goes. subst (λ (w : Option Files). Goes before.written w P) (sym written) goes in
@@ -233,10 +204,10 @@ module _ (held : Option Files) (trace file : List ℕ) (table : List Move) (byte
               let longer = written_of table file (content fs trace) in
               later (BegunInOrder longer)
               (AreCut-longer outs longer before last error
-              (goes_on (content fs trace) f) cut).begun) front;
+              (go_all table file (content fs trace) bytes put more f is free) cut).begun) front;
           others = later (λ old new. (n : List ℕ) → n ≢ file → new n ≡ old n)
               (goes_map before.written last.written
-              (λ old after same n other. same n (new n other))
+              (λ old after same n other. same n (new_name table file head put n other))
               (others_stay outs before last cut.begun));
           cause = cause;
           held_stay = narrow;
@@ -244,49 +215,27 @@ module _ (held : Option Files) (trace file : List ℕ) (table : List Move) (byte
           print_faults = prints;
         }
 
-    -- some records were put, the file was cut, and only reads came then
-    pub gives_up : (put more : List TraceRecord) (before last now : Outside) (error : ShelfError)
-        (fault : MoveFault) → head_refusal head ≡ None → (reading_of bytes).0 ≡ put ++ more
-        → list_any (is_in_the_way table) put ≡ false
-        → AreCut (moved_so_far table file head put) before last error
-        → now.written ≡ last.written → HasMoveCause trace file before now fault
-        → Narrows before.held now.held → now.printed ≡ before.printed
-        → now.print_faults ≡ before.print_faults
-        → HasGivenUp held trace file table before now fault
-    gives_up put more before last now error fault plain is free =
-        gives_up_at (moved_so_far table file head put)
-        (λ all f. go_all table file all bytes put more f plain is free)
-        (new_name table file head put) before last now error fault
-
     cut_up : (before now : Outside) (error : ShelfError) (fault : MoveFault)
         → (cut : IsCutAt table file head (reading_of bytes).0 before now error)
         → HasMoveCause trace file before now fault → HasGivenUp held trace file table before now fault
     cut_up before now error fault cut cause =
-        gives_up cut.put cut.more before now now error fault cut.plain cut.first cut.free cut.cut
-        refl cause
+        gives_up cut.put cut.more before now now error fault cut.first cut.free cut.cut refl cause
         cut.cut.only.held cut.cut.only.printed cut.cut.only.print_faults
-
-    -- its header is refused
-    away_up : (before now : Outside) (refusal : Refusal) → IsTurnedAway head before now refusal
-        → HasGivenUp held trace file table before now (faults.Refused refusal)
-    away_up before now refusal away =
-        gives_up_at [] (λ all f. tt) (λ n other. tt) before now now errors.NoMemory
-        (faults.Refused refusal) away.cut refl
-        (other_cause trace file table None [] before now (faults.Refused refusal)
-        (λ e. cc) (λ e. cc) away.cut)
-        away.cut.only.held away.cut.only.printed away.cut.only.print_faults
 
     pub gave_up : (before now : Outside) (why : Refusal) (fault : MoveFault)
         → EndsAt table file head (reading_of bytes).0 before now why fault
         → HasGivenUp held trace file table before now fault
-    gave_up before now why (faults.Refused refusal) (inr away) = away_up before now refusal away
-    gave_up before now why (faults.Refused refusal) (inl ends) =
+    gave_up before now why (faults.Refused refusal) ends =
         cut_up before now errors.NoMemory (faults.Refused refusal) ends.1.cut
         (other_cause trace file table head ends.1.cut.put before now (faults.Refused refusal)
         (λ e. cc) (λ e. cc) ends.1.cut.cut)
     gave_up before now why (faults.Occupied addr) ends =
         cut_up before now errors.NoMemory (faults.Occupied addr) ends.cut
         (other_cause trace file table head ends.cut.put before now (faults.Occupied addr)
+        (λ e. cc) (λ e. cc) ends.cut.cut)
+    gave_up before now why (faults.Far addr) ends =
+        cut_up before now errors.NoMemory (faults.Far addr) ends.cut
+        (other_cause trace file table head ends.cut.put before now (faults.Far addr)
         (λ e. cc) (λ e. cc) ends.cut.cut)
     gave_up before now why faults.ReadFault ends = absurd ends
     gave_up before now why faults.WriteFault ends =
@@ -305,8 +254,8 @@ module _ (held : Option Files) (trace file : List ℕ) (table : List Move) (byte
     gave_up_reading {T} m before mid now fault has only cause =
         let on = has.outputs in
         let seen = (reading_of bytes).0 in
-        gives_up seen [] before mid now errors.NoMemory (read_fault fault) has.plain
-        (sym (append-nil seen)) has.free
+        gives_up seen [] before mid now errors.NoMemory (read_fault fault) (sym (append-nil seen))
+        has.free
         (IsOutputs-cut m.files (moved_so_far table file head seen) before mid errors.NoMemory
         (λ e. cc) on)
         only.written (reading_cause {T = T} trace file before mid now fault cause
@@ -314,18 +263,12 @@ module _ (held : Option Files) (trace file : List ℕ) (table : List Move) (byte
         (narrows_then before.held mid.held now.held on.only.held only.held)
         (only.printed ∙ on.only.printed) (only.print_faults ∙ on.only.print_faults)
 
-    -- an access is in the way
-    pub refused_occupied : (before now : Outside) (addr : ℕ)
-        → IsOccupied table file head (reading_of bytes).0 before now addr
-        → IsRefused held trace file table before now (faults.Occupied addr)
-    refused_occupied before now addr occupied =
-        occupied_by held trace file table bytes front before now addr occupied
-
-    refused_away : (before now : Outside) (refusal : Refusal)
-        → IsTurnedAway head before now refusal
-        → IsRefused held trace file table before now (faults.Refused refusal)
-    refused_away before now refusal away =
-        away_by held trace file table bytes front before now refusal away
+    -- an access is refused
+    pub refused_held : (before now : Outside) (fault : MoveFault)
+        → IsHeldUp table file head (reading_of bytes).0 before now fault
+        → IsRefused held trace file table before now fault
+    refused_held before now fault stops =
+        held_by held trace file table bytes front before now fault stops
 
 -- a trace that is refused, all of whose records were put
 pub refused_whole : (held : Option Files) (trace file : List ℕ) (table : List Move)
@@ -334,20 +277,18 @@ pub refused_whole : (held : Option Files) (trace file : List ℕ) (table : List 
     → IsAllWritten table file (version_and_header (reading_of all).1.progress) (reading_of all).0
     before now
     → IsRefused held trace file table before now (faults.Refused refusal)
-refused_whole held trace file table all refusal before now whole is written = record {
-  bytes = all;
-  whole = whole;
-  refused = plain_fault table all written.cut.plain
-      ∙ ap (λ (o : Option ℕ). option_map_or (λ addr. Some (faults.Occupied addr)) o
-      (option_map faults.Refused (refusal_of any all)))
-      (none_in_the_way table (reading_of all).0 written.free)
-      ∙ ap (option_map faults.Refused) is;
-  written = subst (λ (l : List Output). AreWritten l before now)
-      (sym (plain_written table file all written.cut.plain))
-      (subst (λ (l : List TraceRecord). AreWritten
-      (moved_so_far table file (version_and_header (reading_of all).1.progress) l) before now)
-      (sym (all_free (is_in_the_way table) (reading_of all).0 written.free)) written.written);
-}
+refused_whole held trace file table all refusal before now whole is written =
+    let near = near_of (head_in all) in record {
+      bytes = all;
+      whole = whole;
+      refused = ap (λ (o : Option MoveFault). option_map_or (λ f. Some f) o
+          (option_map faults.Refused (refusal_of any all)))
+          (none_at_fault near table (reading_of all).0 written.free)
+          ∙ ap (option_map faults.Refused) is;
+      written = subst (λ (l : List TraceRecord). AreWritten
+          (moved_so_far table file (head_in all) l) before now)
+          (sym (all_free (is_at_fault near table) (reading_of all).0 written.free)) written.written;
+    }
 
 -- ---- a whole trace
 
@@ -364,24 +305,58 @@ head_of_trace bytes t is =
     trace_head (reading_of bytes).0 (reading_of bytes).1.progress (ending_of (reading_of bytes).1) t
     is
 
-one_touch : (table : List Move) (item : TraceRecord) (items : List TraceRecord)
-    → is_in_the_way table item ≡ false → IsFree table (touches_in items)
-    → IsFree table (touches_in (item ∷ items))
-one_touch table (records.Touch a pc) items here free =
-    All-cons (λ (b : Touch). is_taken table b.addr ≡ false) a (touches_in items) here free
-one_touch table (records.Alloc addr size sites) items here free = free
-one_touch table (records.Free addr) items here free = free
-one_touch table (records.Symbol kind addr size symbol) items here free = free
-one_touch table (records.End e) items here free = free
+let_through : (taken far : Bool) (addr : ℕ)
+    → is_some (if taken then Some (faults.Occupied addr)
+    else (if far then Some (faults.Far addr) else None)) ≡ false → (taken ≡ false) × (far ≡ false)
+let_through true far addr none = absurd cc
+let_through false true addr none = absurd cc
+let_through false false addr none = (refl, refl)
 
--- records of which none is in the way are free
-pub free_touches : (table : List Move) (items : List TraceRecord)
-    → list_any (is_in_the_way table) items ≡ false → IsFree table (touches_in items)
-free_touches table [] none = All-nil (λ (b : Touch). is_taken table b.addr ≡ false)
-free_touches table (item ∷ items) none =
-    let parts = neither_passes (is_in_the_way table item) (list_any (is_in_the_way table) items) none
-    in
-    one_touch table item items parts.0 (free_touches table items parts.1)
+-- the accesses of records of which none is refused
+abbrev pub AreLetThrough : ℕ → List Move → List Touch → Type 0
+AreLetThrough near table accesses =
+    All (λ a. (is_taken table a.addr ≡ false) × (is_far near table a.addr ≡ false)) accesses
+
+one_touch : (near : ℕ) (table : List Move) (item : TraceRecord) (items : List TraceRecord)
+    → is_at_fault near table item ≡ false → AreLetThrough near table (touches_in items)
+    → AreLetThrough near table (touches_in (item ∷ items))
+one_touch near table (records.Touch a pc) items here free =
+    All-cons (λ (b : Touch). (is_taken table b.addr ≡ false) × (is_far near table b.addr ≡ false)) a
+    (touches_in items) (let_through (is_taken table a.addr) (is_far near table a.addr) a.addr here)
+    free
+one_touch near table (records.Alloc addr size sites) items here free = free
+one_touch near table (records.Free addr) items here free = free
+one_touch near table (records.Symbol kind addr size symbol) items here free = free
+one_touch near table (records.End e) items here free = free
+
+pub let_touches_through : (near : ℕ) (table : List Move) (items : List TraceRecord)
+    → list_any (is_at_fault near table) items ≡ false
+    → AreLetThrough near table (touches_in items)
+let_touches_through near table [] none =
+    All-nil (λ (b : Touch). (is_taken table b.addr ≡ false) × (is_far near table b.addr ≡ false))
+let_touches_through near table (item ∷ items) none =
+    let parts = neither_passes (is_at_fault near table item)
+    (list_any (is_at_fault near table) items) none in
+    one_touch near table item items parts.0 (let_touches_through near table items parts.1)
+
+-- records of which none is refused are free
+pub free_touches : (near : ℕ) (table : List Move) (items : List TraceRecord)
+    → list_any (is_at_fault near table) items ≡ false → IsFree table (touches_in items)
+free_touches near table items none =
+    All-weaker
+    (λ (b : Touch). (is_taken table b.addr ≡ false) × (is_far near table b.addr ≡ false))
+    (λ b. is_taken table b.addr ≡ false) (λ b both. both.0) (touches_in items)
+    (let_touches_through near table items none)
+
+-- and the table is near for them, where they are filtered
+pub near_touches : (near : ℕ) (table : List Move) (items : List TraceRecord)
+    → list_any (is_at_fault near table) items ≡ false → near ≢ 0
+    → IsNearTable near table (touches_in items)
+near_touches near table items none some =
+    All-weaker
+    (λ (b : Touch). (is_taken table b.addr ≡ false) × (is_far near table b.addr ≡ false))
+    (IsNearFor near table) (λ b both. not_far near table b some both.1) (touches_in items)
+    (let_touches_through near table items none)
 
 touches_ended : (items : List TraceRecord) (e : TraceEnd)
     → touches_in (items ++ records.End e ∷ []) ≡ touches_in items
@@ -416,18 +391,21 @@ whole_copied held trace file table m passed bytes items made before mid now whol
     accesses count =
     let t = trace_with passed items in
     let all = trace-records bytes t is in
-    let free : list_any (is_in_the_way table) (items ++ records.End t.ending ∷ []) ≡ false =
-    ap (list_any (is_in_the_way table)) (sym all) ∙ has.free in
-    let parts = neither_passes (list_any (is_in_the_way table) items) _
-    (sym (list_any-append (is_in_the_way table) items (records.End t.ending ∷ [])) ∙ free) in
+    let near = t.header.near in
+    let head : near_of (head_in bytes) ≡ near = ap near_of (head_of_trace bytes t is) in
+    let free : list_any (is_at_fault near table) (items ++ records.End t.ending ∷ []) ≡ false =
+    ap (list_any (is_at_fault near table)) (sym all)
+    ∙ ap (λ (k : ℕ). list_any (is_at_fault k table) (reading_of bytes).0) (sym head) ∙ has.free in
+    let parts = neither_passes (list_any (is_at_fault near table) items) _
+    (sym (list_any-append (is_at_fault near table) items (records.End t.ending ∷ [])) ∙ free) in
     record {
       bytes = bytes;
       whole = whole;
       trace = t;
       is = is;
       told = record {
-        unfiltered = sym (ap head_refusal (head_of_trace bytes t is)) ∙ has.plain;
-        free = free_touches table items parts.0;
+        free = free_touches near table items parts.0;
+        near = near_touches near table items parts.0;
         accesses = accesses ∙ (trace-parts bytes t is).counted;
         moved = count ∙ has.moved
             ∙ ap (λ (l : List TraceRecord). count_moved table (touches_in l)) all
@@ -445,6 +423,8 @@ pub record Gave (held : Option Files) (trace file : List ℕ) (table : List Move
       → IsRefused held trace file table before now (faults.Refused refusal)
   pub occupied : (addr : ℕ) → fault ≡ faults.Occupied addr
       → IsRefused held trace file table before now (faults.Occupied addr)
+  pub far : (addr : ℕ) → fault ≡ faults.Far addr
+      → IsRefused held trace file table before now (faults.Far addr)
   pub memory : fault ≢ faults.Refused (refusals.Trace trace_faults.NoMemory)
   pub given_up : HasGivenUp held trace file table before now fault
 
@@ -456,30 +436,34 @@ module _ (held : Option Files) (trace file : List ℕ) (table : List Move) (byte
         → StopsAt table file (version_and_header (reading_of bytes).1.progress)
         (reading_of bytes).0 before now fault
         → Gave held trace file table before now fault
-    gave_stopped (faults.Refused refusal) stops = record {
-      refused = λ other e.
-          let same : refusal ≡ other = cc in
-          subst (λ (r : Refusal). IsRefused held trace file table before now (faults.Refused r)) same
-          (refused_away held trace file table bytes front before now refusal stops);
-      occupied = λ addr e. absurd cc;
-      memory = λ e. let filtered = only_filtered
-          (version_and_header (reading_of bytes).1.progress) refusal stops.refused in cc;
-      given_up = away_up held trace file table bytes front before now refusal stops;
-    }
+    gave_stopped (faults.Refused refusal) stops = absurd stops
     gave_stopped faults.ReadFault stops = absurd stops
     gave_stopped (faults.Occupied addr) stops = record {
       refused = λ refusal e. absurd cc;
       occupied = λ other e.
           let same : addr ≡ other = cc in
           subst (λ (n : ℕ). IsRefused held trace file table before now (faults.Occupied n)) same
-          (refused_occupied held trace file table bytes front before now addr stops);
+          (refused_held held trace file table bytes front before now (faults.Occupied addr) stops);
+      far = λ other e. absurd cc;
       memory = λ e. cc;
       given_up = gave_up held trace file table bytes front before now refusals.Filtered
           (faults.Occupied addr) stops;
     }
+    gave_stopped (faults.Far addr) stops = record {
+      refused = λ refusal e. absurd cc;
+      occupied = λ other e. absurd cc;
+      far = λ other e.
+          let same : addr ≡ other = cc in
+          subst (λ (n : ℕ). IsRefused held trace file table before now (faults.Far n)) same
+          (refused_held held trace file table bytes front before now (faults.Far addr) stops);
+      memory = λ e. cc;
+      given_up = gave_up held trace file table bytes front before now refusals.Filtered
+          (faults.Far addr) stops;
+    }
     gave_stopped faults.WriteFault stops = record {
       refused = λ refusal e. absurd cc;
       occupied = λ addr e. absurd cc;
+      far = λ addr e. absurd cc;
       memory = λ e. cc;
       given_up = gave_up held trace file table bytes front before now refusals.Filtered
           faults.WriteFault stops;
@@ -487,6 +471,7 @@ module _ (held : Option Files) (trace file : List ℕ) (table : List Move) (byte
     gave_stopped faults.NoMemory stops = record {
       refused = λ refusal e. absurd cc;
       occupied = λ addr e. absurd cc;
+      far = λ addr e. absurd cc;
       memory = λ e. cc;
       given_up = gave_up held trace file table bytes front before now refusals.Filtered
           faults.NoMemory stops;
@@ -503,6 +488,7 @@ module _ (held : Option Files) (trace file : List ℕ) (table : List Move) (byte
     gave_reading {T} m mid passes.ReadFault other has only cause = record {
       refused = λ refusal e. absurd cc;
       occupied = λ addr e. absurd cc;
+      far = λ addr e. absurd cc;
       memory = λ e. cc;
       given_up = gave_up_reading held trace file table bytes front {T = T} m before mid now
           passes.ReadFault has only cause;
@@ -510,6 +496,7 @@ module _ (held : Option Files) (trace file : List ℕ) (table : List Move) (byte
     gave_reading {T} m mid passes.NoMemory other has only cause = record {
       refused = λ refusal e. absurd cc;
       occupied = λ addr e. absurd cc;
+      far = λ addr e. absurd cc;
       memory = λ e. cc;
       given_up = gave_up_reading held trace file table bytes front {T = T} m before mid now
           passes.NoMemory has only cause;
@@ -530,9 +517,7 @@ module _ (held : Option Files) (trace file : List ℕ) (table : List Move) (all 
         → EndsAt table file (version_and_header (reading_of all).1.progress) (reading_of all).0
         before now refusal fault
         → Gave held trace file table before now fault
-    gave_refused (faults.Refused r) (inr away) =
-        gave_stopped held trace file table all front_of_all before now (faults.Refused r) away
-    gave_refused (faults.Refused r) (inl ends) =
+    gave_refused (faults.Refused r) ends =
         record {
           refused = λ r' e.
               let also : r' ≡ r = cc in
@@ -540,13 +525,16 @@ module _ (held : Option Files) (trace file : List ℕ) (table : List Move) (all 
               (sym (also ∙ ends.0))
               (refused_whole held trace file table all refusal before now whole is ends.1);
           occupied = λ addr e. absurd cc;
+          far = λ addr e. absurd cc;
           memory = λ e.
               let also : r ≡ refusals.Trace trace_faults.NoMemory = cc in other (sym ends.0 ∙ also);
           given_up = gave_up held trace file table all front_of_all before now refusal
-              (faults.Refused r) (inl ends);
+              (faults.Refused r) ends;
         }
     gave_refused (faults.Occupied addr) ends =
         gave_stopped held trace file table all front_of_all before now (faults.Occupied addr) ends
+    gave_refused (faults.Far addr) ends =
+        gave_stopped held trace file table all front_of_all before now (faults.Far addr) ends
     gave_refused faults.ReadFault ends = absurd ends
     gave_refused faults.WriteFault ends =
         gave_stopped held trace file table all front_of_all before now faults.WriteFault ends

@@ -19,6 +19,7 @@ pub mod MadeGoing
 pub mod MovedTraces
 pub mod MovedWords
 pub mod Movings
+pub mod NearRanges
 pub mod OneTraces
 pub mod Others
 pub mod Pieces

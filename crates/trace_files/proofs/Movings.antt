@@ -22,13 +22,12 @@ use Rattle.trace_format.specs.Spelling.{before_after, nothing_before, spell_reco
 use Rattle.trace_format.specs.Writing.{Writing, before_behind, begin_writing, begun_with}
 use Rattle.trace_format.specs.Laws.Touches.{touches-push}
 use Rattle.trace_format.specs.Laws.Writing.{begun-more, writer-more}
-use Rattle.trace_passes.specs.Passes.{near_refusal}
 use Rattle.trace_files.specs.declared.move_row.Move.{Move}
 use Rattle.trace_files.specs.declared.mover.Mover.{Mover}
 use Rattle.trace_files.specs.Movers.{HasMoved, MayPut}
 use Rattle.trace_files.specs.Moves.{count_moved, is_moved}
 use Rattle.trace_files.specs.Moving.{narrowed}
-use Rattle.trace_files.specs.Moving.{is_in_the_way, moved_item, moved_items, moved_so_far}
+use Rattle.trace_files.specs.Moving.{is_at_fault, moved_item, moved_items, moved_so_far}
 use Rattle.trace_files.proofs.Begun.{as_many}
 
 -- ---- one record more
@@ -49,11 +48,11 @@ count_more table seen item =
     ∙ sum_by-append (λ (a : Touch). cond (is_moved table a.addr) 1 0) (touches_in seen)
     (touches_in (item ∷ []))
 
-pub free_more : (table : List Move) (seen : List TraceRecord) (item : TraceRecord)
-    → list_any (is_in_the_way table) seen ≡ false → is_in_the_way table item ≡ false
-    → list_any (is_in_the_way table) (seen ++ item ∷ []) ≡ false
-free_more table seen item free here =
-    list_any-append (is_in_the_way table) seen (item ∷ [])
+pub free_more : (near : ℕ) (table : List Move) (seen : List TraceRecord) (item : TraceRecord)
+    → list_any (is_at_fault near table) seen ≡ false → is_at_fault near table item ≡ false
+    → list_any (is_at_fault near table) (seen ++ item ∷ []) ≡ false
+free_more near table seen item free here =
+    list_any-append (is_at_fault near table) seen (item ∷ [])
     ∙ (λ i. free i || (here i || false))
 
 module _ (table : List Move) (name : List ℕ) (m : Mover) (head : Version × Header)
@@ -81,24 +80,27 @@ module _ (table : List Move) (name : List ℕ) (m : Mover) (head : Version × He
 
     -- a record was put
     pub has_put : (item : TraceRecord) (n : Mover) (new : Outside)
-        → is_in_the_way table item ≡ false → n.name ≡ m.name → n.begun ≡ m.begun
+        → is_at_fault m.near table item ≡ false → n.name ≡ m.name → n.begun ≡ m.begun
+        → n.near ≡ m.near
         → n.moved ≡ m.moved + count_moved table (touches_in (item ∷ []))
         → n.writer ≡ record m.writer
         { before = before_after m.writer.before (moved_item table item) }
         → IsOutputs n.files (outputs_with (moved_so_far table name (Some head) seen) 0
         (spell_record m.writer.version m.writer.before (moved_item table item))) before new
         → HasMoved table name n (Some head) (seen ++ item ∷ []) before new
-    has_put item n new free named begun moved next outputs = record {
+    has_put item n new free named begun near moved next outputs = record {
       named = ap (λ v. v.now) named ∙ has.named;
       outputs = subst (λ (l : List Output). IsOutputs n.files l before new) (put_on item) outputs;
       begun = begun ∙ has.begun;
-      plain = has.plain;
+      near = near ∙ has.near;
+      small = has.small;
       writer = next
           ∙ writer-more head.0 m.writer (moved_items table seen) (moved_item table item) has.writer
           ∙ ap (λ (l : List TraceRecord). let w : Writing = record
           { version = head.0; before = before_behind nothing_before l } in w)
           (sym (moved_more table seen item));
-      free = free_more table seen item has.free free;
+      free = free_more head.1.near table seen item has.free
+          (ap (λ (k : ℕ). is_at_fault k table item) (sym has.near) ∙ free);
       moved = moved
           ∙ ap (λ (k : ℕ). k + count_moved table (touches_in (item ∷ []))) has.moved
           ∙ sym (count_more table seen item);
@@ -128,13 +130,14 @@ one_counted table a pc goes is =
 
 -- none is begun, and nothing is put
 pub nothing_moved : (table : List Move) (m : Mover) (outside : Outside) → m.begun ≡ false
-    → m.moved ≡ 0 → IsOutputs m.files [] outside outside
+    → m.near ≡ 0 → m.moved ≡ 0 → IsOutputs m.files [] outside outside
     → HasMoved table m.name.now m None [] outside outside
-nothing_moved table m outside begun moved outputs = record {
+nothing_moved table m outside begun near moved outputs = record {
   named = refl;
   outputs = outputs;
   begun = begun;
-  plain = refl;
+  near = near;
+  small = omega arith;
   writer = tt;
   free = refl;
   moved = moved;
@@ -157,15 +160,16 @@ module _ (table : List Move) (name : List ℕ) (m : Mover) (before old : Outside
     none_begun_there = subst (λ (l : List Waiting). AreBegun (names_of l) old) (sym no_file_there) tt
 
     pub has_begun : (v : Version) (h : Header) (n : Mover) (new : Outside) → n.name ≡ m.name
-        → n.begun ≡ true → n.moved ≡ m.moved → n.writer ≡ begin_writing v
+        → n.begun ≡ true → n.near ≡ h.near → n.moved ≡ m.moved → n.writer ≡ begin_writing v
         → IsOutputs n.files (one_file name (begun_with v (narrowed h) [])) before new
-        → near_refusal None h.near ≡ None
+        → h.near ≤ 16
         → HasMoved table name n (Some (v, h)) [] before new
-    has_begun v h n new named begun moved writer outputs plain = record {
+    has_begun v h n new named begun near moved writer outputs small = record {
       named = ap (λ x. x.now) named ∙ has.named;
       outputs = outputs;
       begun = begun;
-      plain = plain;
+      near = near;
+      small = small;
       writer = writer;
       free = refl;
       moved = moved ∙ has.moved;

@@ -2,7 +2,7 @@
 use Rattle.std.proofs.Common.{◌≡◌, ◌≢◌, ℕ, zero, suc, ◌+◌, ◌-◌, ◌<◌, ◌≤◌, Bool, true, false, not, ◌⊎◌, List, []}
 use Rattle.std.proofs.Common.{◌∷◌, length, get_or, take, drop, Some, None, cond}
 use Rattle.std.proofs.Common.{refl, sym, ap, ◌∙◌, subst, inl, inr, arith, find}
-use Rattle.std.specs.Prelude.{◌||◌, nat_eq, nat_le}
+use Rattle.std.specs.Prelude.{◌||◌, nat_eq, nat_le, nat_lt}
 use Rattle.std.specs.List.{AllPairs, AllWithin, insert, list_all}
 use Rattle.std.specs.List.Sorted.{IsPartitionedBy}
 use Rattle.std.proofs.lemmas.Bool.{cases_lt}
@@ -52,6 +52,12 @@ begins_low rows rising i j d low inside =
 pub parted : (rows : List Move) (addr : ℕ) → AreRising rows
     → IsPartitionedBy (λ m. nat_le m.from addr) rows
 parted rows addr rising = λ i j d low inside is.
+    let o = begins_low rows rising i j d low inside in
+    grind (arith, nat_tests)
+
+pub parted_below : (rows : List Move) (end : ℕ) → AreRising rows
+    → IsPartitionedBy (λ m. nat_lt m.from end) rows
+parted_below rows end rising = λ i j d low inside is.
     let o = begins_low rows rising i j d low inside in
     grind (arith, nat_tests)
 

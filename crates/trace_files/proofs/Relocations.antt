@@ -1,7 +1,7 @@
 -- A moved trace on its way, piece after piece, and what stands where it gives up.
-use Rattle.std.proofs.Common.{◌≡◌, ◌<◌, ◌^◌, ℕ, List, [], ◌∷◌, ◌++◌}
+use Rattle.std.proofs.Common.{◌≡◌, ◌<◌, ◌≤◌, ◌^◌, ℕ, List, [], ◌∷◌, ◌++◌}
 use Rattle.std.proofs.Common.{length, Option, Some, None}
-use Rattle.std.proofs.Common.{refl, sym, ap, ◌∙◌, subst, arith, append-nil, inr}
+use Rattle.std.proofs.Common.{refl, sym, ap, ◌∙◌, subst, arith, append-nil}
 use Rattle.std.specs.List.{All}
 use Rattle.std.specs.Option.{IfSome}
 use Rattle.trace_format.specs.declared.record.TraceEnd.{TraceEnd}
@@ -16,9 +16,10 @@ use Rattle.trace_format.specs.declared.read_so_far.ReadSoFar.{ReadSoFar}
 use Rattle.trace_format.specs.declared.record.Header.{Header}
 use Rattle.trace_format.specs.declared.record.TraceRecord.{TraceRecord}
 use Rattle.trace_format.specs.declared.record.Version.{Version}
+use Rattle.trace_format.specs.declared.record.Version.TheVariants.{One, Two, Three, Four}
 use Rattle.trace_format.specs.Laws.Counts.{IsSoFar, counted_so_far, few_accesses, so_far}
 use Rattle.trace_format.specs.Reading.{Reading, begin, read_on, reading_of}
-use Rattle.trace_format.specs.Rules.{IsGoodHeader, IsWritable, touches_in}
+use Rattle.trace_format.specs.Rules.{HasRegions, IsWritable, touches_in}
 use Rattle.trace_passes.specs.declared.wanted.Refusal.{Refusal}
 use Rattle.trace_passes.specs.Cursors.{HasCome, Reached}
 use Rattle.trace_passes.specs.Cursors.{version_and_header}
@@ -29,7 +30,7 @@ use Rattle.trace_files.specs.declared.move_row.Move.{Move}
 use Rattle.trace_files.specs.declared.mover.Mover.{Mover}
 use Rattle.trace_files.specs.Copies.{any}
 use Rattle.trace_files.specs.Movers.{EndsAt, Follows, HasMoved, IsAllWritten, IsCutAt}
-use Rattle.trace_files.specs.Movers.{MayTake, StopsAt}
+use Rattle.trace_files.specs.Movers.{IsWell, MayTake, StopsAt}
 use Rattle.trace_files.specs.Moving.{moved_so_far}
 use Rattle.trace_files.proofs.Pieces.{all_behind, writable_in}
 
@@ -39,8 +40,9 @@ pub ends_by : (table : List Move) (name : List ℕ) (head : Option (Version × H
     (all : List TraceRecord) (before now : Outside) (fault : MoveFault)
     (why : Refusal) → StopsAt table name head all before now fault
     → EndsAt table name head all before now why fault
-ends_by table name head all before now (faults.Refused refusal) why stops = inr stops
+ends_by table name head all before now (faults.Refused refusal) why stops = absurd stops
 ends_by table name head all before now (faults.Occupied addr) why stops = stops
+ends_by table name head all before now (faults.Far addr) why stops = stops
 ends_by table name head all before now faults.ReadFault why stops = stops
 ends_by table name head all before now faults.WriteFault why stops = stops
 ends_by table name head all before now faults.NoMemory why stops = stops
@@ -52,7 +54,6 @@ pub all_cut : (table : List Move) (name : List ℕ) (m : Mover) (head : Option (
     → AreCut (moved_so_far table name head seen) before now error
     → IsCutAt table name head seen before now error
 all_cut table name m head seen before old now error has cut = record {
-  plain = has.plain;
   put = seen;
   more = [];
   free = has.free;
@@ -136,10 +137,21 @@ follows_of bytes all items behind records =
 
 -- ---- what may be taken
 
+small_regions : (v : Version) (h : Header) → HasRegions v h → h.near ≤ 16
+small_regions One h regions = omega (arith, regions)
+small_regions Two h regions = omega (arith, regions)
+small_regions Three h regions = omega (arith, regions)
+small_regions Four h regions = regions.1.1
+
 good_in : (all : List ℕ) (p : Option ReadSoFar) → (reading_of all).1.progress ≡ p
-    → IfSome (version_and_header p) (λ h. IsGoodHeader h.1)
+    → IfSome (version_and_header p) IsWell
 good_in all None is = tt
-good_in all (Some p) is = (counted_so_far all p is).header
+good_in all (Some p) is =
+    let counted = counted_so_far all p is in
+    record {
+      good = counted.header;
+      small = small_regions p.version p.header counted.regions;
+    }
 
 few_in : (all : List ℕ) (p : Option ReadSoFar) → (reading_of all).1.progress ≡ p
     → length (touches_in (reading_of all).0) < 2 ^ 63
@@ -166,7 +178,8 @@ has_read table name m head seen before mid now read has = record {
   outputs = IsOutputs-read m.files (moved_so_far table name head seen) before mid now read
       has.outputs;
   begun = has.begun;
-  plain = has.plain;
+  near = has.near;
+  small = has.small;
   writer = has.writer;
   free = has.free;
   moved = has.moved;
@@ -216,7 +229,7 @@ module _ (table : List Move) (trace file : List ℕ) (m : Mover) (cursor : Reach
           (follows_of at.bytes all items behind records);
       room = subst (λ (l : List TraceRecord). length (touches_in l) < 2 ^ 63) records
           (few_in all (reading_of all).1.progress refl);
-      good = subst (λ (r : Reading). IfSome (version_and_header r.progress) (λ h. IsGoodHeader h.1))
+      good = subst (λ (r : Reading). IfSome (version_and_header r.progress) IsWell)
           (sym is) (good_in all (reading_of all).1.progress refl);
     }
 

@@ -5,7 +5,7 @@ use Rattle.std.proofs.Common.{◌∙◌, subst, arith, append-nil, append_assoc,
 use Rattle.std.proofs.lemmas.Bool.{cases_Bool}
 use Rattle.std.specs.Prelude.{◌||◌, if◌then◌else◌, is_some}
 use Rattle.std.specs.List.{list_any, take_while}
-use Rattle.std.specs.Option.{option_map, option_or}
+use Rattle.std.specs.Option.{option_and_then, option_or}
 use Rattle.std.proofs.lemmas.List.{take-append-drop}
 use Rattle.std.proofs.lemmas.List.Folds.{find-append}
 use Rattle.std.proofs.lemmas.List.Sums.{take_while-cons}
@@ -13,25 +13,24 @@ use Rattle.shelf.specs.Shelf.{Outside}
 use Rattle.shelf.specs.declared.shelf.ShelfError.{ShelfError}
 use Rattle.shelf.specs.declared.shelf.ShelfError.TheVariants as errors
 use Rattle.shelf.specs.Files.{AreCut, AreWritten}
-use Rattle.shelf.specs.Laws.Files.{IsOutputs-cut}
-use Rattle.shelf.specs.Laws.Told.{goes_map}
 use Rattle.trace_format.specs.declared.record.Header.{Header}
 use Rattle.trace_format.specs.declared.record.TraceRecord.{TraceRecord}
+use Rattle.trace_format.specs.declared.record.TraceRecord.TheVariants as records
 use Rattle.trace_format.specs.declared.record.Version.{Version}
 use Rattle.trace_format.specs.Laws.Counts.{touches_in-front}
 use Rattle.trace_format.specs.Rules.{touches_in}
-use Rattle.trace_passes.specs.declared.wanted.Refusal.{Refusal}
-use Rattle.trace_passes.specs.Passes.{near_refusal}
 use Rattle.trace_files.specs.declared.move_fault.MoveFault.{MoveFault}
 use Rattle.trace_files.specs.declared.move_fault.MoveFault.TheVariants as faults
 use Rattle.trace_files.specs.declared.move_row.Move.{Move}
 use Rattle.trace_files.specs.declared.mover.Mover.{Mover}
-use Rattle.trace_files.specs.Movers.{Follows, HasMoved, IsCutAt, IsOccupied, MayPut, StopsAt}
-use Rattle.trace_files.specs.Movers.{IsTurnedAway, MayTake, write_fault}
-use Rattle.trace_files.specs.Moving.{addr_of, before_the_first, first_in_the_way, is_in_the_way}
-use Rattle.trace_files.specs.Moving.{moved_so_far}
+use Rattle.trace_files.specs.Movers.{Follows, HasMoved, IsCutAt, IsHeldUp, MayPut, MayTake, StopsAt}
+use Rattle.trace_files.specs.Movers.{write_fault}
+use Rattle.trace_files.specs.Moves.{is_taken}
+use Rattle.trace_files.specs.Moving.{access_fault, before_the_first, first_fault, is_at_fault}
+use Rattle.trace_files.specs.Moving.{moved_so_far, near_of, record_fault}
+use Rattle.trace_files.specs.NearMoves.{is_far}
 use Rattle.trace_files.proofs.Lookups.{any_find}
-use Rattle.trace_files.proofs.Movings.{free_more, none_new}
+use Rattle.trace_files.proofs.Movings.{free_more}
 use Rattle.trace_files.proofs.Readings.{seen_more}
 
 -- ---- the first that is in the way
@@ -83,37 +82,39 @@ front_stays p (x ∷ xs) ys some = elim (cases_Bool (p x)) [
       ∙ ap (λ (b : Bool). cond (not b) (x ∷ take_while (λ y. not (p y)) xs) []) other)
 ]
 
-pub none_in_front : (table : List Move) (all more : List TraceRecord)
-    → list_any (is_in_the_way table) all ≡ false
-    → first_in_the_way table (all ++ more) ≡ first_in_the_way table more
-none_in_front table all more none =
-    ap (option_map addr_of) (find-append (is_in_the_way table) all more
-    ∙ ap (λ (o : Option TraceRecord). option_or o (find (is_in_the_way table) more))
-    (none_found (is_in_the_way table) all none))
+pub none_in_front : (near : ℕ) (table : List Move) (all more : List TraceRecord)
+    → list_any (is_at_fault near table) all ≡ false
+    → first_fault near table (all ++ more) ≡ first_fault near table more
+none_in_front near table all more none =
+    ap (option_and_then (record_fault near table)) (find-append (is_at_fault near table) all more
+    ∙ ap (λ (o : Option TraceRecord). option_or o (find (is_at_fault near table) more))
+    (none_found (is_at_fault near table) all none))
 
-pub none_in_the_way : (table : List Move) (all : List TraceRecord)
-    → list_any (is_in_the_way table) all ≡ false → first_in_the_way table all ≡ None
-none_in_the_way table all none = ap (option_map addr_of) (none_found (is_in_the_way table) all none)
+pub none_at_fault : (near : ℕ) (table : List Move) (all : List TraceRecord)
+    → list_any (is_at_fault near table) all ≡ false → first_fault near table all ≡ None
+none_at_fault near table all none =
+    ap (option_and_then (record_fault near table)) (none_found (is_at_fault near table) all none)
 
-some_found : (o q : Option TraceRecord) (addr : ℕ) → option_map addr_of o ≡ Some addr
-    → (option_map addr_of (option_or o q) ≡ Some addr) × (is_some o ≡ true)
-some_found None q addr is = absurd cc
-some_found (Some x) q addr is = (is, refl)
+some_found : (f : TraceRecord → Option MoveFault) (o q : Option TraceRecord) (fault : MoveFault)
+    → option_and_then f o ≡ Some fault
+    → (option_and_then f (option_or o q) ≡ Some fault) × (is_some o ≡ true)
+some_found f None q fault is = absurd cc
+some_found f (Some x) q fault is = (is, refl)
 
 -- the first one stays
-pub first_stays : (table : List Move) (all more : List TraceRecord) (addr : ℕ)
-    → first_in_the_way table all ≡ Some addr → first_in_the_way table (all ++ more) ≡ Some addr
-first_stays table all more addr is =
-    let p = is_in_the_way table in
-    ap (option_map addr_of) (find-append p all more)
-    ∙ (some_found (find p all) (find p more) addr is).0
+pub first_stays : (near : ℕ) (table : List Move) (all more : List TraceRecord) (fault : MoveFault)
+    → first_fault near table all ≡ Some fault → first_fault near table (all ++ more) ≡ Some fault
+first_stays near table all more fault is =
+    let p = is_at_fault near table in
+    ap (option_and_then (record_fault near table)) (find-append p all more)
+    ∙ (some_found (record_fault near table) (find p all) (find p more) fault is).0
 
-pub front_same : (table : List Move) (all more : List TraceRecord) (addr : ℕ)
-    → first_in_the_way table all ≡ Some addr
-    → before_the_first table (all ++ more) ≡ before_the_first table all
-front_same table all more addr is =
-    let p = is_in_the_way table in
-    let found = some_found (find p all) (find p more) addr is in
+pub front_same : (near : ℕ) (table : List Move) (all more : List TraceRecord) (fault : MoveFault)
+    → first_fault near table all ≡ Some fault
+    → before_the_first near table (all ++ more) ≡ before_the_first near table all
+front_same near table all more fault is =
+    let p = is_at_fault near table in
+    let found = some_found (record_fault near table) (find p all) (find p more) fault is in
     front_stays p all more (any_find p all ∙ found.1)
 
 -- ---- where it gives up
@@ -130,7 +131,6 @@ cut_on : (table : List Move) (name : List ℕ) (head : Option (Version × Header
     → IsCutAt table name head all before now error
     → IsCutAt table name head (all ++ more) before now error
 cut_on table name head all more before now error cut = record {
-  plain = cut.plain;
   put = cut.put;
   more = cut.more ++ more;
   free = cut.free;
@@ -139,62 +139,112 @@ cut_on table name head all more before now error cut = record {
   cut = cut.cut;
 }
 
+held_up_on : (table : List Move) (name : List ℕ) (head : Option (Version × Header))
+    (all more : List TraceRecord) (before now : Outside) (fault : MoveFault)
+    → IsHeldUp table name head all before now fault
+    → IsHeldUp table name head (all ++ more) before now fault
+held_up_on table name head all more before now fault held =
+    let near = near_of head in record {
+      first = first_stays near table all more fault held.first;
+      written = subst (λ (l : List TraceRecord). AreWritten (moved_so_far table name head l) before
+          now) (sym (front_same near table all more fault held.first)) held.written;
+      cut = cut_on table name head all more before now errors.NoMemory held.cut;
+    }
+
 -- more records that were to be put change nothing
 pub stops_on : (table : List Move) (name : List ℕ) (head : Option (Version × Header))
     (all more : List TraceRecord) (before now : Outside) (fault : MoveFault)
     → StopsAt table name head all before now fault
     → StopsAt table name head (all ++ more) before now fault
-stops_on table name head all more before now (faults.Refused refusal) stops = stops
+stops_on table name head all more before now (faults.Refused refusal) stops = absurd stops
 stops_on table name head all more before now faults.ReadFault stops = absurd stops
 stops_on table name head all more before now faults.WriteFault stops =
     cut_on table name head all more before now errors.Failed stops
 stops_on table name head all more before now faults.NoMemory stops =
     cut_on table name head all more before now errors.NoMemory stops
 stops_on table name head all more before now (faults.Occupied addr) stops =
-    let p = is_in_the_way table in
-    let found = some_found (find p all) (find p more) addr stops.first in
-    let some : list_any p all ≡ true = any_find p all ∙ found.1 in
-    record {
-      first = ap (option_map addr_of) (find-append p all more) ∙ found.0;
-      written = subst (λ (l : List TraceRecord). AreWritten (moved_so_far table name head l) before
-          now) (sym (front_stays p all more some)) stops.written;
-      cut = cut_on table name head all more before now errors.NoMemory stops.cut;
-    }
+    held_up_on table name head all more before now (faults.Occupied addr) stops
+stops_on table name head all more before now (faults.Far addr) stops =
+    held_up_on table name head all more before now (faults.Far addr) stops
+
+-- a record is refused for an access that is in the way, or far
+of_access : (taken far : Bool) (addr : ℕ) (o : Option MoveFault) (fault : MoveFault)
+    → o ≡ (if taken then Some (faults.Occupied addr)
+    else (if far then Some (faults.Far addr) else None)) → o ≡ Some fault
+    → (P : MoveFault → Type 0)
+    → (o ≡ Some (faults.Occupied addr) → P (faults.Occupied addr))
+    → (o ≡ Some (faults.Far addr) → P (faults.Far addr)) → P fault
+of_access true far addr o fault is at P occupied beside =
+    let same : faults.Occupied addr ≡ fault = cc in subst P same (occupied is)
+of_access false true addr o fault is at P occupied beside =
+    let same : faults.Far addr ≡ fault = cc in subst P same (beside is)
+of_access false false addr o fault is at P occupied beside = absurd cc
+
+stops_at_record : (near : ℕ) (table : List Move) (item : TraceRecord) (fault : MoveFault)
+    → record_fault near table item ≡ Some fault → (P : MoveFault → Type 0)
+    → ((addr : ℕ) → record_fault near table item ≡ Some (faults.Occupied addr)
+    → P (faults.Occupied addr))
+    → ((addr : ℕ) → record_fault near table item ≡ Some (faults.Far addr) → P (faults.Far addr))
+    → P fault
+stops_at_record near table (records.Touch a pc) fault is P occupied beside =
+    of_access (is_taken table a.addr) (is_far near table a.addr) a.addr
+    (access_fault near table a.addr) fault refl is P (occupied a.addr) (beside a.addr)
+stops_at_record near table (records.Alloc addr size sites) fault is P occupied beside = absurd cc
+stops_at_record near table (records.Free addr) fault is P occupied beside = absurd cc
+stops_at_record near table (records.Symbol kind addr size symbol) fault is P occupied beside =
+    absurd cc
+stops_at_record near table (records.End e) fault is P occupied beside = absurd cc
 
 module _ (table : List Move) (name : List ℕ) (m : Mover) (head : Version × Header)
     (seen : List TraceRecord) (before old : Outside)
     (has : HasMoved table name m (Some head) seen before old) (item : TraceRecord)
   where
-    pub occupied : (now : Outside) (addr : ℕ)
-        → is_in_the_way table item ≡ true → addr ≡ addr_of item
+    pub held_up : (now : Outside) (fault : MoveFault)
+        → record_fault head.1.near table item ≡ Some fault
         → AreWritten (moved_so_far table name (Some head) seen) before now
         → AreCut (moved_so_far table name (Some head) seen) before now errors.NoMemory
-        → IsOccupied table name (Some head) (seen ++ item ∷ []) before now addr
-    occupied now addr here is written cut = record {
-      first = none_in_front table seen (item ∷ []) has.free
-          ∙ ap (λ (b : Bool). option_map addr_of (cond b (Some item) None)) here
-          ∙ ap (λ (n : ℕ). Some n) (sym is);
-      written = subst (λ (l : List TraceRecord). AreWritten (moved_so_far table name (Some head) l)
-          before now)
-          (sym (front_free (is_in_the_way table) seen (item ∷ []) has.free
-          ∙ ap (λ (l : List TraceRecord). seen ++ l)
-          (stops_first (is_in_the_way table) item [] here)
-          ∙ append-nil seen)) written;
-      cut = record {
-        plain = has.plain;
-        put = seen;
-        more = item ∷ [];
-        free = has.free;
-        first = refl;
-        cut = cut;
-      };
-    }
+        → IsHeldUp table name (Some head) (seen ++ item ∷ []) before now fault
+    held_up now fault is written cut =
+        let near = head.1.near in
+        let here : is_at_fault near table item ≡ true = ap is_some is in
+        record {
+          first = none_in_front near table seen (item ∷ []) has.free
+              ∙ ap (λ (b : Bool). option_and_then (record_fault near table)
+              (cond b (Some item) None)) here
+              ∙ is;
+          written = subst (λ (l : List TraceRecord). AreWritten
+              (moved_so_far table name (Some head) l) before now)
+              (sym (front_free (is_at_fault near table) seen (item ∷ []) has.free
+              ∙ ap (λ (l : List TraceRecord). seen ++ l)
+              (stops_first (is_at_fault near table) item [] here)
+              ∙ append-nil seen)) written;
+          cut = record {
+            put = seen;
+            more = item ∷ [];
+            free = has.free;
+            first = refl;
+            cut = cut;
+          };
+        }
+
+    -- at the fault that is found of it
+    pub held_up_so : (now : Outside) (fault : MoveFault)
+        → record_fault m.near table item ≡ Some fault
+        → AreWritten (moved_so_far table name (Some head) seen) before now
+        → AreCut (moved_so_far table name (Some head) seen) before now errors.NoMemory
+        → StopsAt table name (Some head) (seen ++ item ∷ []) before now fault
+    held_up_so now fault is written cut =
+        let so : record_fault head.1.near table item ≡ Some fault =
+        ap (λ (k : ℕ). record_fault k table item) (sym has.near) ∙ is in
+        stops_at_record head.1.near table item fault so
+        (λ f. StopsAt table name (Some head) (seen ++ item ∷ []) before now f)
+        (λ addr e. held_up now (faults.Occupied addr) e written cut)
+        (λ addr e. held_up now (faults.Far addr) e written cut)
 
     pub cut_before : (now : Outside) (error : ShelfError)
         → AreCut (moved_so_far table name (Some head) seen) before now error
         → IsCutAt table name (Some head) (seen ++ item ∷ []) before now error
     cut_before now error cut = record {
-      plain = has.plain;
       put = seen;
       more = item ∷ [];
       free = has.free;
@@ -202,28 +252,18 @@ module _ (table : List Move) (name : List ℕ) (m : Mover) (head : Version × He
       cut = cut;
     }
 
-    pub cut_behind : (now : Outside) (error : ShelfError) → is_in_the_way table item ≡ false
+    pub cut_behind : (now : Outside) (error : ShelfError)
+        → is_at_fault m.near table item ≡ false
         → AreCut (moved_so_far table name (Some head) (seen ++ item ∷ [])) before now error
         → IsCutAt table name (Some head) (seen ++ item ∷ []) before now error
     cut_behind now error free cut = record {
-      plain = has.plain;
       put = seen ++ item ∷ [];
       more = [];
-      free = free_more table seen item has.free free;
+      free = free_more head.1.near table seen item has.free
+          (ap (λ (k : ℕ). is_at_fault k table item) (sym has.near) ∙ free);
       first = sym (append-nil (seen ++ item ∷ []));
       cut = cut;
     }
-
--- ---- whether one is in the way
-
-pub way_is : (b : Bool) (n addr : ℕ) → (if b then Some n else None) ≡ Some addr
-    → (b ≡ true) × (addr ≡ n)
-way_is true n addr is = (refl, cc)
-way_is false n addr is = absurd cc
-
-pub way_not : (b : Bool) (n : ℕ) → (if b then Some n else None) ≡ None → b ≡ false
-way_not true n is = absurd cc
-way_not false n is = refl
 
 -- ---- records one after the other
 
@@ -367,33 +407,14 @@ is_begun table name m (Some g) seen before now head has follows on =
 -- the file was cut as its header was put
 pub cut_header : (table : List Move) (name : List ℕ) (head : Version × Header)
     (seen : List TraceRecord) (before now : Outside) (error : ShelfError) → seen ≡ []
-    → near_refusal None head.1.near ≡ None
     → AreCut (moved_so_far table name (Some head) []) before now error
     → IsCutAt table name (Some head) seen before now error
-cut_header table name head seen before now error none plain cut = record {
-  plain = plain;
+cut_header table name head seen before now error none cut = record {
   put = [];
   more = [];
   free = refl;
   first = none;
   cut = cut;
-}
-
--- a header that is refused begins nothing
-pub turned_away : (table : List Move) (name : List ℕ) (m : Mover) (before now : Outside)
-    (head : Version × Header) (refusal : Refusal) → HasMoved table name m None [] before now
-    → near_refusal None head.1.near ≡ Some refusal
-    → IsTurnedAway (Some head) before now refusal
-turned_away table name m before now head refusal has refused = record {
-  refused = refused;
-  written = record {
-    whole = goes_map before.written now.written
-        (λ b n same other. same other (none_new table name m before now has other))
-        has.outputs.others;
-    faults = has.outputs.faults;
-    only = has.outputs.only;
-  };
-  cut = IsOutputs-cut m.files [] before now errors.NoMemory (λ e. cc) has.outputs;
 }
 
 -- without a header no record came

@@ -9,7 +9,9 @@ use Rattle.trace_format.specs.Spelling.{no_pcs, nothing_before, spell_records, s
 use Rattle.trace_format.specs.Rules.{touches_in}
 use Rattle.trace_files.specs.declared.table_fault.TableFault.TheVariants.{BadLine, Overlap}
 use Rattle.trace_files.specs.Moves.{count_moved, is_taken, moved_addr}
-use Rattle.trace_files.specs.Moving.{first_in_the_way, moved_items}
+use Rattle.trace_files.specs.Moving.{first_fault, moved_items, narrowed}
+use Rattle.trace_files.specs.NearMoves.{is_far}
+use Rattle.trace_files.specs.declared.move_fault.MoveFault.TheVariants.{Far, Occupied}
 use Rattle.trace_files.specs.Numerals.{decimal_of, hexadecimal_of, number_of}
 use Rattle.trace_files.specs.Tables.{move_of, table_of}
 use Rattle.trace_files.specs.declared.move_row.Move.{Move}
@@ -123,7 +125,7 @@ unfolding neighbours moved_addr spell_touch
 one_moved = refl
 
 -- under `0x1004 4 0x1000` the first one is in the way
-in_the_way : first_in_the_way (move 0x1004 4 0x1000 ∷ []) neighbours ≡ Some 0x1000
+in_the_way : first_fault 0 (move 0x1004 4 0x1000 ∷ []) neighbours ≡ Some (Occupied 0x1000)
 unfolding neighbours is_taken
 in_the_way = refl
 
@@ -138,9 +140,9 @@ all_swapped : moved_items (move 0x1000 4 0x1004 ∷ move 0x1004 4 0x1000 ∷ [])
 unfolding neighbours moved_addr
 all_swapped = refl
 
-none_in_the_way : first_in_the_way (move 0x1000 4 0x1004 ∷ move 0x1004 4 0x1000 ∷ []) neighbours
+none_in_the_way : first_fault 0 (move 0x1000 4 0x1004 ∷ move 0x1004 4 0x1000 ∷ []) neighbours
     ≡ None
-unfolding neighbours is_taken
+unfolding neighbours is_taken is_far
 none_in_the_way = refl
 
 -- ---- accesses with pcs, under `0x11000 4 0x11080` and `0x11004 4 0x11040`
@@ -170,3 +172,60 @@ behind_moved : spell_records Three nothing_before
     ∷ 0x11 ∷ 0 ∷ 0x80 ∷ 1 ∷ 0x70 ∷ []
 unfolding three_harts sited moved_addr spell_touch no_pcs
 behind_moved = refl
+
+-- ---- filtered lists, under regions of 64 bytes
+
+-- two harts in words that aren't near
+apart : List TraceRecord
+apart = write 0 0x1000 ∷ sited 1 0x10c0 Read 4 0 ∷ []
+
+-- without a line of the table none is far, nor where the list isn't filtered
+none_far : first_fault 6 [] apart ≡ None
+unfolding apart sited is_taken is_far
+none_far = refl
+
+not_filtered : first_fault 0 (move 0x10c0 4 0x1040 ∷ []) apart ≡ None
+unfolding apart sited is_taken is_far
+not_filtered = refl
+
+-- `0x10c0 4 0x1040` brings a byte near the access of 0x1000, which isn't moved
+beside_one_that_stays : first_fault 6 (move 0x10c0 4 0x1040 ∷ []) apart ≡ Some (Far 0x1000)
+unfolding apart sited is_taken is_far moved_addr
+beside_one_that_stays = refl
+
+-- under regions of 128 bytes the two were near
+near_before : first_fault 7 (move 0x10c0 4 0x1040 ∷ []) apart ≡ None
+unfolding apart sited is_taken is_far moved_addr
+near_before = refl
+
+-- 0x1000 is moved beside a place to which 0x1100 goes, though nothing is accessed there
+beside_one_that_goes : first_fault 6 (move 0x1000 4 0x2000 ∷ move 0x1100 4 0x2004 ∷ [])
+    (write 0 0x1000 ∷ []) ≡ Some (Far 0x1000)
+unfolding is_taken is_far moved_addr
+beside_one_that_goes = refl
+
+-- The place of `0x1080 72 0x1000` has bytes near 0x1078 in two regions: 0x1000 comes from 0x1080,
+-- which is near, and the last one, 0x1047, from 0x10c7, which isn't.
+by_the_last_byte : first_fault 6 (move 0x1080 72 0x1000 ∷ []) (write 0 0x1078 ∷ [])
+    ≡ Some (Far 0x1078)
+unfolding is_taken is_far moved_addr
+by_the_last_byte = refl
+
+one_word_less : first_fault 6 (move 0x1080 64 0x1000 ∷ []) (write 0 0x1078 ∷ []) ≡ None
+unfolding is_taken is_far moved_addr
+one_word_less = refl
+
+-- an access in the way is that, though it is far too
+occupied_first : first_fault 6 (move 0x1100 4 0x1000 ∷ []) (write 0 0x1000 ∷ [])
+    ≡ Some (Occupied 0x1000)
+unfolding is_taken is_far
+occupied_first = refl
+
+-- the moved list has regions of at most 256 bytes
+large_regions : narrowed (record { first = 0; harts = 8; near = 12 })
+    ≡ record { first = 0; harts = 8; near = 8 }
+large_regions = refl
+
+small_regions : narrowed (record { first = 0; harts = 8; near = 6 })
+    ≡ record { first = 0; harts = 8; near = 6 }
+small_regions = refl

@@ -6,6 +6,7 @@ pub mod Made
 pub mod Movers
 pub mod Moves
 pub mod Moving
+pub mod NearMoves
 pub mod Numerals
 pub mod OneTrace
 pub mod Rows

@@ -1,7 +1,7 @@
 -- Which trace a table makes of another one, and what is written where it gives up.
-use Rattle.std.specs.Prelude.{min, ◌≡◌, ◌≢◌, ℕ, ◌≤◌, List, [], map, Bool, false, not, length}
-use Rattle.std.specs.Prelude.{find, Option, Some, None, option_map}
-use Rattle.std.specs.Option.{option_map_or}
+use Rattle.std.specs.Prelude.{◌≡◌, ◌≢◌, ℕ, ◌≤◌, List, [], map, Bool, not, length, if◌then◌else◌}
+use Rattle.std.specs.Prelude.{find, is_some, Option, Some, None, option_map}
+use Rattle.std.specs.Option.{option_and_then, option_map_or}
 use Rattle.std.specs.List.{take_while}
 use Rattle.shelf.specs.Files.{Output, AreWritten, BegunInOrder, one_file}
 use Rattle.shelf.specs.Shelf.{Files, Goes, Narrows, Outside, Rose, Told, content}
@@ -13,14 +13,14 @@ use Rattle.trace_format.specs.Reading.{reading_of}
 use Rattle.trace_format.specs.Rules.{touches_in}
 use Rattle.trace_format.specs.Writing.{begun_with}
 use Rattle.trace_passes.specs.Cursors.{version_and_header}
-use Rattle.trace_passes.specs.Passes.{Trace, near_refusal, refusal_of, spell_trace}
-use Rattle.trace_passes.specs.declared.wanted.Refusal.{Refusal}
+use Rattle.trace_passes.specs.Passes.{Trace, refusal_of, spell_trace}
 use Rattle.trace_files.specs.declared.move_fault.MoveFault.{MoveFault}
-use Rattle.trace_files.specs.declared.move_fault.MoveFault.TheVariants.{Refused, Occupied}
+use Rattle.trace_files.specs.declared.move_fault.MoveFault.TheVariants.{Refused, Occupied, Far}
 use Rattle.trace_files.specs.declared.move_fault.MoveFault.TheVariants.{ReadFault, WriteFault}
 use Rattle.trace_files.specs.declared.relocation.Moved.{Moved}
-use Rattle.trace_files.specs.Copies.{IsUnfiltered, any}
+use Rattle.trace_files.specs.Copies.{any}
 use Rattle.trace_files.specs.Moves.{IsFree, count_moved, is_taken, moved_in}
+use Rattle.trace_files.specs.NearMoves.{IsNearTable, is_far, moved_near}
 use Rattle.trace_files.specs.declared.move_row.Move.{Move}
 
 -- ---- the records
@@ -33,31 +33,36 @@ moved_item table item = item
 abbrev pub moved_items : List Move → List TraceRecord → List TraceRecord
 moved_items table items = map (moved_item table) items
 
--- The regions of a moved trace have at most 256 bytes. A trace that is moved isn't filtered, and
--- has none, so that its header stays.
+-- The regions of a moved trace have at most 256 bytes. A trace that isn't filtered has none, so that
+-- its header stays.
 abbrev pub narrowed : Header → Header
-narrowed h = record h { near = min h.near 8 }
+narrowed h = record h { near = moved_near h.near }
 
 -- the trace with its accesses moved
 abbrev pub moved : List Move → Trace → Trace
 moved table t = record t { header = narrowed t.header; items = moved_items table t.items }
 
--- an access that stays, where one may go
-abbrev pub is_in_the_way : List Move → TraceRecord → Bool
-is_in_the_way table (records.Touch a pc) = is_taken table a.addr
-is_in_the_way table _ = false
+-- how an access at an address is refused: it stays where one may go, else the table isn't near for it
+abbrev pub access_fault : ℕ → List Move → ℕ → Option MoveFault
+access_fault near table addr =
+    if is_taken table addr then Some (Occupied addr)
+    else (if is_far near table addr then Some (Far addr) else None)
 
--- the address of the first such access
-abbrev pub addr_of : TraceRecord → ℕ
-addr_of (records.Touch a pc) = a.addr
-addr_of _ = 0
+abbrev pub record_fault : ℕ → List Move → TraceRecord → Option MoveFault
+record_fault near table (records.Touch a pc) = access_fault near table a.addr
+record_fault near table _ = None
 
-abbrev pub first_in_the_way : List Move → List TraceRecord → Option ℕ
-first_in_the_way table items = option_map addr_of (find (is_in_the_way table) items)
+abbrev pub is_at_fault : ℕ → List Move → TraceRecord → Bool
+is_at_fault near table item = is_some (record_fault near table item)
+
+-- the fault of the first such record
+abbrev pub first_fault : ℕ → List Move → List TraceRecord → Option MoveFault
+first_fault near table items =
+    option_and_then (record_fault near table) (find (is_at_fault near table) items)
 
 -- the records before it, all where there is none
-abbrev pub before_the_first : List Move → List TraceRecord → List TraceRecord
-before_the_first table items = take_while (λ item. not (is_in_the_way table item)) items
+abbrev pub before_the_first : ℕ → List Move → List TraceRecord → List TraceRecord
+before_the_first near table items = take_while (λ item. not (is_at_fault near table item)) items
 
 -- ---- any bytes
 
@@ -69,32 +74,27 @@ moved_so_far table name None seen = []
 moved_so_far table name (Some head) seen =
     one_file name (begun_with head.0 (narrowed head.1) (moved_items table seen))
 
--- how an accepted header is refused: a filtered trace isn't moved
-abbrev pub head_refusal : Option (Version × Header) → Option Refusal
-head_refusal None = None
-head_refusal (Some head) = near_refusal None head.1.near
+-- under what the list of an accepted header is filtered: 0 where it isn't
+abbrev pub near_of : Option (Version × Header) → ℕ
+near_of None = 0
+near_of (Some head) = head.1.near
 
--- What is written of bytes: nothing where their header is refused, else that header, once it is
--- accepted, and the records that are read before an access is in the way.
+-- What is written of bytes: the header, once it is accepted, and the records that are read before
+-- one is refused.
 abbrev pub written_of : List Move → List ℕ → List ℕ → List Output
 written_of table name bytes =
     let now = reading_of bytes in
     let head = version_and_header now.1.progress in
-    option_map_or (λ refusal. []) (head_refusal head)
-    (moved_so_far table name head (before_the_first table now.0))
+    moved_so_far table name head (before_the_first (near_of head) table now.0)
 
--- how the records of bytes are refused: for the first access in the way among those that are read,
--- else as the bytes are no trace
-abbrev pub fault_behind : List Move → List ℕ → Option MoveFault
-fault_behind table bytes =
-    option_map_or (λ addr. Some (Occupied addr)) (first_in_the_way table (reading_of bytes).0)
-    (option_map Refused (refusal_of any bytes))
-
--- how the bytes are refused: for their header, once it is accepted, else for their records
+-- how bytes are refused: for the first access that is, among those that are read, else as the bytes
+-- are no trace
 abbrev pub fault_of : List Move → List ℕ → Option MoveFault
 fault_of table bytes =
-    option_map_or (λ refusal. Some (Refused refusal))
-    (head_refusal (version_and_header (reading_of bytes).1.progress)) (fault_behind table bytes)
+    let now = reading_of bytes in
+    option_map_or (λ fault. Some fault)
+    (first_fault (near_of (version_and_header now.1.progress)) table now.0)
+    (option_map Refused (refusal_of any bytes))
 
 -- ---- what the call says
 
@@ -102,10 +102,15 @@ fault_of table bytes =
 abbrev pub moving : List Move → List ℕ → Trace → List Output
 moving table name t = one_file name (spell_trace (moved table t))
 
--- the trace isn't filtered, no access of it is in the way, and so many there are, and are moved
+-- the table is near for the accesses of a trace, where that is filtered
+abbrev pub IsNearFiltered : List Move → Trace → Type 0
+IsNearFiltered table t =
+    t.header.near ≢ 0 → IsNearTable t.header.near table (touches_in t.items)
+
+-- no access of the trace is refused, and so many there are, and are moved
 pub record IsCounted (table : List Move) (made : Moved) (t : Trace) : Type 0 where
-  pub unfiltered : IsUnfiltered t
   pub free : IsFree table (touches_in t.items)
+  pub near : IsNearFiltered table t
   pub accesses : made.accesses ≡ length (touches_in t.items)
   pub moved : made.moved ≡ count_moved table (touches_in t.items)
 

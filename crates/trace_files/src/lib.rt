@@ -17,7 +17,8 @@
 //! [`move_trace`] writes a trace with its accesses moved as a [`MoveTable`] says, in one pass.
 //! `specs/Tables.antt` says what the text of a table is and which rules it keeps, `specs/Moves.antt`
 //! where an address goes and what a list keeps then, and `specs/Moving.antt` which file is written,
-//! and what stands where it gave up.
+//! and what stands where it gave up. A filtered trace lacks accesses, which would matter if a move
+//! brought words together that weren't near: `specs/NearMoves.antt` says which tables bring none.
 #![tactic(auto)]
 
 mod convert;
@@ -31,6 +32,7 @@ mod move_laws;
 mod move_row;
 mod move_table;
 mod mover;
+mod near_moves;
 mod numbers;
 mod numerals;
 mod part_laws;
@@ -48,7 +50,9 @@ pub use copy_laws::{a_trace_converted_twice_is_itself, the_halves_have_the_acces
 pub use made_laws::a_made_trace_is_a_trace;
 pub use maker::make_trace;
 pub use move_fault::MoveFault;
-pub use move_laws::{a_free_list_keeps_its_words, a_moved_trace_is_a_trace};
+pub use move_laws::{
+    a_free_list_keeps_its_words, a_moved_trace_is_a_trace, what_is_far_is_not_near,
+};
 pub use move_table::MoveTable;
 pub use part_laws::the_halves_are_traces;
 pub use relocation::{Moved, move_trace};

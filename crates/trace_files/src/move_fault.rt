@@ -12,6 +12,9 @@ pub enum MoveFault {
     Refused(Refusal),
     /// The access of this address is in no range of the table, and lies in a place of it.
     Occupied(u32),
+    /// The trace is filtered, and a place of the table has a byte that is near this access once it is
+    /// moved, and that comes from an address that isn't near the access's own, which is given here.
+    Far(u32),
     /// A read failed: the shelf's faults of reading the trace rose.
     ReadFault,
     /// A write failed: the shelf's faults of writing the file rose.

@@ -8,6 +8,7 @@ ghost use Rattle.std.specs.Option.{option_to_list};
 ghost use Rattle.std.specs.List.{AllWithin, insert, list_all};
 ghost use Rattle.trace_files.specs.declared.move_row.Move.{Move as AMove};
 ghost use Rattle.trace_files.specs.Moves.{carried, is_in_range, is_taken, moved_addr};
+ghost use Rattle.trace_files.specs.NearMoves.{is_far};
 ghost use Rattle.trace_files.specs.Rows.{AreKept, AreRising, crosses_none, end_of};
 ghost use Rattle.trace_files.specs.Tables.{IsTable, UnlessMemory, faults_of, is_behind};
 ghost use Rattle.trace_files.specs.Tables.{keeps_rules, line_fault, lines_of, longest_table};
@@ -15,6 +16,7 @@ ghost use Rattle.trace_files.specs.Tables.{move_fault, move_of, moves_of, table_
 
 use crate::TableFault;
 use crate::move_row::{Move, cut_at, row_of};
+use crate::near_moves::some_come_from_far;
 use std::alloc::Global;
 use std::marker::Model;
 
@@ -258,6 +260,17 @@ impl MoveTable {
             Some(place) => place,
             None => addr,
         }
+    }
+
+    /// Whether a place has a byte that is near an access at an address once it is moved, and that
+    /// comes from an address that isn't near it before. `near` is what the access's list is filtered
+    /// under, and for 0, which says that it isn't filtered, none has. An access counts whether it is
+    /// moved or not, and a byte whether anybody accesses it or not.
+    pub fn is_far(&self, near: u16, addr: u32) -> bool
+        requires { near ≤ 16 }
+        ensures { result ≡ is_far near self.now addr }
+    {
+        near != 0 && some_come_from_far(near, self.moved_address(addr), addr, &self.places)
     }
 
     /// Whether the byte of an address is in no range, and lies in a place.

@@ -1,6 +1,6 @@
 // A trace on its way to a file, with its accesses moved.
 ghost use Rattle.std.specs.Prelude.{◌≡◌, ◌++◌, ◌%◌, ◌∷◌, ℕ, List, [], Option, None, OnOk, IfErr, Some};
-ghost use Rattle.std.specs.Prelude.{◌+◌, ◌<◌, ◌^◌, false, if◌then◌else◌};
+ghost use Rattle.std.specs.Prelude.{◌+◌, ◌<◌, ◌≤◌, ◌^◌, false, if◌then◌else◌};
 ghost use Rattle.shelf.specs.Shelf.{Outside};
 ghost use Rattle.shelf.specs.Files.{AreCut, AreWritten};
 ghost use Rattle.trace_format.specs.declared.record.Header.{Header as Head};
@@ -8,11 +8,10 @@ ghost use Rattle.trace_format.specs.declared.record.TraceRecord.{TraceRecord as 
 ghost use Rattle.trace_format.specs.declared.record.TraceRecord.TheVariants as records;
 ghost use Rattle.trace_format.specs.declared.record.Version.{Version as AVersion};
 ghost use Rattle.trace_format.specs.Rules.{IsGoodHeader, IsWritable};
-ghost use Rattle.trace_passes.specs.Passes.{near_refusal};
 ghost use Rattle.trace_files.specs.declared.move_row.Move.{Move};
 ghost use Rattle.trace_files.specs.Movers.{HasMoved, MayPut};
-ghost use Rattle.trace_files.specs.Moves.{is_moved, is_taken, moved_in};
-ghost use Rattle.trace_files.specs.Moving.{is_in_the_way, moved_so_far, narrowed};
+ghost use Rattle.trace_files.specs.Moves.{is_moved, moved_in};
+ghost use Rattle.trace_files.specs.Moving.{access_fault, is_at_fault, moved_so_far, narrowed};
 
 use crate::MoveTable;
 use crate::trace_outputs::TraceOutputs;
@@ -28,6 +27,8 @@ pub(crate) struct Mover<'a> {
     files: TraceOutputs<'a>,
     writer: TraceWriter,
     pub(crate) begun: bool,
+    // under what the list is filtered, 0 where it isn't or no header is known
+    pub(crate) near: u16,
     // how many accesses lie in a range
     pub(crate) moved: u64,
 }
@@ -85,6 +86,7 @@ impl<'a> Mover<'a> {
             files: TraceOutputs::new(alloc),
             writer: TraceWriter::new(Version::One),
             begun: false,
+            near: 0,
             moved: 0,
         }
     }
@@ -98,7 +100,7 @@ impl<'a> Mover<'a> {
         header: Header,
     ) -> Result<(), ShelfError>
         requires good { IsGoodHeader header }
-        requires plain { near_refusal None header.near ≡ None }
+        requires small { header.near ≤ 16 }
         requires way { (table : List Move) × (before : Outside)
             × HasMoved table self.old.name.now self.old None [] before (S.outside shelf.old) }
         ensures moved { OnOk result ((table : List Move) (before : Outside)
@@ -119,6 +121,7 @@ impl<'a> Mover<'a> {
             Ok(writer) => {
                 self.writer = writer;
                 self.begun = true;
+                self.near = header.near;
                 Ok(())
             }
             Err(error) => Err(error),
@@ -134,7 +137,7 @@ impl<'a> Mover<'a> {
     ) -> Result<(), ShelfError>
         requires writable { IsWritable item.now }
         requires way { MayPut table.now self.old (item.now ∷ []) (S.outside shelf.old) }
-        requires free { is_in_the_way table.now item.now ≡ false }
+        requires free { is_at_fault self.old.near table.now item.now ≡ false }
         ensures moved { OnOk result ((head : AVersion × Head) (seen : List Record)
             (before : Outside)
             → HasMoved table.now self.old.name.now self.old (Some head) seen before
@@ -166,7 +169,7 @@ impl<'a> Mover<'a> {
     ) -> Result<(), ShelfError>
         requires way { MayPut table.now self.old (records.Touch access.now pc ∷ [])
             (S.outside shelf.old) }
-        requires free { is_taken table.now access.now.addr ≡ false }
+        requires free { access_fault self.old.near table.now access.now.addr ≡ None }
         ensures moved { OnOk result ((head : AVersion × Head) (seen : List Record)
             (before : Outside)
             → HasMoved table.now self.old.name.now self.old (Some head) seen before

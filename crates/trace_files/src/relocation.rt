@@ -95,14 +95,17 @@ fn end_refused<S: Shelf>(
 
 /// Writes a trace to `file` with its accesses moved as a table says: in the version that it has, the
 /// same header, all records in order, the accesses with their pcs at the places that their ranges
-/// go to, and the same end. Blocks and symbols stay where they were.
+/// go to, and the same end. Blocks and symbols stay where they were. A filtered trace stays one: of
+/// its own regions, or of 256 bytes where these are larger, and of as many accesses as were filtered.
 ///
 /// The trace is read once, in pieces, and no more of it is kept than a piece has. The file is begun
-/// once the header is accepted; where a fault comes before that, it is as it was. A filtered trace is
-/// `Filtered` there. An access that is in no range and lies in a place is `Occupied`, where no fault
-/// of the trace comes before it; the file has all records before it then, as it has those before a
-/// fault of the trace. At any other fault it is a front of that. `ReadFault` comes only where the
-/// faults of reading the trace rose, and `WriteFault` only where those of writing the file rose.
+/// once the header is accepted; where a fault comes before that, it is as it was. An access that is in
+/// no range and lies in a place is `Occupied`. Else an access of a filtered trace is `Far` if a place
+/// has a byte that is near it once it is moved and that comes from far. The first of these faults is
+/// answered, where no fault of the trace comes before it; the file has all records before it then, as
+/// it has those before a fault of the trace. At any other fault it is a front of that. `ReadFault`
+/// comes only where the faults of reading the trace rose, and `WriteFault` only where those of
+/// writing the file rose.
 pub fn move_trace<S: Shelf>(
     alloc: Global,
     shelf: &mut S,
@@ -110,8 +113,7 @@ pub fn move_trace<S: Shelf>(
     table: &MoveTable,
     file: &str,
 ) -> Result<Moved, MoveFault>
-    // The file is the moved trace that the trace's bytes are, which isn't filtered and none of whose
-    // accesses is in the way.
+    // The file is the moved trace that the trace's bytes are, none of whose accesses is refused.
     ensures moved { IfOk result (λ made. HasCopied (S.outside shelf.new).held trace.now
         (moving table.now file.now) (IsCounted table.now made)
         (S.outside shelf.old) (S.outside shelf.new)) }
@@ -122,6 +124,9 @@ pub fn move_trace<S: Shelf>(
     ensures occupied { (addr : ℕ) → result ≡ Err (MoveFault.Occupied addr)
         → IsRefused (S.outside shelf.new).held trace.now file.now table.now
         (S.outside shelf.old) (S.outside shelf.new) (MoveFault.Occupied addr) }
+    ensures far { (addr : ℕ) → result ≡ Err (MoveFault.Far addr)
+        → IsRefused (S.outside shelf.new).held trace.now file.now table.now
+        (S.outside shelf.old) (S.outside shelf.new) (MoveFault.Far addr) }
     ensures memory { result ≢ Err (MoveFault.Refused (refusals.Trace trace_faults.NoMemory)) }
     ensures given_up { IfErr result (λ fault. HasGivenUp (S.outside shelf.new).held trace.now
         file.now table.now (S.outside shelf.old) (S.outside shelf.new) fault) }

@@ -1,6 +1,6 @@
 // The records of a piece, on their way to the file of a moved trace.
-ghost use Rattle.std.specs.Prelude.{◌≡◌, ◌++◌, ◌∷◌, ℕ, List, [], Option, None, OnOk, IfErr, Some};
-ghost use Rattle.std.specs.Prelude.{if◌then◌else◌};
+ghost use Rattle.std.specs.Prelude.{◌≡◌, ◌++◌, ◌∷◌, ℕ, List, [], Option, OnOk, IfErr, Some};
+ghost use Rattle.std.specs.Prelude.{◌≤◌};
 ghost use Rattle.std.specs.List.{All};
 ghost use Rattle.shelf.specs.Shelf.{Outside};
 ghost use Rattle.trace_format.specs.declared.record.Header.{Header as Head};
@@ -9,8 +9,7 @@ ghost use Rattle.trace_format.specs.declared.record.Version.{Version as AVersion
 ghost use Rattle.trace_format.specs.Rules.{IsGoodHeader, IsWritable};
 ghost use Rattle.trace_files.specs.declared.move_row.Move.{Move};
 ghost use Rattle.trace_files.specs.Movers.{Follows, HasMoved, MayPut, MayTake, StopsAt};
-ghost use Rattle.trace_files.specs.Moving.{addr_of, is_in_the_way};
-ghost use Rattle.trace_passes.specs.Passes.{near_refusal};
+ghost use Rattle.trace_files.specs.Moving.{access_fault, record_fault};
 
 use crate::move_fault::write_fault;
 use crate::mover::Mover;
@@ -18,19 +17,34 @@ use crate::{MoveFault, MoveTable};
 use shelf::Shelf;
 use std::alloc::Global;
 use trace_format::{Header, TraceRecord, Version};
-use trace_passes::Refusal;
 
-// The address of an access that stays where one may go.
-fn in_the_way(table: &MoveTable, item: &TraceRecord) -> Option<u32>
-    ensures { result ≡ (if is_in_the_way table.now item.now then Some (addr_of item.now) else None) }
+// How an access is refused, if it is.
+fn access_fault(table: &MoveTable, near: u16, addr: u32) -> Option<MoveFault>
+    requires { near ≤ 16 }
+    ensures { result ≡ access_fault near table.now addr }
+{
+    if table.is_taken(addr) {
+        return Some(MoveFault::Occupied(addr));
+    }
+    if table.is_far(near, addr) {
+        Some(MoveFault::Far(addr))
+    } else {
+        None
+    }
+}
+
+// How a record is refused, if it is.
+fn record_fault(table: &MoveTable, near: u16, item: &TraceRecord) -> Option<MoveFault>
+    requires { near ≤ 16 }
+    ensures { result ≡ record_fault near table.now item.now }
 {
     match item {
-        TraceRecord::Touch(access, _) if table.is_taken(access.addr()) => Some(access.addr()),
+        TraceRecord::Touch(access, _) => access_fault(table, near, access.addr()),
         _ => None,
     }
 }
 
-// Puts a record, unless it is in the way: then what was put is written.
+// Puts a record, unless it is refused: then what was put is written.
 fn put_one<S: Shelf>(
     shelf: &mut S,
     table: &MoveTable,
@@ -53,9 +67,9 @@ fn put_one<S: Shelf>(
     ensures name { mover.new.name ≡ mover.old.name }
     ensures tells { (S.outside shelf.new).held ≡ (S.outside shelf.old).held }
 {
-    if let Some(addr) = in_the_way(table, item) {
+    if let Some(fault) = record_fault(table, mover.near, item) {
         return match mover.finish(shelf) {
-            Ok(()) => Err(MoveFault::Occupied(addr)),
+            Ok(()) => Err(fault),
             Err(error) => Err(write_fault(error)),
         };
     }
@@ -65,7 +79,7 @@ fn put_one<S: Shelf>(
     }
 }
 
-// Puts records up to the first that is in the way.
+// Puts records up to the first that is refused.
 fn put_all<S: Shelf>(
     shelf: &mut S,
     table: &MoveTable,
@@ -97,18 +111,7 @@ fn put_all<S: Shelf>(
     Ok(())
 }
 
-// How an accepted header is refused, if it is: that of a filtered trace.
-fn refusal_of_header(header: Header) -> Option<Refusal>
-    ensures { result ≡ near_refusal None header.near }
-{
-    if header.near == 0 {
-        None
-    } else {
-        Some(Refusal::Filtered)
-    }
-}
-
-// Begins the file, unless it is, or the header is refused.
+// Begins the file, unless it is.
 fn begin_once<S: Shelf>(
     alloc: Global,
     shelf: &mut S,
@@ -117,6 +120,7 @@ fn begin_once<S: Shelf>(
     header: Header,
 ) -> Result<(), MoveFault>
     requires good { IsGoodHeader header }
+    requires small { header.near ≤ 16 }
     requires way { (table : List Move) × (name : List ℕ) × (known : Option (AVersion × Head))
         × (seen : List Record) × (before : Outside)
         × HasMoved table name mover.old known seen before (S.outside shelf.old)
@@ -138,9 +142,6 @@ fn begin_once<S: Shelf>(
 {
     if mover.begun {
         return Ok(());
-    }
-    if let Some(refusal) = refusal_of_header(header) {
-        return Err(MoveFault::Refused(refusal));
     }
     match mover.begin(alloc, shelf, version, header) {
         Ok(()) => Ok(()),

@@ -22,8 +22,8 @@ use Rattle.sharing_rules.specs.Laws.Lists.{any_get, by_push, slice_cases, slice_
 use Rattle.sharing_rules.specs.Laws.Lists.{slice_get-push}
 use Rattle.sharing_rules.specs.Filtered.{IsWithoutRedundant, comes_near, covers}
 use Rattle.sharing_rules.specs.Filtered.{is_kept_at, is_near, is_redundant}
-use Rattle.filtered_moves.specs.NearMoves.{IsNearFor, IsNearTable, moved_near, origin}
-use Rattle.filtered_moves.specs.NearMoves.{moved_sited}
+use Rattle.trace_files.specs.NearMoves.{IsNearFor, IsNearTable, moved_near, origin}
+use Rattle.filtered_moves.specs.MovedSites.{moved_sited}
 use Rattle.filtered_counts.specs.SameHarts.{IsSitedWithoutRedundant}
 use Rattle.invalidations.specs.Latest.{accesses_of}
 use Rattle.invalidations.specs.declared.sited.Sited.{Sited}

@@ -1,6 +1,7 @@
 use Rattle.filtered_counts.specs.Laws.Harts.{same-harts}
 use Rattle.filtered_counts.specs.Laws.Same.{same-counts}
-use Rattle.filtered_moves.specs.NearMoves.{moved_near, moved_sited}
+use Rattle.trace_files.specs.NearMoves.{moved_near}
+use Rattle.filtered_moves.specs.MovedSites.{moved_sited}
 use Rattle.filtered_moves.specs.Laws.Moved.{free-whole, moved-sited, moved-without}
 use Rattle.trace_files.specs.Moves.{moved_list}
 use Rattle.filtered_moves.proofs.laws.near_moves_keep_counts.Goals as goal

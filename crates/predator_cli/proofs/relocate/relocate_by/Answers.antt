@@ -17,6 +17,7 @@ returns-in-Ok g c = λ old accepted holds is_table.
     let law = c.a_moved_trace_is_a_trace.ensures in
     let moves : Moves table = record {
       accepted = law.accepted table;
+      regions = law.regions;
       found = law.found table;
       whole = law.whole table;
       read = λ bytes t small is few. law.trace table bytes t is_table small is few;
@@ -39,6 +40,7 @@ returns-in-Err g c = λ old accepted holds is_table.
     let law = c.a_moved_trace_is_a_trace.ensures in
     let moves : Moves table = record {
       accepted = law.accepted table;
+      regions = law.regions;
       found = law.found table;
       whole = law.whole table;
       read = λ bytes t small is few. law.trace table bytes t is_table small is few;
@@ -52,4 +54,4 @@ returns-in-Err g c = λ old accepted holds is_table.
     (told_still (λ files. table_of (content files d.table) ≡ Ok table) m.held b.held
     failed.given_up.held_stay holds) c.in-Err.fault
     (λ r is. failed.refused r (ap Err is)) (λ addr is. failed.occupied addr (ap Err is))
-    (λ is. failed.memory (ap Err is)) failed.given_up))
+    (λ addr is. failed.far addr (ap Err is)) (λ is. failed.memory (ap Err is)) failed.given_up))

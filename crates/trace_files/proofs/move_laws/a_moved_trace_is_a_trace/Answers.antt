@@ -7,17 +7,17 @@ use Rattle.trace_files.specs.Moves.{moved_in}
 use Rattle.trace_files.specs.Moving.{moved, moved_items, narrowed}
 use Rattle.trace_files.proofs.MovedTraces.{all_good_moved, all_inner_moved, free_unrefused}
 use Rattle.trace_files.proofs.MovedTraces.{moved_touches, narrowed_regions, unrefused_found}
-use Rattle.trace_files.proofs.MovedTraces.{unrefused_free, unrefused_plain, unrefused_whole}
+use Rattle.trace_files.proofs.MovedTraces.{unrefused_free, unrefused_near, unrefused_whole}
 use Rattle.trace_files.proofs.move_laws.a_moved_trace_is_a_trace.Goals as goal
 
 pub returns-clause-accepted : goal.returns-clause-accepted
 returns-clause-accepted c = free_unrefused
 
-pub returns-clause-unfiltered : goal.returns-clause-unfiltered
-returns-clause-unfiltered c = unrefused_plain
-
 pub returns-clause-free : goal.returns-clause-free
 returns-clause-free c = unrefused_free
+
+pub returns-clause-near : goal.returns-clause-near
+returns-clause-near c = unrefused_near
 
 pub returns-clause-found : goal.returns-clause-found
 returns-clause-found c = unrefused_found
@@ -49,6 +49,10 @@ returns-clause-trace c = λ table bytes t table_is small is short.
       };
       spelled = refl;
     })
+
+pub returns-clause-regions : goal.returns-clause-regions
+returns-clause-regions c = λ bytes t small is.
+    (c.a_trace_is_its_spelling.ensures bytes t small is).good.regions
 
 pub returns-clause-accesses : goal.returns-clause-accesses
 returns-clause-accesses c = λ table t. moved_touches table t.items

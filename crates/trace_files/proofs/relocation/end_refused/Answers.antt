@@ -1,4 +1,4 @@
-use Rattle.std.proofs.Common.{◌++◌, List, Option, inl, refl, subst, sym}
+use Rattle.std.proofs.Common.{◌++◌, List, Option, refl, subst, sym}
 use Rattle.shelf.specs.Shelf.{Outside}
 use Rattle.trace_format.specs.declared.record.Header.{Header}
 use Rattle.trace_format.specs.declared.record.TraceRecord.{TraceRecord}
@@ -64,8 +64,7 @@ returns-in-Ok-finish-clause-ends g c = λ known seen before has follows.
     → HasMoved t m.name.now m known seen before old → Follows known seen c.head.result l
     → HasMoved t m.name.now c.take.new.mover c.head.result (seen ++ l) before mid) c.items.ensures
     c.in-Ok.ensures.moved) in
-    let has_all = taken known seen before has follows in
-    inl (
+    let has_all = taken known seen before has follows in (
       refl,
       all_written t m.name.now c.take.new.mover h (seen ++ items) before mid new has_all
           (c.in-Ok-finish.ensures.written t m.name.now h (seen ++ items) before has_all)

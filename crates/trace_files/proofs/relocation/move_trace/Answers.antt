@@ -168,6 +168,23 @@ returns-in-Err-take-clause-occupied g c = λ addr same.
     let is : fault ≡ faults.Occupied addr = cc in
     gave.occupied addr is
 
+pub returns-in-Err-take-clause-far : goal.returns-in-Err-take-clause-far
+returns-in-Err-take-clause-far g c = λ addr same.
+    let none = c.in-Ok-None.field-0-is in
+    let e = c.in-Ok-None.ensures in
+    let mid = g.S.Shelf.outside c.pieces.shelf in
+    let read = g.S.Shelf.outside c.advance.new.shelf in
+    let fault = c.in-Err-take.fault in
+    let reads : HasRead mid read = record { only = e.only; faults = e.cause.quiet (no_fault _ _) }
+    in
+    let gave = taken_up c.args.table.now c.args.trace.now c.args.file.now c.pieces.mover
+    c.pieces.cursor c.advance.new.self (g.S.Shelf.outside c.args.shelf.now) mid read
+    (g.S.Shelf.outside c.take.new.shelf) c.pieces.invariant reads c.any.result c.any.ensures
+    (e.more (ap Ok none)) c.head.result c.items.result.now fault c.head.ensures c.items.ensures
+    c.take.ensures.tells c.in-Err-take.ensures.stopped in
+    let is : fault ≡ faults.Far addr = cc in
+    gave.far addr is
+
 pub returns-in-Err-take-clause-memory : goal.returns-in-Err-take-clause-memory
 returns-in-Err-take-clause-memory g c = λ same.
     let none = c.in-Ok-None.field-0-is in
@@ -337,6 +354,47 @@ returns-in-Err-Refused-clause-occupied g c = λ addr same.
     c.end_refused.ensures.ends) in
     let so : fault ≡ faults.Occupied addr = cc in
     gave.occupied addr so
+
+pub returns-in-Err-Refused-clause-far : goal.returns-in-Err-Refused-clause-far
+returns-in-Err-Refused-clause-far g c = λ addr same.
+    let t = c.args.table.now in
+    let trace = c.args.trace.now in
+    let file = c.args.file.now in
+    let m = c.pieces.mover in
+    let old = g.S.Shelf.outside c.args.shelf.now in
+    let mid = g.S.Shelf.outside c.pieces.shelf in
+    let read = g.S.Shelf.outside c.advance.new.shelf in
+    let next = c.advance.new.self in
+    let at = c.pieces.invariant in
+    let come = subst (λ (w : Wanted). HasCome mid.held trace w at.bytes c.pieces.cursor)
+    (sym c.any.ensures) at.come in
+    let e = c.in-Err-Refused.ensures in
+    let refusal = c.in-Err-Refused.refusal in
+    let is = c.in-Err-Refused.field-0-is in
+    let cause = subst (λ (f : PassFault). HasPassCause {T = Option Passed} trace mid read (Err f)) is
+    e.cause in
+    let reads : HasRead mid read = record { only = e.only; faults = cause.quiet (λ i. cc) } in
+    let found = e.found refusal (ap Err is) in
+    let wrong = is_trace_fault found.0 refusal
+    (subst (λ (w : Wanted). refusal_of w found.0 ≡ Some refusal) c.any.ensures found.1) in
+    let stopped = subst (λ (w : Wanted).
+    HasStopped read.held trace w at.bytes (refusals.Trace wrong.0) next) c.any.ensures
+    (e.stopped wrong.0 (ap Err (is ∙ ap passes.Refused wrong.1)) at.bytes come) in
+    let new = g.S.Shelf.outside c.end_refused.new.shelf in
+    let fault = c.end_refused.result in
+    let whole : Told new.held (λ fs. stopped.all ≡ content fs trace) =
+    told_same (λ fs. stopped.all ≡ content fs trace) read.held new.held c.end_refused.ensures.tells
+    stopped.whole in
+    let other : refusal ≢ refusals.Trace trace_faults.NoMemory =
+    λ same_one. e.memory (ap Err (is ∙ ap passes.Refused same_one)) in
+    let gave = gave_refused new.held trace file t stopped.all whole refusal
+    (stopped.refused ∙ ap (λ (r : Refusal). Some r) (sym wrong.1)) other old new fault
+    (at_all t trace file m c.pieces.cursor old mid at read reads stopped.all next.items next.items
+    next.reading (version_and_header next.reading.progress)
+    (λ n h l b. EndsAt t n h l b new refusal fault) stopped.behind stopped.records stopped.reading refl refl
+    c.end_refused.ensures.ends) in
+    let so : fault ≡ faults.Far addr = cc in
+    gave.far addr so
 
 pub returns-in-Err-Refused-clause-memory : goal.returns-in-Err-Refused-clause-memory
 returns-in-Err-Refused-clause-memory g c = λ same.
@@ -568,6 +626,41 @@ returns-in-Ok-Some-clause-occupied g c = λ addr same.
     → StopsAt table name head seen before new fault) same
     c.end_whole.ensures.stopped t file head seen old has in
     (gave_stopped new.held trace file t at.bytes front old new (faults.Occupied addr) stops).occupied
+    addr refl
+
+pub returns-in-Ok-Some-clause-far : goal.returns-in-Ok-Some-clause-far
+returns-in-Ok-Some-clause-far g c = λ addr same.
+    let t = c.args.table.now in
+    let trace = c.args.trace.now in
+    let file = c.args.file.now in
+    let m = c.pieces.mover in
+    let old = g.S.Shelf.outside c.args.shelf.now in
+    let mid = g.S.Shelf.outside c.pieces.shelf in
+    let read = g.S.Shelf.outside c.advance.new.shelf in
+    let next = c.advance.new.self in
+    let at = c.pieces.invariant in
+    let come = subst (λ (w : Wanted). HasCome mid.held trace w at.bytes c.pieces.cursor)
+    (sym c.any.ensures) at.come in
+    let some = c.in-Ok-Some.field-0-is in
+    let e = c.in-Ok-Some.ensures in
+    let passed = c.in-Ok-Some.passed in
+    let new = g.S.Shelf.outside c.end_whole.new.shelf in
+    let head = version_and_header (reading_of at.bytes).1.progress in
+    let seen = (reading_of at.bytes).0 in
+    let reads : HasRead mid read = record { only = e.only; faults = e.cause.quiet (no_fault _ _) }
+    in
+    let ended = subst (λ (w : Wanted). HasEnded read.held trace w at.bytes passed)
+    c.any.ensures (e.ended passed (ap Ok some) at.bytes come) in
+    let has = has_read t file m head seen old mid read reads at.has in
+    let front : Told new.held (λ fs. IsFront (content fs trace) at.bytes) =
+    front_still read.held new.held trace at.bytes c.end_whole.ensures.tells
+    (told_still (λ fs. IsFront (content fs trace) at.bytes) mid.held read.held e.only.held
+    at.come.front) in
+    let stops = IfErr-at_err (λ fault. (table : List Move) (name : List ℕ) (head : Option (Version × Header))
+    (seen : List TraceRecord) (before : Outside) → HasMoved table name m head seen before read
+    → StopsAt table name head seen before new fault) same
+    c.end_whole.ensures.stopped t file head seen old has in
+    (gave_stopped new.held trace file t at.bytes front old new (faults.Far addr) stops).far
     addr refl
 
 pub returns-in-Ok-Some-clause-memory : goal.returns-in-Ok-Some-clause-memory

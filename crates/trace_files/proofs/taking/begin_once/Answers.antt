@@ -1,10 +1,10 @@
-use Rattle.std.proofs.Common.{List, Some, subst, sym, ◌∙◌}
+use Rattle.std.proofs.Common.{List, Some, subst, sym}
 use Rattle.trace_format.specs.declared.record.Header.{Header}
 use Rattle.trace_format.specs.declared.record.TraceRecord.{TraceRecord}
 use Rattle.trace_format.specs.declared.record.Version.{Version}
 use Rattle.trace_files.specs.declared.move_fault.MoveFault.{MoveFault}
 use Rattle.trace_files.specs.Movers.{HasMoved, StopsAt}
-use Rattle.trace_files.proofs.Takings.{cut_header, not_begun, stops_by, turned_away}
+use Rattle.trace_files.proofs.Takings.{cut_header, not_begun, stops_by}
 use Rattle.trace_files.proofs.taking.begin_once.Goals as goal
 
 pub returns-in-Ok-clause-moved : goal.returns-in-Ok-clause-moved
@@ -28,15 +28,4 @@ returns-in-Err-clause-stopped g c = λ table known seen before has follows.
     (sym c.write_fault.ensures)
     (stops_by table m.name.now (Some head) seen before new c.in-Err.error
     (cut_header table m.name.now head seen before new c.in-Err.error none.1
-    (sym c.refusal_of_header.ensures ∙ c.in_default.is)
     (c.in-Err.ensures.cut table before none.0)))
-
-pub returns-in-Some-clause-stopped : goal.returns-in-Some-clause-stopped
-returns-in-Some-clause-stopped g c = λ table known seen before has follows.
-    let m = c.args.mover.now in
-    let head : Version × Header = (c.args.version, c.args.header) in
-    let old = g.S.Shelf.outside c.args.shelf.now in
-    let none = not_begun table m.name.now m known seen before old head has follows c.if-mover.false
-    in
-    turned_away table m.name.now m before old head c.in-Some.refusal none.0
-    (sym c.refusal_of_header.ensures ∙ c.in-Some.is)

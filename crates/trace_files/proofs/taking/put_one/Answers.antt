@@ -1,19 +1,21 @@
-use Rattle.std.proofs.Common.{◌++◌, ◌∷◌, [], Some, subst, sym, ◌∙◌}
+use Rattle.std.proofs.Common.{◌++◌, ◌∷◌, [], Some, ap, arith, subst, sym, ◌∙◌}
+use Rattle.std.specs.Prelude.{is_some}
 use Rattle.trace_files.specs.declared.move_fault.MoveFault.{MoveFault}
 use Rattle.trace_files.specs.Movers.{StopsAt}
-use Rattle.trace_files.specs.Moving.{addr_of, is_in_the_way}
-use Rattle.trace_files.proofs.Takings.{cut_before, cut_behind, occupied, stops_by, way_is, way_not}
+use Rattle.trace_files.proofs.Takings.{cut_before, cut_behind, held_up_so, stops_by}
 use Rattle.trace_files.proofs.taking.put_one.Goals as goal
+
+pub record_fault-requires : goal.record_fault-requires
+record_fault-requires g c =
+    let has = c.requires.way.has in omega (arith, has.near, has.small)
 
 pub returns-in-Ok-clause-stopped : goal.returns-in-Ok-clause-stopped
 returns-in-Ok-clause-stopped g c = λ head seen before has.
     let t = c.args.table.now in
     let m = c.args.mover.now in
-    let item = c.args.item.now in
-    let way = way_is (is_in_the_way t item) (addr_of item) c.in-Some.addr
-    (sym c.in_the_way.ensures ∙ c.in-Some.is) in
-    occupied t m.name.now m head seen before (g.S.Shelf.outside c.args.shelf.now) has item
-    (g.S.Shelf.outside c.finish.new.shelf) c.in-Some.addr way.0 way.1
+    held_up_so t m.name.now m head seen before (g.S.Shelf.outside c.args.shelf.now) has
+    c.args.item.now (g.S.Shelf.outside c.finish.new.shelf) c.in-Some.fault
+    (sym c.record_fault.ensures ∙ c.in-Some.is)
     (c.in-Ok.ensures.written t m.name.now (Some head) seen before has)
     (c.in-Ok.ensures.cut_there t m.name.now (Some head) seen before has)
 
@@ -35,8 +37,7 @@ returns-in-Err-put-clause-stopped g c = λ head seen before has.
     let m = c.args.mover.now in
     let item = c.args.item.now in
     let new = g.S.Shelf.outside c.put.new.shelf in
-    let free = way_not (is_in_the_way t item) (addr_of item)
-    (sym c.in_the_way.ensures ∙ c.in_default.is) in
+    let free = ap is_some (sym c.record_fault.ensures ∙ c.in_default.is) in
     subst (λ (f : MoveFault). StopsAt t m.name.now (Some head) (seen ++ item ∷ []) before new f)
     (sym c.write_fault-in-Err-put.ensures)
     (stops_by t m.name.now (Some head) (seen ++ item ∷ []) before new c.in-Err-put.error

@@ -30,11 +30,11 @@ pub returns-in-Ok-clause-moved : goal.returns-in-Ok-clause-moved
 returns-in-Ok-clause-moved g c = λ table before has.
     has_begun table c.args.self.now.name.now c.args.self.now before
     (g.S.Shelf.outside c.args.shelf.now) has c.args.version c.args.header _
-    (g.S.Shelf.outside c.begin_trace.new.shelf) refl refl refl c.in-Ok.ensures.writer
+    (g.S.Shelf.outside c.begin_trace.new.shelf) refl refl refl refl c.in-Ok.ensures.writer
     (subst (λ (h : Header). IsOutputs c.begin_trace.new.self
     (one_file c.args.self.now.name.now (begun_with c.args.version h [])) before
     (g.S.Shelf.outside c.begin_trace.new.shelf)) c.narrowed.ensures.value
-    (c.in-Ok.ensures.outputs [] before has.outputs)) c.requires.plain
+    (c.in-Ok.ensures.outputs [] before has.outputs)) c.requires.small
 
 pub returns-in-Err-clause-cut : goal.returns-in-Err-clause-cut
 returns-in-Err-clause-cut g c = λ table before has.

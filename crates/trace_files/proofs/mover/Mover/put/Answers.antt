@@ -64,8 +64,8 @@ returns-in_default g c =
     record {
       moved = both_ok c.put_record.result
           (λ next outputs head seen before has.
-          has_put t m.name.now m head seen before old has item _ new c.requires.free refl refl none
-          next
+          has_put t m.name.now m head seen before old has item _ new c.requires.free refl refl refl
+          none next
           (outputs (moved_so_far t m.name.now (Some head) seen) before has.outputs))
           (subst (λ (r : TraceRecord). OnOk c.put_record.result (c.put_record.new.writer
           ≡ record m.writer { before = before_after m.writer.before r }))

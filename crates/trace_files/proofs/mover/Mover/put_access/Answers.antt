@@ -1,5 +1,6 @@
 use Rattle.std.proofs.Common.{◌≡◌, ◌∙◌, ◌+◌, ℕ, List, OnOk, Some, ap, refl, subst}
 use Rattle.std.proofs.lemmas.Result.{IfErr-weaker}
+use Rattle.std.specs.Prelude.{is_some}
 use Rattle.base.specs.Touch.{Touch}
 use Rattle.shelf.specs.Shelf.{Outside}
 use Rattle.shelf.specs.Files.{AreCut, Output}
@@ -36,7 +37,7 @@ returns-clause-moved g c =
     both_ok c.put_record.result
     (λ next outputs head seen before has.
     has_put t m.name.now m head seen before old has (records.Touch a pc) _ new
-    c.requires.free refl refl count next
+    (ap is_some c.requires.free) refl refl refl count next
     (outputs (moved_so_far t m.name.now (Some head) seen) before has.outputs))
     (subst (λ (b : Touch). OnOk c.put_record.result (c.put_record.new.writer
     ≡ record m.writer { before = before_after m.writer.before (records.Touch b pc) }))
