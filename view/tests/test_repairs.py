@@ -238,12 +238,14 @@ RECORDER = os.path.join(TOP, "native", "out", "predator-amd64-linux")
 )
 class OfThisMachine(Following):
     suffix = ""
+    # (what a call says of its recording)
+    recording = ()
 
     def compiler(self, out, source, flags):
         return ["gcc", "-g", "-O2", "-pthread", *flags, source, "-o", out]
 
     def call(self, program, turns):
-        return ["native", f"./{program}", "--quantum", str(turns or 10)]
+        return ["native", *self.recording, f"./{program}", "--quantum", str(turns or 10)]
 
     def test_patches(self):
         self.patched(
@@ -271,6 +273,8 @@ class OfThisMachine(Following):
         self.rows()
 
     def test_bytes_of_a_word(self):
+        # (a filtered trace doesn't have each byte)
+        self.recording = ("--whole",)
         self.bytes()
 
     def test_nothing_to_do(self):
