@@ -35,6 +35,7 @@ class Who(unittest.TestCase):
         thing.lines.append(ObjectLine(0x1000, None, None))
         thing.neighbours.update(beside)
         view = SimpleNamespace(
+            filtered=None,
             trials=None,
             details=lambda _: SimpleNamespace(words=words),
             naming=Naming(None, memory=Memory()),

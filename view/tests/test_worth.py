@@ -137,6 +137,7 @@ def vars_of(words):
             "program",
             "run_trace",
             "recorded_quantum",
+            "filtered",
         )
     }
     return own | {
