@@ -6,6 +6,7 @@ import re
 from typing import TYPE_CHECKING, Any, Iterable, NamedTuple, Sequence, Union
 
 from view.model.object_keys import Key, BlocksKey, FileKey, MemoryKey, PlaceKey, StackKey, SymbolKey
+from view.names.callers import Callers, CodeCall
 from view.names.block_types import BlockTypes
 from view.names.demangling import SymbolNames, short_name
 from view.reading.reports import Block, Report, Site, Symbol
@@ -96,6 +97,8 @@ LANGUAGE_LIBRARIES = (
 )
 GO_RUNTIME = re.compile(r"(?:runtime|(?:runtime/)?internal/[\w/]+)\.")
 # Sources of the kit for guests.
+# So many lines of the program are named that call a function of the kit.
+MAX_CALLERS = 3
 KIT = re.compile(r"(?:^|/)guest/(?:(?:calls|library|pthread)\.c|start\.S|clib/[^/]*)$")
 # What Rust's compiler puts behind a function's name.
 RUST_HASH = re.compile(r"::h[0-9a-f]{16}$")
@@ -131,6 +134,13 @@ class Memory:
         return (self.high - 1 - addr) % self.stack_bytes + 1
 
 
+def is_array_of(kind: Any, symbol: Symbol) -> bool:
+    """Whether a variable is several values of a type: a block that a compiler made a variable has the type of its elements."""
+    from view.names.fields import size_of
+
+    return symbol.name.endswith(".body") and 0 < 2 * size_of(kind) <= symbol.size
+
+
 def address_text(addr: int) -> str:
     return f"{'-' if addr < 0 else ''}0x{abs(addr):08x}"
 
@@ -158,6 +168,7 @@ class Naming:
         self.cached_sites_keys: dict[tuple[Site, ...], tuple[str, ...]] = {}
         self.types = [it.partition("=")[::2] for it in types]
         self.blocks = BlockTypes(self)
+        self.callers: Callers | None = None
 
     def learn_symbols(self, text: str) -> None:
         """Has the names of all symbols in a report told at once."""
@@ -261,6 +272,9 @@ class Naming:
         sources, frames = self.sources, self.own_frames(addr)
         place = next((it for it in frames if it.file and it.line), None)
         names = [self.frame_name(it) for it in frames if it.function]
+        outside = self.program_callers(addr, frames)
+        if outside:
+            return outside
         near = sources.near(addr) if sources and place is None else None
         text = (
             place.short()
@@ -277,6 +291,35 @@ class Naming:
             if beside
             else text
         )
+
+    def program_callers(self, addr: int, frames: Sequence[SourceLine]) -> str:
+        """Of an instruction of the kit the lines of the program that call its function, as far as they are few; or nothing."""
+        from view.names.fields import Program
+
+        files = [it.file for it in frames if it.file]
+        if not isinstance(self.program, Program) or not files or not all(map(KIT.search, files)):
+            return ""
+        if self.callers is None:
+            self.callers = Callers(self.program)
+        calls = self.callers.outer_sites(addr, self.is_of_kit)
+        named = [self.call_names(it) for it in calls]
+        places, called, by = (list(dict.fromkeys(own)) for own in zip(*named)) if named else [[]] * 3
+        if not 0 < len(places) <= MAX_CALLERS or "" in places:
+            return ""
+        return f"{' or '.join(places)} ({' or '.join(called)} < {' or '.join(by)})"
+
+    def call_names(self, call: CodeCall) -> tuple[str, str, str]:
+        """The line of a call, the function that it calls, and the one that calls it; the line is empty where none is known."""
+        frame = next((it for it in self.own_frames(call.site) if it.short()), None)
+        near = self.sources.near(call.site) if self.sources and frame is None else None
+        place = frame.short() if frame else f"near {near.short()}" if near else ""
+        caller = self.frame_name(frame) if frame else self.frame_function(call.site)
+        return place, self.frame_function(call.target), caller
+
+    def is_of_kit(self, addr: int) -> bool:
+        """Whether an instruction is of the kit for guests alone, or of code without a line."""
+        frames = self.sources.frames(addr) if self.sources else []
+        return all(KIT.search(it.file) for it in frames if it.file)
 
     def frame_name(self, frame: SourceLine) -> str:
         """The function of a frame, a lambda or a closure by its place."""
@@ -444,14 +487,16 @@ class Naming:
         """The type of the value that a word lies in, and the word's place there, or none where that isn't known."""
         if self.program is None or thing is None:
             return None
+        from view.names.fields import size_of
+
         if isinstance(thing, Symbol):
             variable = self.program.variable(thing.addr)
-            return (
-                (variable.type, addr - thing.addr)
-                if variable and variable.type is not None
-                else None
-            )
-        from view.names.fields import size_of
+            if variable is None or variable.type is None:
+                return None
+            offset = addr - thing.addr
+            if is_array_of(variable.type, thing):
+                offset %= size_of(variable.type)
+            return variable.type, offset
 
         element = (
             None
@@ -482,11 +527,11 @@ class Naming:
             return None
         if isinstance(thing, Symbol):
             variable = self.program.variable(thing.addr)
-            return (
-                self.part_names(variable.type, name, offset)
-                if variable and variable.type is not None
-                else None
-            )
+            if variable is None or variable.type is None:
+                return None
+            if is_array_of(variable.type, thing):
+                return self.element_names(variable.type, name, offset, thing.size)
+            return self.part_names(variable.type, name, offset)
         if thing.sites and thing.sites[0].name == THREAD_LOCALS:
             own = next(
                 (it for it in self.program.thread_locals() if it[0] <= offset < it[0] + it[1]), None

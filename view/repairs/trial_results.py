@@ -177,7 +177,7 @@ class Trial:
             return f"none needed: {self.own_misses():,} of {self.accesses:,} accesses miss"
         mixed = f"because threads use different bytes of {', '.join(patterns(names))} and misses are counted per 4-byte word"
         if self.same_as is not None:
-            return f"see {self.same_as.name}: its fix covers this too"
+            return f"see {self.same_as.name}: its fix covers this too{self.otherwise()}"
         if self.is_saving() and self.repair:
             rest = (
                 f"; for the rest {self.instead}, then run again, {mixed}"
@@ -217,8 +217,9 @@ class Trial:
         if self.after is not None and self.repair is not None and self.is_saving():
             more = ""
             least = self.saved_by(self.bound) - self.saved_misses()
-            if self.is_much(least):
-                more = f"; {self.bound_text()}"
+            if self.bound is not None and self.is_much(least):
+                most = f"{self.bound.all_misses():,} of {self.before.all_misses():,}"
+                more = f"; separating all words by thread would leave {most} misses"
             text = self.numbers(self.after, self.repair) + self.part_text()
             return text + self.otherwise() + more + rest
         if is_mixed:

@@ -427,13 +427,16 @@ def parts_outside(part: MovedRange, others: Sequence[MovedRange]) -> Iterator[Mo
 
 
 def note_same_repairs(found: Sequence[Trial]) -> None:
-    """Names a repair once: for the object that it saves most for."""
-    saving = sorted((it for it in found if it.is_saving()), key=lambda it: -it.own_misses())
-    for at, own in enumerate(saving):
-        for first in saving[:at]:
-            if own.repair and first.repair and set(own.repair.hows) <= set(first.repair.hows):
-                own.same_as = first.same_as or first.thing
-                break
+    """Names a repair once: for the first row that has it, or the one whose repair has more of them."""
+    saving = [(place, it, set(it.repair.hows)) for place, it in enumerate(found) if it.is_saving() and it.repair]
+    for place, own, hows in saving:
+        covering = [
+            (len(more), -at, other)
+            for at, other, more in saving
+            if hows < more or (hows == more and at < place)
+        ]
+        if covering:
+            own.same_as = max(covering, key=lambda it: it[:2])[2].thing
 
 
 def note_joint_result(view: View, found: Sequence[Trial], counted: TrialCount | None) -> None:
