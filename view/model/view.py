@@ -266,7 +266,7 @@ class View:
         self.naming.learn_symbols("\n".join(one.text for one in sources))
         self.naming.find_lines({it for one in sources for it in one.sites()})
         self.objects, self.objects_by_key = group_lines(
-            self.report, self.misses, self.naming, self.every_line
+            self.report, self.misses, self.naming, self.every_line, self.word_misses
         )
         for obj in self.objects_by_key.values():
             obj.name = self.naming.object_name(obj.key, obj.example)

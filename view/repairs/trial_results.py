@@ -108,6 +108,11 @@ class Trial:
         """Whether the best repair saves enough to be named."""
         return self.is_much(self.saved_misses())
 
+    def is_named(self) -> bool:
+        """Whether the best repair is this object's fix: it saves enough, and the object isn't one that threads share alone."""
+        is_own = self.thing.useless > 0 or self.is_rare() or bool(self.mixed_words())
+        return self.is_saving() and is_own
+
     def is_much(self, saved: int) -> bool:
         return (
             saved > 0

@@ -11,7 +11,13 @@ from bisect import bisect_left, bisect_right
 from typing import Iterator, NamedTuple, Sequence, cast
 
 from view.repairs import advice
-from view.model.trace_uses import UsesFuture, can_move, read_uses, read_uses_once
+from view.model.trace_uses import (
+    UsesFuture,
+    can_move,
+    has_wide_atomics,
+    read_uses,
+    read_uses_once,
+)
 from view.model.byte_sharing import SharingMisses, convert_to_version_1, count_by_bytes
 from view.reading.byte_traces import MAX_ACCESSES, Occupied, write_moved_bytes
 from view.reading.trace_prefix import write_prefix
@@ -26,7 +32,7 @@ from view.repairs.candidates import bytewise_fix
 from view.repairs.repair import Repair
 from view.repairs.search import Search
 from view.reading.reports import Misses, Report
-from view.reading.trace_files import ACCESS, WordUses
+from view.reading.trace_files import ACCESS, NarrowedWords, WordUses
 from view.repairs.subjects import Subject, subject_of
 from view.repairs.trial_results import TrialCount, Trial
 
@@ -76,6 +82,8 @@ class TrialRunner:
         self.lock, self.plain_traces, self.byte_accesses = threading.Lock(), dict[str, str](), 0
         # (whether layouts by bytes were left out)
         self.is_full = False
+        # (what atomic instructions for whole words are taken to be for)
+        self.narrowed: NarrowedWords = {}
         # (whether the trace is the one whose misses the view shows)
         self.is_whole = trace == view.call.trace_file()
         if view.misses is not None:
@@ -135,7 +143,7 @@ class TrialRunner:
                 for at in range(part.size)
             }
             with contextlib.suppress(Occupied):
-                write_moved_bytes(self.plain(trace), out, places)
+                write_moved_bytes(self.plain(trace), out, places, self.narrowed)
                 return out
         return None
 
@@ -191,7 +199,9 @@ class TrialRunner:
             moved = self.write_moved(self.trace, repair)
             found = self.predator.read_trace_by_all(moved, readers) if moved else None
             by_bytes = (
-                count_by_bytes(self.predator, moved, left, self.layout[0], self.new_folder())
+                count_by_bytes(
+                    self.predator, moved, left, size, self.new_folder(), self.narrowed
+                )
                 if moved
                 else {}
             )
@@ -261,6 +271,7 @@ def whole_ground(
     if trace is None or uses is None:
         return None
     trial = TrialRunner(view, predator, trace, folder)
+    trial.narrowed = uses.narrowed
     if uses.front:
         trial.set_front(uses.front)
     return TrialGround(trial, uses, count_before(view), view.report.accesses)
@@ -277,9 +288,10 @@ def part_ground(
     part, front = (os.path.join(folder, it) for it in ("part", "first"))
     accesses = write_prefix(trace, start + PART_ACCESSES, part)
     write_prefix(part, start + FRONT_ACCESSES, front)
-    uses, trial = read_uses(predator, part), TrialRunner(view, predator, part, folder)
+    uses, trial = read_uses(predator, part, has_wide_atomics(view)), TrialRunner(view, predator, part, folder)
     if uses is None:
         return None
+    trial.narrowed = uses.narrowed
     trial.set_front(front)
     misses, each = predator.read_trace_by_all(
         part, [misses_reader(trial.layout), every_line_reader(trial.layout)]
@@ -386,7 +398,7 @@ def count_repairs(trial: TrialRunner, found: Sequence[Trial]) -> TrialCount | No
         counts = list(pool.map(lambda job: trial.count_whole(job) if job else None, jobs))
     for at, result in enumerate(found):
         result.after, result.other, result.bound = counts[3 * at : 3 * at + 3]
-    saving = [it for it in found if it.is_saving()]
+    saving = [it for it in found if it.is_named()]
     if len(saving) < 2 or saving == likely:
         return counts[-1] if len(saving) > 1 else None
     return trial.count_whole(
@@ -428,7 +440,8 @@ def parts_outside(part: MovedRange, others: Sequence[MovedRange]) -> Iterator[Mo
 
 def note_same_repairs(found: Sequence[Trial]) -> None:
     """Names a repair once: for the first row that has it, or the one whose repair has more of them."""
-    saving = [(place, it, set(it.repair.hows)) for place, it in enumerate(found) if it.is_saving() and it.repair]
+    named = [it for it in found if it.is_named()]
+    saving = [(at, it, set(it.repair.hows)) for at, it in enumerate(named) if it.repair]
     for place, own, hows in saving:
         covering = [
             (len(more), -at, other)
@@ -441,7 +454,7 @@ def note_same_repairs(found: Sequence[Trial]) -> None:
 
 def note_joint_result(view: View, found: Sequence[Trial], counted: TrialCount | None) -> None:
     """Notes what all repairs come to that are named, where they are several different ones."""
-    if counted is not None and sum(it.same_as is None for it in found if it.is_saving()) > 1:
+    if counted is not None and sum(it.same_as is None for it in found if it.is_named()) > 1:
         view.notes.append(
             f"all fixes together{found[0].part_text()}: {found[0].before.beside(counted)}"
         )
