@@ -362,10 +362,17 @@ class Naming:
         ) or list(sites[:1])
 
     def own_sites(self, sites: Sequence[Site]) -> list[Site]:
-        """The sites of a block from the one that wants it on: without the allocator's own, and without where harts begin."""
+        """The sites of a block from the one that wants it on: without the allocator's own, those in headers of a language's library, and
+        without where harts begin."""
         sites = self.sites_in_code(sites)
         own = [it for it in sites if it.name not in ALLOCATORS] or list(sites)
+        own = list(itertools.dropwhile(self.is_in_headers, own)) or own
         return [it for it in own if not self.is_beginning(it)] or own[:1]
+
+    def is_in_headers(self, site: Site) -> bool:
+        """Whether all functions at a call site are of a language's library that the program was compiled with."""
+        files = [it.file for it in self.sources.frames(site.addr)] if self.sources else []
+        return bool(files) and all(LIBRARIES.search(it) for it in files)
 
     def site_functions(self, sites: Sequence[Site]) -> list[str]:
         """The call sites by functions alone, which other builds of the program have too."""
@@ -415,7 +422,7 @@ class Naming:
             if near == 0
             else ""
         )
-        what = self.blocks.container(chain[0]) or "block"
+        what = self.blocks.container(sites) or "block"
         return (f"{what} made at " if at else f"{what} made in ") + " < ".join(
             [first, *(rest or (["main"] if at and chain[0].name == "main" else []))]
         )

@@ -11,6 +11,8 @@ from view.repairs.subjects import Subject
 
 # A repair that saves fewer than one in so many of the object's misses, or of the accesses, isn't worth it.
 MIN_OWN_SHARE_DIVISOR, MIN_ACCESS_SHARE_DIVISOR = 10, 1000
+# Two repairs of the same data are about as good whose savings differ by less than one in so many.
+ALIKE_DIVISOR = 50
 ALIGNMENT = re.compile(r"align(?:ed)?\((\d+)\)")
 # Where words in which threads use different bytes have one in so many of the accesses to what threads share, words can't tell.
 MIXED_SHARE_DIVISOR = 4
@@ -113,6 +115,21 @@ class Trial:
         is_own = self.thing.useless > 0 or self.is_rare() or bool(self.mixed_words())
         return self.is_saving() and is_own
 
+    def all_misses_left(self) -> int:
+        """All misses of the trace with the best repair."""
+        return self.after.all_misses() if self.after else self.before.all_misses()
+
+    def covers(self, other: "Trial") -> bool:
+        """Whether another object's best repair is a part of this one, or moves the same data and saves no more."""
+        if other is self or self.repair is None or other.repair is None:
+            return False
+        if set(other.repair.hows) < set(self.repair.hows):
+            return True
+        own, its = ({it[:2] for it in one.repair.parts} for one in (self, other) if one.repair)
+        saved = other.before.all_misses() - other.all_misses_left()
+        lost = self.all_misses_left() - other.all_misses_left()
+        return 2 * len(own & its) >= len(its) and lost * ALIKE_DIVISOR <= saved
+
     def is_much(self, saved: int) -> bool:
         return (
             saved > 0
@@ -198,6 +215,9 @@ class Trial:
             return f"unknown: no layout that was tried helps{where}, and not all words could be separated"
         if self.is_much(self.saved_by(self.bound)):
             return f"no repair that predator can write removes them; {self.bound_text()}{less}"
+        if self.saved_misses() * MIN_OWN_SHARE_DIVISOR >= self.own_misses() > 0:
+            best = f"the best layout saves {self.saved_misses():,} misses"
+            return f"none: {best}, fewer than one in {MIN_ACCESS_SHARE_DIVISOR:,} accesses{where}{less}"
         return f"none: no layout change helps{where}{less}"
 
     def pairs_text(self) -> str:

@@ -439,17 +439,27 @@ def parts_outside(part: MovedRange, others: Sequence[MovedRange]) -> Iterator[Mo
 
 
 def note_same_repairs(found: Sequence[Trial]) -> None:
-    """Names a repair once: for the first row that has it, or the one whose repair has more of them."""
-    named = [it for it in found if it.is_named()]
-    saving = [(at, it, set(it.repair.hows)) for at, it in enumerate(named) if it.repair]
-    for place, own, hows in saving:
-        covering = [
-            (len(more), -at, other)
-            for at, other, more in saving
-            if hows < more or (hows == more and at < place)
+    """Names a repair once: of several that move the same data for the object whose repair saves most, with the fewest changes."""
+    named = [it for it in found if it.is_named() and it.repair]
+    order = {
+        id(it): (len(it.repair.hows) if it.repair else 0, at) for at, it in enumerate(named)
+    }
+    instead: dict[int, Trial] = {}
+    for own in named:
+        better = [
+            it
+            for it in named
+            if it.covers(own) and (not own.covers(it) or order[id(it)] < order[id(own)])
         ]
-        if covering:
-            own.same_as = max(covering, key=lambda it: it[:2])[2].thing
+        if better:
+            instead[id(own)] = min(better, key=lambda it: (it.all_misses_left(), order[id(it)]))
+    for own in named:
+        last, seen = own, {id(own)}
+        while (other := instead.get(id(last))) is not None and id(other) not in seen:
+            last = other
+            seen.add(id(other))
+        if last is not own:
+            own.same_as = last.thing
 
 
 def note_joint_result(view: View, found: Sequence[Trial], counted: TrialCount | None) -> None:
