@@ -123,11 +123,16 @@ def describe_owners(view: View, thing: DataObject) -> str:
     seen = view.details(thing)
     base = thing.worst_line().base
     own = [it for it in seen.words if it.key == thing.key and it.base == base]
-    if isinstance(thing.key, StackKey):
-        # (its own thread's variables are many, and what matters is what others use)
-        its = view.naming.memory.owner(thing.key.hart)
-        own = [it for it in own if it.owner != its] or own
+    own = used_by_others(view, thing, own)
     return "; ".join(filter(None, (own_words(view, thing, own), neighbours(view, thing))))
+
+
+def used_by_others(view: View, thing: DataObject, own: list[WordUse]) -> list[WordUse]:
+    """Of some words of a stack those that its own thread doesn't use alone, where there are such: it has many, and others use few."""
+    if not isinstance(thing.key, StackKey):
+        return own
+    its = view.naming.memory.owner(thing.key.hart)
+    return [it for it in own if it.owner != its] or own
 
 
 def own_words(view: View, thing: DataObject, own: Sequence[WordUse]) -> str:

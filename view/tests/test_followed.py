@@ -22,9 +22,9 @@ MISSES = ("false_sharing", "true_sharing", "cold")
 NONE = "none: "
 
 
-@unittest.skipIf(LACKS, f"{' '.join(LACKS)} missing")
-@unittest.skipUnless(has(PROGRAM, "misses", "move"), "the program isn't built, or has no move")
-class Followed(unittest.TestCase):
+class Following(unittest.TestCase):
+    """How a program is built and viewed, and how its fixes are made."""
+
     def setUp(self):
         self.folder = tempfile.mkdtemp()
         self.addCleanup(shutil.rmtree, self.folder)
@@ -41,7 +41,8 @@ class Followed(unittest.TestCase):
         return f"{name}.elf"
 
     def look(self, program, *words):
-        call = ("run", program, "--explain", "0", *words, "--json", self.path("json"))
+        usual = () if "--explain" in words else ("--explain", "0")
+        call = ("run", program, *usual, "--no-fine", *words, "--json", self.path("json"))
         status, text, said = view(*call, program=PROGRAM, cwd=self.folder)
         self.assertEqual((status, said), (0, ""), program)
         with open(self.path("json"), encoding="utf-8") as file:
@@ -54,18 +55,18 @@ class Followed(unittest.TestCase):
         with open(os.path.join(FOLLOWED, f"{name}.c"), encoding="utf-8") as file:
             return file.read()
 
-    def follow(self, name, says, edits, flags=(), foretold=None):
+    def follow(self, name, says, edits, flags=(), words=()):
         """Builds a program with what its fix says, and compares all misses with those that were foretold. `says` are parts of the fix,
         `edits` what is replaced in the source."""
         text = self.source(name)
-        before = self.look(self.build(name, text, flags))
+        before = self.look(self.build(name, text, flags), *words)
         first = next(it for it in before["objects"] if it["tried"])
         for it in says:
             self.assertIn(it, first["fix"].replace("`", ""), name)
         for old, new in edits:
             self.assertIn(old, text)
             text = text.replace(old, new)
-        after = self.look(self.build(f"{name}-followed", text, flags))
+        after = self.look(self.build(f"{name}-followed", text, flags), *words)
         told = sum(first["tried"]["after"][it] for it in MISSES)
         saved = self.missed(before) - told
         self.assertGreater(saved * 5, self.missed(before) - before["total"]["cold"], name)
@@ -79,6 +80,10 @@ class Followed(unittest.TestCase):
             print("|", " | ".join(map(str, row)), "|", file=sys.stderr)
         return before
 
+
+@unittest.skipIf(LACKS, f"{' '.join(LACKS)} missing")
+@unittest.skipUnless(has(PROGRAM, "misses", "move"), "the program isn't built, or has no move")
+class Followed(Following):
     def test_tallies(self):
         fields = "volatile uint64_t found; volatile uint64_t lost; volatile uint64_t bytes;"
         self.follow(
@@ -280,6 +285,44 @@ class Followed(unittest.TestCase):
                 ("locks[me]", "own[me].locks"),
                 ("shards[me]", "own[me].shards"),
             ],
+        )
+
+    def test_guarded(self):
+        """Bytes that atomic instructions use by whole words, beside what they guard."""
+        fields = "atomic_flag locks; volatile uint32_t sums; volatile uint32_t turns;"
+        wrapper = f"struct {LINE} locks_sums_turns {{ {fields} }}"
+        found = self.follow(
+            "guarded",
+            [f"join locks, sums and turns to one array of 4 elements of {wrapper};"],
+            [
+                (
+                    "static atomic_flag locks[THREADS];\n"
+                    "static volatile uint32_t sums[THREADS], turns[THREADS];",
+                    f"static {wrapper} own[THREADS];",
+                ),
+                ("locks[me]", "own[me].locks"),
+                ("sums[me]", "own[me].sums"),
+                ("turns[me]", "own[me].turns"),
+            ],
+        )
+        self.assertGreater(found["total"]["false_sharing"], 20 * found["total"]["true_sharing"])
+
+    def test_relay(self):
+        """A qualifier stays: without it the wait for a flag would never end."""
+        wrapper = f"struct {LINE} turn_line {{ volatile int value; }};"
+        self.follow(
+            "relay",
+            [f"give each element of turn its own line: wrap it in {wrapper}"],
+            [
+                (
+                    "static volatile int turn[THREADS];",
+                    f"{wrapper} static struct turn_line turn[THREADS];",
+                ),
+                ("turn[me]", "turn[me].value"),
+                ("turn[(me + 1) % THREADS]", "turn[(me + 1) % THREADS].value"),
+                ("turn[0]", "turn[0].value"),
+            ],
+            words=("--set", "quantum=3"),
         )
 
     def separated(self, program):
