@@ -263,7 +263,6 @@ class ObjectGrouping:
             if isinstance(obj, Block) and its in self.objects:
                 self.objects[its].block_ids.add(obj.addr << 44 | obj.born)
 
-
     def sharing_shares(
         self, spot: ObjectLine, things: Sequence[Symbol | Block], keys: Sequence[Key]
     ) -> Shares:

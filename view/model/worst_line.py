@@ -83,8 +83,6 @@ def word_row(view: View, thing: DataObject, word: WordUse) -> WordRow:
 def worst_line_rows(view: View, thing: DataObject) -> list[WordRow]:
     """The rows of an object's worst line, in the order of their offsets."""
     base = thing.worst_line().base
-    words = used_by_others(
-        view, thing, [it for it in view.details(thing).words if it.base == base]
-    )
+    words = used_by_others(view, thing, [it for it in view.details(thing).words if it.base == base])
     words.sort(key=lambda it: it.addr)
     return [word_row(view, thing, it) for it in wholes(words)]

@@ -303,7 +303,9 @@ class Naming:
             self.callers = Callers(self.program)
         calls = self.callers.outer_sites(addr, self.is_of_kit)
         named = [self.call_names(it) for it in calls]
-        places, called, by = (list(dict.fromkeys(own)) for own in zip(*named)) if named else [[]] * 3
+        places, called, by = (
+            (list(dict.fromkeys(own)) for own in zip(*named)) if named else [[]] * 3
+        )
         if not 0 < len(places) <= MAX_CALLERS or "" in places:
             return ""
         return f"{' or '.join(places)} ({' or '.join(called)} < {' or '.join(by)})"

@@ -199,9 +199,7 @@ class TrialRunner:
             moved = self.write_moved(self.trace, repair)
             found = self.predator.read_trace_by_all(moved, readers) if moved else None
             by_bytes = (
-                count_by_bytes(
-                    self.predator, moved, left, size, self.new_folder(), self.narrowed
-                )
+                count_by_bytes(self.predator, moved, left, size, self.new_folder(), self.narrowed)
                 if moved
                 else {}
             )
@@ -288,7 +286,9 @@ def part_ground(
     part, front = (os.path.join(folder, it) for it in ("part", "first"))
     accesses = write_prefix(trace, start + PART_ACCESSES, part)
     write_prefix(part, start + FRONT_ACCESSES, front)
-    uses, trial = read_uses(predator, part, has_wide_atomics(view)), TrialRunner(view, predator, part, folder)
+    uses, trial = read_uses(predator, part, has_wide_atomics(view)), TrialRunner(
+        view, predator, part, folder
+    )
     if uses is None:
         return None
     trial.narrowed = uses.narrowed
@@ -441,9 +441,7 @@ def parts_outside(part: MovedRange, others: Sequence[MovedRange]) -> Iterator[Mo
 def note_same_repairs(found: Sequence[Trial]) -> None:
     """Names a repair once: of several that move the same data for the object whose repair saves most, with the fewest changes."""
     named = [it for it in found if it.is_named() and it.repair]
-    order = {
-        id(it): (len(it.repair.hows) if it.repair else 0, at) for at, it in enumerate(named)
-    }
+    order = {id(it): (len(it.repair.hows) if it.repair else 0, at) for at, it in enumerate(named)}
     instead: dict[int, Trial] = {}
     for own in named:
         better = [

@@ -87,15 +87,6 @@ class OfThisMachine(unittest.TestCase):
             any(f"struct {test_followed.LINE} Worker (pool.cpp:8)" in it for it in fixes), fixes
         )
 
-    def test_a_vector_of_rust(self):
-        """A type that is named by the screen's words leaves the right fix."""
-        if shutil.which("rustc") is None:
-            self.skipTest("rustc is missing")
-        self.build("stats.rs", "rustc", "-g", "-O")
-        found = self.look("stats", "--type", "stats.rs:13=stats::Stats")[0][0]
-        self.assertEqual(found["type"], "stats::Stats")
-        self.assertIn("#[repr(align(64))] struct Stats", found["fix"])
-
     def test_a_run_of_which_nothing_was_recorded(self):
         words = ("native", shutil.which("true"), "--fail-above", "0")
         status, _, said = view(*words, program=PROGRAM, cwd=self.folder)
