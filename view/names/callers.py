@@ -70,8 +70,8 @@ class Callers:
         return self.functions[at][0] if at >= 0 and addr < self.functions[at][1] else None
 
     def outer_sites(self, addr: int, is_inner: Callable[[int], bool]) -> list[CodeCall]:
-        """The calls that come to the function of an address, through functions of `is_inner` alone, from code that isn't of these: each with
-        the function that it calls."""
+        """The calls that come to the function of an address, through functions of `is_inner` alone, from code that isn't of these:
+        each with the function that it calls."""
         first = self.function_of(addr)
         seen, waiting, found = {first}, [first], []
         while waiting:

@@ -267,12 +267,13 @@ class Naming:
         )
         return frames[first:]
 
-    def instruction_name(self, addr: int) -> str:
-        """An instruction's line in the source and its function, or its address."""
+    def instruction_name(self, addr: int, by_callers: bool = True) -> str:
+        """An instruction's line in the source and its function, or its address; of one in the kit the lines of the program that call that,
+        if these are wanted and few."""
         sources, frames = self.sources, self.own_frames(addr)
         place = next((it for it in frames if it.file and it.line), None)
         names = [self.frame_name(it) for it in frames if it.function]
-        outside = self.program_callers(addr, frames)
+        outside = self.program_callers(addr, frames) if by_callers else ""
         if outside:
             return outside
         near = sources.near(addr) if sources and place is None else None

@@ -4,6 +4,7 @@ import json
 import os
 import re
 import shutil
+import struct
 import subprocess
 import tempfile
 import unittest
@@ -11,6 +12,7 @@ import unittest
 import test_followed
 from calling import PROGRAM, TOP, has, joined, view
 from test_followed import FOLLOWED, LACKS
+from view.names.callers import calls_in
 
 RECORDER = os.path.join(TOP, "native", "out", "predator-amd64-linux")
 
@@ -87,11 +89,29 @@ class OfThisMachine(unittest.TestCase):
             any(f"struct {test_followed.LINE} Worker (pool.cpp:8)" in it for it in fixes), fixes
         )
 
+    def test_a_ring(self):
+        """What threads contend for only in short turns has its fix by another recording of the same program."""
+        self.build("spsc.c", "gcc", "-g", "-O2", "-pthread")
+        call = ("native", "./spsc", "--explain", "0", "--fine")
+        status, text, _ = view(*call, program=PROGRAM, cwd=self.folder)
+        self.assertEqual(status, 0)
+        usual, _, fine = joined(text).partition("only at fine interleaving (quantum 3), typical")
+        self.assertNotIn("group the fields", usual)
+        self.assertIn("group the fields of struct spsc (spsc.c:9)", fine)
+
     def test_a_run_of_which_nothing_was_recorded(self):
         words = ("native", shutil.which("true"), "--fail-above", "0")
         status, _, said = view(*words, program=PROGRAM, cwd=self.folder)
         self.assertEqual(status, 3)
         self.assertIn("nothing was recorded, so there is nothing to test", said)
+
+
+class Calls(unittest.TestCase):
+    def test_calls_in_code(self):
+        """A near call, a far one by two instructions, a jump, and what is none: an address that no call takes, a return."""
+        words = (0x008000EF, 0x00001097, 0x82C080E7, 0x00C0006F, 0x00001097, 0x00000013, 0x00008067)
+        found = calls_in(struct.pack("<7I", *words), 0x10294)
+        self.assertEqual([*found], [(0x10294, 0x1029C), (0x1029C, 0x10AC4), (0x102A0, 0x102AC)])
 
 
 class Streams(unittest.TestCase):
