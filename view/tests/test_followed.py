@@ -80,6 +80,34 @@ class Following(unittest.TestCase):
             print("|", " | ".join(map(str, row)), "|", file=sys.stderr)
         return before
 
+    def separated(self, command):
+        """All misses of a run that `command` records, and those with each word of it on a line of its own, as the program counts both."""
+        trace, table, moved = (self.path(it) for it in ("trace", "table", "moved"))
+        words = [*command[:2], "--trace", trace, *command[2:]]
+        subprocess.run(words, cwd=self.folder, capture_output=True, check=True)
+        with open(trace, "rb") as file:
+            data = file.read()
+        records = [it for *_, it in located_records(data)]
+        words = sorted({it.addr // 4 * 4 for it in records if isinstance(it, Access)})
+        counts = []
+        for own in ([], words):
+            with open(table, "w", encoding="ascii") as file:
+                for place, word in enumerate(own):
+                    file.write(f"{word:#x} 4 {0xC0000000 + 64 * place:#x}\n")
+            subprocess.run([PROGRAM, "move", trace, table, moved], capture_output=True, check=True)
+            text = subprocess.run([PROGRAM, "misses", moved], capture_output=True, text=True).stdout
+            found = re.search(r"^total cold (\d+) useful (\d+) useless (\d+)$", text, re.MULTILINE)
+            counts.append([int(it) for it in found.groups()])
+        return counts
+
+    def no_layout_helps(self, name, found, command):
+        """Where no layout is said to help, each word on a line of its own saves less than a tenth."""
+        fixes = [it["fix"] for it in found["objects"] if it["fix"].startswith(NONE)]
+        self.assertNotEqual(fixes, [], name)
+        before, *apart = self.separated(command)
+        least = min(useful + useless for _, useful, useless in apart)
+        self.assertGreaterEqual(least * 10, (before[1] + before[2]) * 9, (name, apart))
+
 
 @unittest.skipIf(LACKS, f"{' '.join(LACKS)} missing")
 @unittest.skipUnless(has(PROGRAM, "misses", "move"), "the program isn't built, or has no move")
@@ -325,36 +353,36 @@ class Followed(Following):
             words=("--set", "quantum=3"),
         )
 
-    def separated(self, program):
-        """All misses of a run, and those with each word of it on a line of its own, as the program counts both."""
-        trace, table, moved = (self.path(it) for it in ("trace", "table", "moved"))
-        command = [PROGRAM, "run", self.path(program), "--trace", trace]
-        subprocess.run(command, capture_output=True, check=True)
-        with open(trace, "rb") as file:
-            data = file.read()
-        records = [it for *_, it in located_records(data)]
-        words = sorted({it.addr // 4 * 4 for it in records if isinstance(it, Access)})
-        counts = []
-        for own in ([], words):
-            with open(table, "w", encoding="ascii") as file:
-                for place, word in enumerate(own):
-                    file.write(f"{word:#x} 4 {0xC0000000 + 64 * place:#x}\n")
-            subprocess.run([PROGRAM, "move", trace, table, moved], capture_output=True, check=True)
-            text = subprocess.run([PROGRAM, "misses", moved], capture_output=True, text=True).stdout
-            found = re.search(r"^total cold (\d+) useful (\d+) useless (\d+)$", text, re.MULTILINE)
-            counts.append([int(it) for it in found.groups()])
-        return counts
-
     def test_no_layout_helps(self):
-        """Where no layout is said to help, each word on a line of its own saves less than a tenth."""
         for name in ("broker", "ledger", "mailbox"):
             program = self.build(name, self.source(name))
-            found = self.look(program)
-            (first, *rest) = [it["fix"] for it in found["objects"] if it["fix"].startswith(NONE)]
-            self.assertIn(NONE, first, name)
-            before, *apart = self.separated(program)
-            least = min(useful + useless for _, useful, useless in apart)
-            self.assertGreaterEqual(least * 10, (before[1] + before[2]) * 9, (name, apart))
+            self.no_layout_helps(name, self.look(program), [PROGRAM, "run", program])
+
+
+RECORDER = os.path.join(TOP, "native", "out", "predator-amd64-linux")
+
+
+@unittest.skipUnless(shutil.which("gcc"), "gcc is missing")
+@unittest.skipUnless(
+    os.path.exists(RECORDER) and has(PROGRAM, "misses", "move"),
+    "the recorder of native/ or the program isn't built",
+)
+class FollowedHere(Following):
+    """The same of programs of this machine."""
+
+    def test_no_layout_helps(self):
+        name = "ledger"
+        with open(self.path(f"{name}.c"), "w", encoding="utf-8") as file:
+            file.write(self.source(name))
+        build = ["gcc", "-g", "-O2", "-pthread", f"{name}.c", "-o", name]
+        subprocess.run(build, cwd=self.folder, check=True)
+        call = ("native", f"./{name}", "--explain", "0", "--json", self.path("json"))
+        status, _, _ = view(*call, program=PROGRAM, cwd=self.folder)
+        self.assertEqual(status, 0)
+        with open(self.path("json"), encoding="utf-8") as file:
+            found = json.load(file)
+        record = [os.path.join(TOP, "bin", "predator"), "native", "--no-pcs", "--", f"./{name}"]
+        self.no_layout_helps(name, found, record)
 
 
 if __name__ == "__main__":
