@@ -1,6 +1,7 @@
 """Repairs that are tried before they are named: whose words are, where they would lie, and the fix as a sentence."""
 
 import contextlib
+import importlib.util
 import io
 import os
 import re
@@ -400,6 +401,16 @@ class Sentences(unittest.TestCase):
         self.assertEqual(
             (found.fix([]), found.outcome(False)), ("see map: its fix covers this too", "")
         )
+
+    def test_the_study_of_advice_reads_the_numbers(self):
+        path = os.path.join(HERE, "..", "..", "guest", "others", "advice.py")
+        found = importlib.util.spec_from_file_location("study_of_advice", path)
+        study = importlib.util.module_from_spec(found)
+        found.loader.exec_module(study)
+        before, after = (
+            TrialCount({"useless": it, "useful": 10, "cold": 4}, 9) for it in (1900, 0)
+        )
+        self.assertEqual(study.COUNTED.findall(before.beside(after)), [("1,900", "0", "10", "10")])
 
     def trial_of(self, name, after, ranges, *hows):
         """A trial of 1,000 misses and a repair that leaves some of them."""
