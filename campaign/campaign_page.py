@@ -22,6 +22,8 @@ from view.output.drawings import Given, bar, strip, templates
 HERE = os.path.dirname(os.path.abspath(__file__))
 # A page stays below 2 MB with at most so many strips, lines about what failed, and letters of a name.
 MAX_STRIPS, MAX_FAILURES, MAX_NAME = 160, 24, 160
+# A row is drawn where in some seed one in so many accesses is a false-sharing miss, or where misses aren't counted an invalidation.
+MIN_ACCESS_SHARE_DIVISOR = 1000
 # The side-by-side table has at most so many objects, programs of each, and columns of settings.
 MAX_OBJECTS, MAX_PROGRAMS, MAX_SETTINGS = 24, 6, 8
 
@@ -226,6 +228,7 @@ def campaign_page(campaign: Record, observations: Observations, missing: Sequenc
         for name, family in own.items()
     ]
     found.sort(key=lambda shown: (shown.key.kind != "observed", row_rank(shown.row)))
+    drawn = rows_worth_drawing(found, observations)
     has_groups = len(campaign["groups"]) > 1 and found
     return (
         templates(HERE)
@@ -234,11 +237,29 @@ def campaign_page(campaign: Record, observations: Observations, missing: Sequenc
             title=page_title(campaign, observations, found),
             failures=list_failures(campaign, observations, missing),
             runs=plural(len(observations.runs), "run"),
-            beside=side_by_side(campaign, found) if has_groups else None,
-            groups=page_groups(campaign, observations, found[:MAX_STRIPS]),
-            more=max(0, len(found) - MAX_STRIPS),
+            beside=side_by_side(campaign, drawn) if has_groups else None,
+            groups=page_groups(campaign, observations, drawn[:MAX_STRIPS]),
+            more=max(0, len(drawn) - MAX_STRIPS),
+            minor=len(found) - len(drawn),
+            share=f"{MIN_ACCESS_SHARE_DIVISOR:,}",
         )
     )
+
+
+def rows_worth_drawing(found: Sequence[PageRow], observations: Observations) -> list[PageRow]:
+    """The rows of which some seed has enough misses, and the first one of each group."""
+    accesses: dict[int, int] = {}
+    for run in observations.runs:
+        accesses[run.group] = max(accesses.get(run.group, 0), run.accesses)
+    first: dict[int, PageRow] = {}
+    drawn = []
+    for row in found:
+        misses = row.row.summary.false_sharing.max
+        most = row.row.summary.invalidations.max or 0 if misses is None else misses
+        is_first = first.setdefault(row.key.group, row) is row
+        if is_first or most * MIN_ACCESS_SHARE_DIVISOR >= accesses.get(row.key.group, 0):
+            drawn.append(row)
+    return drawn
 
 
 def page_groups(

@@ -19,6 +19,7 @@ from campaign.run_results import (
     RunResults,
 )
 from view.names.naming import Memory, address_text
+from view.names.source_lines import Sources
 
 KINDS = ("observed", "shifted", "doubled")
 SHIFT = re.compile(r"^shift (\d+) total (\d+) lines (\d+)$", re.MULTILINE)
@@ -140,9 +141,11 @@ class Observations:
         self.sweeps: dict[tuple[int, str], list[tuple[dict[int, int], int]]] = {}
         self.caches: dict[tuple[int, str], list[tuple[int, ...]]] = {}
 
-    def add_run(self, group: int, record: Record, memory: Memory) -> None:
+    def add_run(
+        self, group: int, record: Record, memory: Memory, sources: Sources | None = None
+    ) -> None:
         self.failed += [failed_call(record, call) for call in record["failed"]]
-        run = RunResults(record, memory)
+        run = RunResults(record, memory, sources)
         if run.report is None:
             return
         for layout, kind, line in run.lines():

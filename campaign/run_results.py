@@ -10,6 +10,7 @@ from campaign.campaign_file import Record
 from campaign.invalidations import Blame
 from view.model.objects import ObjectLine, contending_objects
 from view.names.naming import Memory, Naming, address_text
+from view.names.source_lines import Sources
 from view.reading import reports
 from view.reading.reports import Block, LineKind, Misses, Report, Site, Symbol
 
@@ -68,7 +69,7 @@ class RunResults:
     # (only where there is a report)
     naming: Naming
 
-    def __init__(self, record: Record, memory: Memory) -> None:
+    def __init__(self, record: Record, memory: Memory, sources: Sources | None = None) -> None:
         self.record, self.seed = record, record["seed"]
         texts = {call: result["text"] for call, result in record["results"].items()}
         self.report = Report(texts["run"]) if "run" in texts else None
@@ -83,7 +84,7 @@ class RunResults:
                 replay = Report(text)
                 self.replays[replay.size, replay.offset] = replay
         if self.report:
-            self.naming = Naming(self.report, memory=memory)
+            self.naming = Naming(self.report, sources=sources, memory=memory)
 
     def lines(self) -> Iterator[tuple[Layout, LineKind, RunLine]]:
         """Each line that a report lists or that has misses, with its layout and kind."""
@@ -169,10 +170,12 @@ class RunResults:
 
 
 def block_name(sites: Sequence[Site], number: int | None, naming: Naming) -> str:
-    """A block by its number and its call sites, without those of allocators and of where threads begin."""
+    """A block by its number and its call sites, without those of allocators and of where threads begin: their lines, which other builds
+    have too, or else their addresses."""
     which = f"block {number} of" if number else "block of"
     if not sites:
         return f"{which} no call site"
     return f"{which} " + " < ".join(
-        f"{it.name}@{address_text(it.addr)}" for it in naming.own_sites(sites)
+        f"{it.name}@{naming.site_line(it) or address_text(it.addr)}"
+        for it in naming.own_sites(sites)
     )

@@ -1,6 +1,7 @@
 """The tables of a campaign: tables.py FOLDER, as the workflow calls it, writes them from the results that
 there are."""
 
+import contextlib
 import json
 import multiprocessing
 import os
@@ -33,9 +34,12 @@ from campaign.observations import (  # noqa: E402
     sort_keys,
     spread,
 )
+from campaign.plan import file_sum  # noqa: E402
 from campaign.rerun_commands import run_command, settings_text  # noqa: E402
 from campaign.run_results import Layout  # noqa: E402
+from view.faults import Fault  # noqa: E402
 from view.names.naming import Memory  # noqa: E402
+from view.names.source_lines import Sources  # noqa: E402
 from view.reading.engine import Predator, setting_value, stack_range  # noqa: E402
 
 FORMAT = "predator campaign table 2"
@@ -294,24 +298,35 @@ def group_memory(campaign: Record, group: Record) -> Memory:
         )
 
 
-def read_batch(work: tuple[str, int, list[int], Memory]) -> Observations:
+def group_sources(campaign: Record, group: Record) -> Sources | None:
+    """The source lines of a group's program; none where its file isn't that of the campaign any more, or llvm-symbolizer is missing."""
+    program = campaign["programs"][group["program"]]
+    with contextlib.suppress(Fault, OSError):
+        if file_sum(program["file"]) == program["sha256"]:
+            return Sources(program["file"])
+    return None
+
+
+def read_batch(work: tuple[str, int, list[int], Memory, Sources | None]) -> Observations:
     """The observations of one batch; a seed that two files have counts once."""
-    name, group, seeds, memory = work
+    name, group, seeds, memory, sources = work
     observations, wanted = Observations(), set(seeds)
     for record in result_files.read_records(result_files.finished_path(name)):
         if record["seed"] in wanted:
-            observations.add_run(group, record, memory)
+            observations.add_run(group, record, memory, sources)
     return observations
 
 
 def read_results(campaign: Record) -> tuple[Observations, list[str]]:
     """The observations of all finished batches, and the names of the others."""
     memories = [group_memory(campaign, group) for group in campaign["groups"]]
+    lines = [group_sources(campaign, group) for group in campaign["groups"]]
     works, missing = [], []
     for batch in campaign["batches"]:
         if os.path.exists(result_files.finished_path(batch["name"])):
             memory = memories[batch["group"]]
-            works.append((batch["name"], batch["group"], seeds_of_batch(batch), memory))
+            sources = lines[batch["group"]]
+            works.append((batch["name"], batch["group"], seeds_of_batch(batch), memory, sources))
         else:
             missing.append(batch["name"])
     whole = Observations()

@@ -313,7 +313,6 @@ FILES: dict[str, bytes] = {
     "few": trace(b"", 0, first=2, harts=4),
     "behind": trace(b"", 0, first=2),
     "second": b"PRDTRC02" + trace(b"", 0)[8:],
-    "filtered": struct.pack("<8sQHHB8xQQQ", b"PRDTRC04", 0, 8, 6, 6, 0, 0, 3),
     "large": trace(symbol((1 << 24) + 4, b"large") + write(0x1000), 1),
     "full": trace(symbol(8, b"pair") + write(0x1000) + write(0xFFFFFFFC), 2),
     "twice": b"quantum = 1\n\nquantum = 2\n",

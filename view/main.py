@@ -36,7 +36,7 @@ from view.output.screen import Paint, counted, screen, width_of_screen  # noqa: 
 from view.names.source_lines import Sources  # noqa: E402
 from view.model.explained_lines import explain  # noqa: E402
 from view.model.filter_notes import note_filter  # noqa: E402
-from view.model.fine_grain import begin_fine_run  # noqa: E402
+from view.model.fine_grain import begin_fine_run, note_fine_run  # noqa: E402
 from view.model.miss_rates import Worth  # noqa: E402
 
 if TYPE_CHECKING:
@@ -79,7 +79,7 @@ def program_of(call: Call) -> "tuple[Program | NativeProgram | None, Sources | N
         sources = Sources(call.program, folders, guest.code())
     else:
         return None, None
-    if program.dwarf is None:
+    if program.dwarf is None and not call.is_again:
         say(f"{program.path} has {lacking(native if table else None)}")
     for assignment in call.options["type"]:
         program.type_named(assignment.partition("=")[2])
@@ -220,7 +220,7 @@ def found(call: Call, predator: Predator | None, passes: Passes | None) -> View:
     view = View(call, report, Naming(report, program, sources, call.options["type"], memory))
     view.worth = Worth(view, miss_rates.begin_count(call, predator, (report.size, report.offset)))
     reading = read_ahead(view, predator)
-    fine = begin_fine_run(call, view.accesses, lambda own, quiet: found(own, quiet, None))
+    fine = begin_fine_run(call, report, view.accesses, look_again)
     trial = trial_of(view, predator, reading)
     note_filter(view)
     view.count_misses(predator, passes)
@@ -239,8 +239,14 @@ def found(call: Call, predator: Predator | None, passes: Passes | None) -> View:
         trial(first)
     view.place_objects(predator, first)
     view.note_unmatched_options()
-    view.fine = fine.result() if fine else None
+    note_fine_run(view, fine)
     return view
+
+
+def look_again(call: Call, predator: Predator) -> View:
+    """What the same program shows in another run."""
+    with start_passes(call, predator) as passes:
+        return found(call, predator, passes)
 
 
 def is_above(view: View) -> bool:

@@ -120,6 +120,20 @@ class Pages(unittest.TestCase):
         )
         self.assertNotIn("Side by side", text)
 
+    def test_rows_that_are_worth_it(self):
+        """What has few of the accesses has no row, unless it is the first one of its group."""
+        for accesses, names in ((79_000, {0, 1, 2}), (81_000, {0, 1}), (500_000, {0})):
+            observations = Observations()
+            observations.runs = [RunSummary(0, 1, "exit 0", 9, accesses, 1, 1, 1, 1)]
+            for at, misses in enumerate((90, 81, 80)):
+                counts = [SeedCounts(1, None, misses)]
+                observations.lines[observed(0, at)] = {(f"object{at}", 0): 1}, counts
+            text = self.page(observations, {"quantum": 3})
+            shown = {it for it in range(3) if f"<tr><td>object{it}<br>" in text}
+            self.assertEqual(shown, names)
+            more = re.search(r"(\d+) more rows? (?:has|have) fewer than one", text)
+            self.assertEqual(int(more[1]) if more else 0, 3 - len(names))
+
     def test_settings_and_builds_are_side_by_side(self):
         observations = Observations()
         for group, count in ((0, 120), (2, 60), (4, 30)):

@@ -3,6 +3,7 @@
 import os
 import sys
 import unittest
+from types import SimpleNamespace
 
 HERE = os.path.dirname(os.path.abspath(__file__))
 sys.path.insert(0, os.path.join(HERE, "..", ".."))
@@ -27,6 +28,7 @@ from campaign.tables import (  # noqa: E402
     row_cells,
 )
 from view.names.naming import Memory  # noqa: E402
+from view.names.source_lines import SourceLine  # noqa: E402
 
 LAYOUT = 64, 0
 OBSERVED = RowKey(0, LAYOUT, "observed")
@@ -140,6 +142,16 @@ class Tables(unittest.TestCase):
             (summary.listed, summary.invalidations, summary.worst_seed), (2, (110, 110, 130), 2)
         )
         self.assertEqual((summary.with_misses, summary.false_sharing), (0, (None, None, None)))
+
+    def test_a_block_has_the_line_of_its_call_site(self):
+        """Other builds have the line too, and not the address."""
+        frames = [SourceLine("work", "src/made.c", 7)]
+        sources = SimpleNamespace(frames=lambda addr: frames if addr == 0x10020 else [])
+        observations = Observations()
+        own = record(1, [block(0x20000, 0x20040, 120, 5)], {"0x00020000 5": 2})
+        observations.add_run(0, own, Memory(), sources)
+        (rows,) = line_rows(observations).values()
+        self.assertEqual([it.object for it in rows], ["block 2 of work@made.c:7"])
 
     def test_a_block_is_the_same_at_any_address(self):
         first = record(1, [block(0x20000, 0x20040, 120, 5)], {"0x00020000 5": 2})

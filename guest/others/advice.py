@@ -56,7 +56,7 @@ SUITES = {
 REST = re.compile(r" \([\w.-]+:\d+\)|, allocated with `[^`]*`|, [\d,]+ → [\d,]+ bytes.*")
 # The code of a repair that is one of a type alone.
 CODE = re.compile(r"give each element [^`]*(`struct [^`]*`)")
-COUNTED = re.compile(r"misses false ([\d,]+) → ([\d,]+), true ([\d,]+) → ([\d,]+)")
+COUNTED = re.compile(r"\(false ([\d,]+) → ([\d,]+), true ([\d,]+) → ([\d,]+), cold")
 
 
 def fix_text(fix):

@@ -10,7 +10,7 @@ from view.model.view import View
 from view.reading.byte_traces import MAX_ACCESSES, WORD, write_stretched
 from view.reading.engine import Predator, Refused, misses_reader
 from view.reading.reports import Misses
-from view.reading.trace_files import WordUses
+from view.reading.trace_files import NarrowedWords, WordUses
 
 # So many lines are counted by bytes.
 MAX_LINES = 4096
@@ -37,12 +37,17 @@ def convert_to_version_1(predator: Predator, trace: str, folder: str) -> str:
 
 
 def count_by_bytes(
-    predator: Predator, trace: str, bases: Iterable[int], size: int, folder: str
+    predator: Predator,
+    trace: str,
+    bases: Iterable[int],
+    size: int,
+    folder: str,
+    narrowed: NarrowedWords | None = None,
 ) -> dict[int, SharingMisses]:
     """The misses of some lines of a trace of version 1, by bytes."""
     order = sorted(bases)
     out = os.path.join(folder, f"bytes-{len(os.listdir(folder))}")
-    places = dict(zip(write_stretched(trace, out, order, size), order))
+    places = dict(zip(write_stretched(trace, out, order, size, narrowed), order))
     counted = cast(Misses, predator.read_trace(out, misses_reader((WORD * size, 0))))
     os.unlink(out)
     return {
@@ -83,4 +88,5 @@ def count_mixed_lines(view: View, predator: Predator | None, uses: WordUses | No
         prefix="predator-view-"
     ) as folder:
         plain = convert_to_version_1(predator, trace, folder)
-        view.note_bytes(count_by_bytes(predator, plain, bases, view.report.size, folder))
+        size = view.report.size
+        view.note_bytes(count_by_bytes(predator, plain, bases, size, folder, uses.narrowed))

@@ -1,7 +1,11 @@
-"""A run at a fine interleaving beside the usual one: the objects that threads contend for only there."""
+"""A run at a fine interleaving beside the usual one: the objects that threads contend for only there. A guest runs again as it ran; a
+program of this machine is recorded once more, where it can be expected to do the same."""
 
 import concurrent.futures
+import contextlib
 import copy
+import os
+import stat
 import subprocess
 from typing import Any, Callable, Optional, Sequence
 
@@ -10,7 +14,8 @@ from view.model.objects import DataObject
 from view.model.view import MIN_ACCESS_SHARE_DIVISOR, View
 from view.reading.calls import Call, option_width
 from view.reading.engine import Predator, setting_value
-from view.reading.recording import keep_run_trace
+from view.reading.recording import keep_run_trace, record_again
+from view.reading.reports import Report
 
 # The quantum of the fine run, and the least one beside which it is made.
 FINE_QUANTUM, LEAST_QUANTUM = 3, 30
@@ -18,6 +23,9 @@ FINE_QUANTUM, LEAST_QUANTUM = 3, 30
 MAX_ACCESSES = 4_000_000
 # What the call of the fine run has of the options.
 KEPT_OPTIONS = ("object", "type", "sources", "shape", "library")
+
+# Options of a recording with which a part is recorded that depends on time.
+OF_TIME = ("--skip", "--for", "--windows", "--most", "--child", "--max-disk")
 
 FineRun = Optional["concurrent.futures.Future[View | None]"]
 
@@ -27,6 +35,34 @@ class QuietPredator(Predator):
 
     def output(self, words: Sequence[str | bytes], good: Sequence[int] = (0,), **how: Any) -> str:
         return super().output(words, good, **{**how, "stderr": subprocess.DEVNULL})
+
+
+def why_not_again(call: Call, report: Report) -> str:
+    """Why a program of this machine isn't recorded once more, or nothing."""
+    recording = call.recording
+    if recording is None:
+        return "there is no program to run"
+    part = next((it for it in recording.options if it.partition("=")[0] in OF_TIME), "")
+    if part:
+        return f"with `{part}` another run would record another part"
+    if report.outcome != "exit 0":
+        return "its first run didn't end with exit 0"
+    with contextlib.suppress(OSError):
+        kind = os.fstat(0).st_mode
+        if stat.S_ISREG(kind) or stat.S_ISFIFO(kind) or stat.S_ISSOCK(kind):
+            return "its standard input can be read once"
+    return ""
+
+
+def wants_fine_recording(call: Call, report: Report, accesses: int) -> bool:
+    """Whether a recording at the fine quantum may show what this one doesn't."""
+    return (
+        call.recording is not None
+        and "no-fine" not in call.options
+        and (call.recorded_quantum or 0) >= LEAST_QUANTUM
+        and (accesses <= MAX_ACCESSES or "fine" in call.options)
+        and not why_not_again(call, report)
+    )
 
 
 def wants_fine_run(call: Call, accesses: int) -> bool:
@@ -50,6 +86,18 @@ def fine_call(call: Call) -> Call:
     fine.options = {name: own for name, own in call.options.items() if name in KEPT_OPTIONS}
     fine.options.update({"explain": "0", "no-predicted": "", "no-fine": ""})
     fine.run_trace = None
+    fine.is_again = True
+    return fine
+
+
+def recorded_call(call: Call, trace: str) -> Call:
+    """The same call for another recording of its program."""
+    fine, recording = copy.copy(call), call.recording
+    fine.subject, fine.words = trace, [trace, *(recording.replay if recording else [])]
+    fine.options = {name: own for name, own in call.options.items() if name in KEPT_OPTIONS}
+    fine.options.update({"explain": "0", "no-predicted": "", "no-fine": ""})
+    fine.recorded_quantum, fine.recording, fine.is_again = FINE_QUANTUM, None, True
+    fine.__dict__.pop("filtered", None)
     return fine
 
 
@@ -69,15 +117,47 @@ def set_quantum(words: Sequence[str], quantum: int) -> list[str]:
     return ["--set", f"quantum={quantum}", *found]
 
 
-def begin_fine_run(call: Call, accesses: int, look: Callable[[Call, Predator], View]) -> FineRun:
-    """Begins a run at the fine quantum beside what else is counted, where it may show more."""
-    if not wants_fine_run(call, accesses):
+def begin_fine_run(
+    call: Call, report: Report, accesses: int, look: Callable[[Call, Predator], View]
+) -> FineRun:
+    """Begins a run at the fine quantum beside what else is counted, where it may show more. So many accesses were made."""
+    is_recorded = wants_fine_recording(call, report, accesses)
+    if not is_recorded and not wants_fine_run(call, accesses):
         return None
     pool = concurrent.futures.ThreadPoolExecutor(max_workers=1)
     try:
+        if is_recorded:
+            return pool.submit(view_recording, call, report, look)
         return pool.submit(view_fine_run, fine_call(call), look)
     finally:
         pool.shutdown(wait=False)
+
+
+def view_recording(
+    call: Call, report: Report, look: Callable[[Call, Predator], View]
+) -> View | None:
+    """What another recording shows, or none where the program did something else."""
+    try:
+        trace = record_again(call.recording, FINE_QUANTUM) if call.recording else None
+        view = look(recorded_call(call, trace), QuietPredator()) if trace else None
+    except (Fault, OSError):
+        return None
+    is_same = view is not None and view.report.outcome == report.outcome
+    return view if view is not None and is_same and view.misses else None
+
+
+def note_fine_run(view: View, run: FineRun) -> None:
+    """Takes what a fine run has found, and notes where the call wants one and the program doesn't repeat."""
+    view.fine = run.result() if run else None
+    if view.fine is not None or "fine" not in view.call.options or not view.call.recording:
+        return
+    quantum = view.call.recorded_quantum or 0
+    why = why_not_again(view.call, view.report)
+    if run is not None:
+        why = f"run again at a quantum of {FINE_QUANTUM}, it ended otherwise or took far longer"
+    elif not why and quantum < LEAST_QUANTUM:
+        why = f"a quantum of {quantum:,} is fine already"
+    view.notes.append(f"nothing is known of a fine interleaving: {why}")
 
 
 def view_fine_run(call: Call, look: Callable[[Call, Predator], View]) -> View | None:
@@ -100,6 +180,15 @@ def has_repair(view: View, obj: DataObject | None) -> bool:
     return tried is not None and (tried.is_saving() or tried.same_as is not None)
 
 
+def same_object(view: View, fine: View, obj: DataObject) -> DataObject | None:
+    """The object of the usual run that one of the fine run is: in another recording it may have another address."""
+    if view.call.recording is None:
+        return view.objects_by_key.get(obj.key)
+    text = fine.lasting_keys.get(obj.key)
+    found = (it for it in view.objects_by_key.values() if view.lasting_keys.get(it.key) == text)
+    return next(found, None) if text else None
+
+
 def fine_objects(view: View) -> list[DataObject]:
     """The objects of the fine run, worst first, that are contended only there: which have a repair there alone, or hardly a false-sharing
     miss in the usual run."""
@@ -108,7 +197,7 @@ def fine_objects(view: View) -> list[DataObject]:
         return []
     found = []
     for obj in fine.listed_objects():
-        own = view.objects_by_key.get(obj.key)
+        own = same_object(view, fine, obj)
         is_new = own is None or not is_contended(view, own)
         if not has_repair(view, own) and (is_new or has_repair(fine, obj)):
             if is_contended(fine, obj):

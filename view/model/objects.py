@@ -1,6 +1,7 @@
 """Groups the lines of a report by their contended objects, the worst first.
 
-A line's numbers are told once: under the object that most of the line's accesses went to. The others on it are told beside it."""
+A line's numbers are told once: under the object that most of the line's accesses went to, and where most of its misses are true sharing,
+under the one whose words threads share. The others on it are told beside it."""
 
 import heapq
 import re
@@ -226,8 +227,8 @@ NONE = None, None
 class ObjectGrouping:
     """Lines as they are put under their objects."""
 
-    def __init__(self, naming: Naming) -> None:
-        self.naming = naming
+    def __init__(self, naming: Naming, by_word: Misses | None = None) -> None:
+        self.naming, self.by_word = naming, by_word
         self.objects: dict[Key, DataObject] = {}
         self.single_objects: dict[str, tuple[DataObject, Symbol] | tuple[None, None]] = {}
 
@@ -246,11 +247,9 @@ class ObjectGrouping:
         for key, (example, _) in shares.items():
             if key not in self.objects:
                 self.objects[key] = DataObject(key, example)
-        key = (
-            max(shares, key=lambda candidate: shares[candidate][1])
-            if len(shares) > 1
-            else next(iter(shares))
-        )
+        by_sharing = self.sharing_shares(spot, things, keys) if len(shares) > 1 else {}
+        ranked = {key: own for key, own in by_sharing.items() if key in shares} or shares
+        key = max(ranked, key=lambda candidate: ranked[candidate][1])
         own = self.objects[key]
         own.add(spot)
         if len(shares) > 1:
@@ -263,6 +262,19 @@ class ObjectGrouping:
             if isinstance(obj, Block) and its in self.objects:
                 self.objects[its].block_ids.add(obj.addr << 44 | obj.born)
 
+    def sharing_shares(
+        self, spot: ObjectLine, things: Sequence[Symbol | Block], keys: Sequence[Key]
+    ) -> Shares:
+        """Of a line that is missed mostly by true sharing what each object has of the misses of its words alone; else nothing."""
+        line, missed = spot.line_with_words(), spot.missed
+        if self.by_word is None or line is None or missed is None:
+            return {}
+        if missed.useful <= missed.useless:
+            return {}
+        alone = self.by_word.lines
+        words = [(addr, alone[addr].useful) for addr, _ in line.accesses() if addr in alone]
+        return access_shares([it for it in words if it[1]], things, keys, self.naming)
+
 
 def group_lines(
     report: Report,
@@ -270,9 +282,11 @@ def group_lines(
     naming: Naming,
     each: Report | None = None,
     is_listed: bool = True,
+    by_word: Misses | None = None,
 ) -> tuple[list[DataObject], dict[Key, DataObject]]:
-    """The objects that have lines, the worst first, and all by their keys, those beside them too."""
-    folding = ObjectGrouping(naming)
+    """The objects that have lines, the worst first, and all by their keys, those beside them too. `by_word` has the misses of lines of a
+    word each."""
+    folding = ObjectGrouping(naming, by_word)
     for spot in object_lines(report, misses, each, is_listed):
         folding.add(spot)
     found = folding.objects

@@ -20,7 +20,7 @@ def begin_reading(view: View, predator: Predator | None) -> UsesFuture:
         return None
     pool = concurrent.futures.ThreadPoolExecutor(max_workers=1)
     try:
-        return pool.submit(read_uses, predator, trace)
+        return pool.submit(read_uses, predator, trace, has_wide_atomics(view))
     finally:
         pool.shutdown(wait=False)
 
@@ -38,7 +38,12 @@ def read_uses_once(view: View, predator: Predator | None, reading: UsesFuture) -
     return view.word_uses
 
 
-def read_uses(predator: Predator, trace: str) -> WordUses | None:
+def has_wide_atomics(view: View) -> bool:
+    """Whether a trace is of a guest: RV32 has atomic instructions for whole words alone."""
+    return view.call.program is not None
+
+
+def read_uses(predator: Predator, trace: str, is_wide: bool = False) -> WordUses | None:
     with contextlib.suppress(Refused, OSError, ValueError):
-        return read_word_uses(predator, trace)
+        return read_word_uses(predator, trace, is_wide)
     return None

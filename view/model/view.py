@@ -287,6 +287,7 @@ class View:
             *(self.report, self.misses, self.naming, self.every_line),
             # (a report of a filtered trace has no thresholds, and lists lines without a miss)
             is_listed=self.filtered is None or self.misses is None,
+            by_word=self.word_misses,
         )
         for obj in self.objects_by_key.values():
             obj.name = self.naming.object_name(obj.key, obj.example)

@@ -165,7 +165,8 @@ def hart_place(pcs: list[int], naming: Naming) -> str:
     if any(it.function in END_FUNCTIONS for it in frames):
         return ""
     own = next((it for it in pcs if is_own(it, naming)), None)
-    here = naming.instruction_name(pcs[0])
+    # (which of the program's calls it is, the instruction before says)
+    here = naming.instruction_name(pcs[0], by_callers=False)
     return here if own is None or own == pcs[0] else f"{here}, after {naming.instruction_name(own)}"
 
 

@@ -5,11 +5,15 @@ from collections import Counter
 from typing import Iterable, NamedTuple, Sequence
 
 from view.repairs import advice
+from view.model.object_keys import StackKey
 from view.model.view import View
 from view.model.objects import DataObject, WordUse
+from view.reading.reports import Symbol
 
 # So many groups of words are named, so many fields of a group, and so many neighbours.
 GROUPS, FIELDS, BESIDE = 3, 3, 3
+# A variable of more bytes isn't a single number.
+MAX_VALUE_BYTES = 8
 ELEMENT = re.compile(r"\[\d+\]")
 MANY, ONE = "several threads", "one thread"
 
@@ -65,7 +69,8 @@ def field_in(thing: DataObject, word: WordUse) -> str:
     """A word's field without the object's name, which the row has: `+4`, `[2].high`."""
     name = word.field_name()
     rest = name.removeprefix(thing.name)
-    return (rest if rest != name else name) or "+0"
+    is_value = isinstance(thing.example, Symbol) and thing.example.size <= MAX_VALUE_BYTES
+    return (rest if rest != name else name) or (name if is_value else "+0")
 
 
 def accesses(word: WordUse) -> str:
@@ -120,7 +125,16 @@ def describe_owners(view: View, thing: DataObject) -> str:
     seen = view.details(thing)
     base = thing.worst_line().base
     own = [it for it in seen.words if it.key == thing.key and it.base == base]
+    own = used_by_others(view, thing, own)
     return "; ".join(filter(None, (own_words(view, thing, own), neighbours(view, thing))))
+
+
+def used_by_others(view: View, thing: DataObject, own: list[WordUse]) -> list[WordUse]:
+    """Of some words of a stack those that its own thread doesn't use alone, where there are such: it has many, and others use few."""
+    if not isinstance(thing.key, StackKey):
+        return own
+    its = view.naming.memory.owner(thing.key.hart)
+    return [it for it in own if it.owner != its] or own
 
 
 def own_words(view: View, thing: DataObject, own: Sequence[WordUse]) -> str:

@@ -4,7 +4,7 @@ from typing import Iterator, NamedTuple, Sequence
 
 from view.model.objects import DataObject, WordUse
 from view.model.view import View
-from view.model.word_owners import field_in, join_names
+from view.model.word_owners import field_in, join_names, used_by_others
 
 # So many rows of the table, and so many threads of a word, are shown.
 MAX_ROWS, MAX_THREADS = 8, 3
@@ -83,7 +83,6 @@ def word_row(view: View, thing: DataObject, word: WordUse) -> WordRow:
 def worst_line_rows(view: View, thing: DataObject) -> list[WordRow]:
     """The rows of an object's worst line, in the order of their offsets."""
     base = thing.worst_line().base
-    words = sorted(
-        (it for it in view.details(thing).words if it.base == base), key=lambda it: it.addr
-    )
+    words = used_by_others(view, thing, [it for it in view.details(thing).words if it.base == base])
+    words.sort(key=lambda it: it.addr)
     return [word_row(view, thing, it) for it in wholes(words)]

@@ -1,8 +1,9 @@
 """What the source makes blocks for: the type of a call site's blocks, the container that a library makes there, and bytes."""
 
 import functools
+import itertools
 import re
-from typing import TYPE_CHECKING, Any
+from typing import TYPE_CHECKING, Any, Sequence
 
 from view.reading.reports import Block, Site
 from view.names.source_lines import SourceLine
@@ -106,7 +107,7 @@ class BlockTypes:
         if self.naming.sources is None or not isinstance(program, Program) or program.dwarf is None:
             return None
         site = self.naming.own_sites(sites)[0]
-        for library_frame in self.library_frames(site):
+        for library_frame in self.library_frames(sites):
             found = ALLOCATOR_OF.search(library_frame.function)
             name = first_argument(library_frame.function, found.end()) if found else ""
             if name:
@@ -114,14 +115,24 @@ class BlockTypes:
         frame = self.naming.own_place(site.addr)
         return AllocatedTypes(program, self.naming.sources.text).type_at(frame) if frame else None
 
-    def library_frames(self, site: Site) -> list[SourceLine]:
-        """The frames of a language's library that are inlined at a call site, the innermost first."""
-        frames = self.naming.sources.frames(site.addr) if self.naming.sources else []
-        return frames[: len(frames) - len(self.naming.own_frames(site.addr))]
+    def library_frames(self, sites: Sequence[Site]) -> list[SourceLine]:
+        """The frames of a language's library between an allocator and the program, the innermost first."""
+        sources, first = self.naming.sources, self.naming.own_sites(sites)[0]
+        if sources is None:
+            return []
+        inner = itertools.takewhile(lambda site: site != first, sites)
+        found = [
+            frame
+            for site in inner
+            if self.naming.is_in_headers(site)
+            for frame in sources.frames(site.addr)
+        ]
+        frames = sources.frames(first.addr)
+        return [*found, *frames[: len(frames) - len(self.naming.own_frames(first.addr))]]
 
-    def container(self, site: Site) -> str:
-        """What a library makes at a call site, as `vector<Worker>`, or an empty text."""
-        for frame in reversed(self.library_frames(site)):
+    def container(self, sites: Sequence[Site]) -> str:
+        """What a library makes for a call of the program, as `vector<Worker>`, or an empty text."""
+        for frame in reversed(self.library_frames(sites)):
             found = CONTAINER.search(frame.function)
             if found:
                 begin = found.end()

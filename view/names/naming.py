@@ -6,6 +6,7 @@ import re
 from typing import TYPE_CHECKING, Any, Iterable, NamedTuple, Sequence, Union
 
 from view.model.object_keys import Key, BlocksKey, FileKey, MemoryKey, PlaceKey, StackKey, SymbolKey
+from view.names.callers import Callers, CodeCall
 from view.names.block_types import BlockTypes
 from view.names.demangling import SymbolNames, short_name
 from view.reading.reports import Block, Report, Site, Symbol
@@ -96,6 +97,8 @@ LANGUAGE_LIBRARIES = (
 )
 GO_RUNTIME = re.compile(r"(?:runtime|(?:runtime/)?internal/[\w/]+)\.")
 # Sources of the kit for guests.
+# So many lines of the program are named that call a function of the kit.
+MAX_CALLERS = 3
 KIT = re.compile(r"(?:^|/)guest/(?:(?:calls|library|pthread)\.c|start\.S|clib/[^/]*)$")
 # What Rust's compiler puts behind a function's name.
 RUST_HASH = re.compile(r"::h[0-9a-f]{16}$")
@@ -131,6 +134,13 @@ class Memory:
         return (self.high - 1 - addr) % self.stack_bytes + 1
 
 
+def is_array_of(kind: Any, symbol: Symbol) -> bool:
+    """Whether a variable is several values of a type: a block that a compiler made a variable has the type of its elements."""
+    from view.names.fields import size_of
+
+    return symbol.name.endswith(".body") and 0 < 2 * size_of(kind) <= symbol.size
+
+
 def address_text(addr: int) -> str:
     return f"{'-' if addr < 0 else ''}0x{abs(addr):08x}"
 
@@ -158,6 +168,7 @@ class Naming:
         self.cached_sites_keys: dict[tuple[Site, ...], tuple[str, ...]] = {}
         self.types = [it.partition("=")[::2] for it in types]
         self.blocks = BlockTypes(self)
+        self.callers: Callers | None = None
 
     def learn_symbols(self, text: str) -> None:
         """Has the names of all symbols in a report told at once."""
@@ -256,11 +267,15 @@ class Naming:
         )
         return frames[first:]
 
-    def instruction_name(self, addr: int) -> str:
-        """An instruction's line in the source and its function, or its address."""
+    def instruction_name(self, addr: int, by_callers: bool = True) -> str:
+        """An instruction's line in the source and its function, or its address; of one in the kit the lines of the program that call that,
+        if these are wanted and few."""
         sources, frames = self.sources, self.own_frames(addr)
         place = next((it for it in frames if it.file and it.line), None)
         names = [self.frame_name(it) for it in frames if it.function]
+        outside = self.program_callers(addr, frames) if by_callers else ""
+        if outside:
+            return outside
         near = sources.near(addr) if sources and place is None else None
         text = (
             place.short()
@@ -277,6 +292,37 @@ class Naming:
             if beside
             else text
         )
+
+    def program_callers(self, addr: int, frames: Sequence[SourceLine]) -> str:
+        """Of an instruction of the kit the lines of the program that call its function, as far as they are few; or nothing."""
+        from view.names.fields import Program
+
+        files = [it.file for it in frames if it.file]
+        if not isinstance(self.program, Program) or not files or not all(map(KIT.search, files)):
+            return ""
+        if self.callers is None:
+            self.callers = Callers(self.program)
+        calls = self.callers.outer_sites(addr, self.is_of_kit)
+        named = [self.call_names(it) for it in calls]
+        places, called, by = (
+            (list(dict.fromkeys(own)) for own in zip(*named)) if named else [[]] * 3
+        )
+        if not 0 < len(places) <= MAX_CALLERS or "" in places:
+            return ""
+        return f"{' or '.join(places)} ({' or '.join(called)} < {' or '.join(by)})"
+
+    def call_names(self, call: CodeCall) -> tuple[str, str, str]:
+        """The line of a call, the function that it calls, and the one that calls it; the line is empty where none is known."""
+        frame = next((it for it in self.own_frames(call.site) if it.short()), None)
+        near = self.sources.near(call.site) if self.sources and frame is None else None
+        place = frame.short() if frame else f"near {near.short()}" if near else ""
+        caller = self.frame_name(frame) if frame else self.frame_function(call.site)
+        return place, self.frame_function(call.target), caller
+
+    def is_of_kit(self, addr: int) -> bool:
+        """Whether an instruction is of the kit for guests alone, or of code without a line."""
+        frames = self.sources.frames(addr) if self.sources else []
+        return all(KIT.search(it.file) for it in frames if it.file)
 
     def frame_name(self, frame: SourceLine) -> str:
         """The function of a frame, a lambda or a closure by its place."""
@@ -319,10 +365,17 @@ class Naming:
         ) or list(sites[:1])
 
     def own_sites(self, sites: Sequence[Site]) -> list[Site]:
-        """The sites of a block from the one that wants it on: without the allocator's own, and without where harts begin."""
+        """The sites of a block from the one that wants it on: without the allocator's own, those in headers of a language's library, and
+        without where harts begin."""
         sites = self.sites_in_code(sites)
         own = [it for it in sites if it.name not in ALLOCATORS] or list(sites)
+        own = list(itertools.dropwhile(self.is_in_headers, own)) or own
         return [it for it in own if not self.is_beginning(it)] or own[:1]
+
+    def is_in_headers(self, site: Site) -> bool:
+        """Whether all functions at a call site are of a language's library that the program was compiled with."""
+        files = [it.file for it in self.sources.frames(site.addr)] if self.sources else []
+        return bool(files) and all(LIBRARIES.search(it) for it in files)
 
     def site_functions(self, sites: Sequence[Site]) -> list[str]:
         """The call sites by functions alone, which other builds of the program have too."""
@@ -372,7 +425,7 @@ class Naming:
             if near == 0
             else ""
         )
-        what = self.blocks.container(chain[0]) or "block"
+        what = self.blocks.container(sites) or "block"
         return (f"{what} made at " if at else f"{what} made in ") + " < ".join(
             [first, *(rest or (["main"] if at and chain[0].name == "main" else []))]
         )
@@ -444,14 +497,16 @@ class Naming:
         """The type of the value that a word lies in, and the word's place there, or none where that isn't known."""
         if self.program is None or thing is None:
             return None
+        from view.names.fields import size_of
+
         if isinstance(thing, Symbol):
             variable = self.program.variable(thing.addr)
-            return (
-                (variable.type, addr - thing.addr)
-                if variable and variable.type is not None
-                else None
-            )
-        from view.names.fields import size_of
+            if variable is None or variable.type is None:
+                return None
+            offset = addr - thing.addr
+            if is_array_of(variable.type, thing):
+                offset %= size_of(variable.type)
+            return variable.type, offset
 
         element = (
             None
@@ -482,11 +537,11 @@ class Naming:
             return None
         if isinstance(thing, Symbol):
             variable = self.program.variable(thing.addr)
-            return (
-                self.part_names(variable.type, name, offset)
-                if variable and variable.type is not None
-                else None
-            )
+            if variable is None or variable.type is None:
+                return None
+            if is_array_of(variable.type, thing):
+                return self.element_names(variable.type, name, offset, thing.size)
+            return self.part_names(variable.type, name, offset)
         if thing.sites and thing.sites[0].name == THREAD_LOCALS:
             own = next(
                 (it for it in self.program.thread_locals() if it[0] <= offset < it[0] + it[1]), None

@@ -156,7 +156,7 @@ def trial(view: View, obj: DataObject) -> Record | None:
     tried = view.decisive_trial(obj)
     if tried is None or tried.after is None or tried.repair is None:
         return None
-    if tried.same_as is not None or not tried.is_saving():
+    if tried.same_as is not None or not tried.is_named():
         return None
     before, after = tried.repair.sizes
     return {

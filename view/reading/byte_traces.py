@@ -6,11 +6,19 @@ import mmap
 from array import array
 from typing import Callable, Iterable, Iterator, Sequence
 
-from view.reading.trace_files import HEADER, PART_END, END, OF_PART, access_pieces
+from view.reading.trace_files import (
+    HEADER,
+    PART_END,
+    END,
+    OF_PART,
+    NarrowedWords,
+    access_pieces,
+)
 
 # The parts of an access as one number: kind, hart, address and size.
 ADDRESS_SHIFT, SIZE_SHIFT, LOW = 24, 56, (1 << 24) - 1
 ADDRESS_MASK = (1 << 32) - 1
+HART_SHIFT, HART_MASK = 8, 0xFFFF
 WORD = 4
 # A trace of more accesses isn't read byte by byte.
 MAX_ACCESSES = 10_000_000
@@ -49,14 +57,23 @@ def write_accesses(
     return count
 
 
-def write_stretched(trace: str, out: str, bases: Iterable[int], size: int) -> list[int]:
+def narrow(key: int, narrowed: NarrowedWords) -> tuple[int, int]:
+    """The address and the size of an access; `narrowed` has what atomic instructions for whole words are taken to be for."""
+    addr, size = key >> ADDRESS_SHIFT & ADDRESS_MASK, key >> SIZE_SHIFT
+    own = narrowed.get((key >> HART_SHIFT & HART_MASK, addr)) if size == WORD else None
+    return (addr + own[0], own[1]) if own else (addr, size)
+
+
+def write_stretched(
+    trace: str, out: str, bases: Iterable[int], size: int, narrowed: NarrowedWords | None = None
+) -> list[int]:
     """Writes the accesses to some lines of a size with each of their bytes as a word, and gives where each of the lines begins then, in
     their order."""
     order = sorted(bases)
     places = {base: at * WORD * size for at, base in enumerate(order)}
 
     def spell(key: int) -> list[int]:
-        addr, wide = key >> ADDRESS_SHIFT & ADDRESS_MASK, key >> SIZE_SHIFT
+        addr, wide = narrow(key, narrowed or {})
         found = []
         for byte in range(addr, addr + wide):
             line = places.get(byte // size * size)
@@ -81,17 +98,19 @@ class Occupied(ValueError):
     """A place of the trace's own at which something was to be moved."""
 
 
-def write_moved_bytes(trace: str, out: str, places: dict[int, int]) -> None:
+def write_moved_bytes(
+    trace: str, out: str, places: dict[int, int], narrowed: NarrowedWords | None = None
+) -> None:
     """Writes a trace with some bytes at other places, each by its address."""
     words = {it // WORD for it in places}
     taken = {it // WORD for it in places.values()} - words
 
     def spell(key: int) -> list[int] | None:
-        addr = key >> ADDRESS_SHIFT & ADDRESS_MASK
+        addr, size = narrow(key, narrowed or {})
         if addr // WORD in taken:
             raise Occupied(addr)
         if addr // WORD not in words:
             return None
-        return [access_at(key, *it) for it in spread(addr, key >> SIZE_SHIFT, places)]
+        return [access_at(key, *it) for it in spread(addr, size, places)]
 
     write_accesses(trace, out, spell, True)

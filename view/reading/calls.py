@@ -4,7 +4,7 @@ import difflib
 import functools
 import os
 import re
-from typing import Any, Iterable, Iterator, Sequence
+from typing import Any, Iterable, Iterator, NamedTuple, Sequence
 
 from view.faults import Fault
 from view.reading import filtered_traces
@@ -41,8 +41,9 @@ Options:
                      counters names those of all objects
   --whole            record all accesses of a program of this machine; otherwise those that change no cache are left out
   --filtered[=N]     leave these out: lines of at most N bytes keep their counts, N a power of two (4096)
-  --fine             also run a guest of more than 4,000,000 accesses at a quantum of 3, to find what is contended only there
-  --no-fine          run a guest at the given quantum only
+  --fine             also run a program of more than 4,000,000 accesses at a quantum of 3, to find what is contended only there, and
+                     say why where that can't be
+  --no-fine          run a program at the given quantum only
   --type SITE=TYPE   the type of the blocks of a call site, as arena.c:78=node: a type, or a pointer variable
   --sources DIR      the folder of the sources, if they moved
   --shape SHAPE      for `view caches`: a cache, as 64x16x2 for 16 sets of 2 lines of 64 bytes; may be given several times (64x16x2,
@@ -119,6 +120,17 @@ def suggest_nearest(word: str, known: Iterable[str]) -> str:
     return f"did you mean `{found[0]}`? " if found else ""
 
 
+class Recording(NamedTuple):
+    """How a program of this machine was recorded: the recorder's options, the program and its words, the options of the replay, a folder
+    for another trace, and how many seconds it took."""
+
+    options: list[str]
+    command: list[str]
+    replay: list[str]
+    folder: str
+    seconds: float
+
+
 class Call:
     """What is asked: `how` says what is done with the file; `subject` is the program, the trace or the report, and `named` what the
     call names; `words` go to the program, `given` are the options among them, `marks` go to its recorder, and `own` is what its guest gets,
@@ -140,6 +152,9 @@ class Call:
         self.engine_options: list[str] = []
         # The quantum at which a program of this machine was recorded, or none.
         self.recorded_quantum: int | None = None
+        # How it was recorded, or none; and whether this is that call once more, which says nothing.
+        self.recording: "Recording | None" = None
+        self.is_again = False
         # Where the trace of a run may be written that no word names.
         self.run_trace: str | None = None
         self.words, names = self.split(words[1:] if first in named else words)
@@ -342,11 +357,9 @@ class Call:
                 )
         if "fine" in self.options and "no-fine" in self.options:
             raise Fault("'--fine' and '--no-fine' exclude each other")
-        if self.action != "run" and ("fine" in self.options or "no-fine" in self.options):
-            raise Fault(
-                "'--fine' and '--no-fine' apply to `view run` only: record a program of this machine"
-                " with `--quantum 3`"
-            )
+        is_run = self.action in ("run", "native")
+        if not is_run and ("fine" in self.options or "no-fine" in self.options):
+            raise Fault("'--fine' and '--no-fine' apply to `view run` and `view native` only")
         if "predicted" in self.options and "no-predicted" in self.options:
             raise Fault("'--predicted' and '--no-predicted' exclude each other")
         for name, of in (("by", "fail-above"), ("json-version", "json"), ("live", "html")):

@@ -7,10 +7,11 @@ import shutil
 import signal
 import subprocess
 import tempfile
+import time
 from types import FrameType
 from typing import Iterator, Sequence
 
-from view.reading.calls import EXPLAIN, RECORDS, Call
+from view.reading.calls import EXPLAIN, RECORDS, Call, Recording
 from view.faults import Fault
 from view.reading import guard
 from view.reading.engine import Predator, launcher
@@ -132,6 +133,8 @@ def run_recorder(words: Sequence[str]) -> int:
             signal.signal(number, old)
 
 
+# Another recording may take so many times as long as the first one, and so many seconds more.
+LONGER, MORE_SECONDS = 10, 10
 # How many accesses the recorders give a thread in a turn, where no option says so.
 RECORDER_QUANTUM = 100
 
@@ -175,6 +178,44 @@ def check_trace(trace: str, old: tuple[int, int], status: int) -> None:
         )
 
 
+def record_again(recording: Recording, quantum: int) -> str | None:
+    """The trace of another recording, at a quantum, in processors that nothing else wants; or none where the program ended otherwise than
+    with status 0, or took far longer. It has no input, and what it prints is lost."""
+    trace = os.path.join(recording.folder, "again")
+    options = without(recording.options, ("--quantum", "--trace"))
+    words = [launcher(), "native", *options, "--quantum", str(quantum), "--trace", trace]
+    if option_value(options, "--max-disk") is None:
+        words += ["--max-disk", MAX_DISK]
+    nice = ["nice", "-n", "19"] if shutil.which("nice") else []
+    run = subprocess.Popen(
+        [*nice, *words, "--", *recording.command],
+        stdin=subprocess.DEVNULL,
+        stdout=subprocess.DEVNULL,
+        stderr=subprocess.DEVNULL,
+        start_new_session=True,
+    )
+    try:
+        status = run.wait(timeout=LONGER * recording.seconds + MORE_SECONDS)
+    except subprocess.TimeoutExpired:
+        os.killpg(run.pid, signal.SIGKILL)
+        run.wait()
+        return None
+    return trace if status == 0 and os.path.isfile(trace) else None
+
+
+def without(words: Sequence[str], names: Sequence[str]) -> list[str]:
+    """The words without some options and their values."""
+    kept: list[str] = []
+    at = 0
+    while at < len(words):
+        name, has_value, _ = words[at].partition("=")
+        width = 2 if name in RECORDS and not has_value else 1
+        if name not in names:
+            kept += words[at : at + width]
+        at += width
+    return kept
+
+
 @contextlib.contextmanager
 def record_program(call: Call) -> Iterator[None]:
     """Records the program of a call, where it is one of this machine, and has the call name its trace as long as that is there. What the
@@ -198,8 +239,14 @@ def record_program(call: Call) -> Iterator[None]:
             if option_value(recorder, "--max-disk") is None:
                 words += ["--max-disk", MAX_DISK]
         old = file_stamp(trace)
-        status = run_recorder([*words, *recorder, "--", name, *call.guest_words[1:]])
+        command, began = [name, *call.guest_words[1:]], time.monotonic()
+        status = run_recorder([*words, *recorder, "--", *command])
         check_trace(trace, old, status)
+        left_out = ("--pcs", "--no-pcs", "--filtered")
+        flags = [it for it in recorder_flags(call) if it.partition("=")[0] not in left_out]
+        call.recording = Recording(
+            [*flags, "--no-pcs", *recorder], command, replay, folder, time.monotonic() - began
+        )
         call.recorded_quantum = int(option_value(recorder, "--quantum") or RECORDER_QUANTUM)
         call.action, call.subject, call.guest_words = "replay", trace, []
         call.words = [trace, *replay]

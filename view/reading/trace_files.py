@@ -43,6 +43,8 @@ class HartUse(NamedTuple):
         return self.reads + self.writes
 
 
+# The byte or half of a word that a hart uses, as its place and size, by the hart and the word.
+NarrowedWords = dict[tuple[int, int], tuple[int, int]]
 # The use of a word by each hart.
 ByHart = dict[int, HartUse]
 
@@ -106,11 +108,21 @@ class ThreadPhase:
                 self.front_accesses = accesses
 
 
+# The bytes of a word, as bits, that one number of less than a word may be: where it begins, and its size.
+NARROW = {1: (0, 1), 2: (1, 1), 4: (2, 1), 8: (3, 1), 3: (0, 2), 12: (2, 2)}
+# A hart's accesses to all of a word by what an atomic instruction reads and writes, and the bytes of its others.
+WHOLE_WORD = 4
+
+
 class WordUses:
     """Who uses which words of a trace while threads run. Where the trace is filtered these are the accesses that it has: each thread that
-    writes a word writes it there too, but not each of its bytes, nor as often."""
+    writes a word writes it there too, but not each of its bytes, nor as often. Where `has_wide_atomics` says that the machine has atomic
+    instructions for whole words alone, those of a hart that else uses one byte or half of a word are taken to be for that: `narrowed` has it
+    by hart and word, as its place in the word and its size."""
 
-    def __init__(self, path: str, is_filtered: bool = False) -> None:
+    def __init__(
+        self, path: str, is_filtered: bool = False, has_wide_atomics: bool = False
+    ) -> None:
         with open(path, "rb") as file, mmap.mmap(file.fileno(), 0, access=mmap.ACCESS_READ) as data:
             running = ThreadPhase(data)
         self.front, self.front_accesses = running.front, running.front_accesses
@@ -120,6 +132,10 @@ class WordUses:
         for key, much in running.counts.items():
             addr = key >> 24 & 0xFFFFFFFF
             self.add(addr & ~3, key, addr & 3, much)
+        self.narrowed = narrow_atomics(running.counts) if has_wide_atomics else {}
+        for (hart, word), (at, size) in self.narrowed.items():
+            use = self.words[word][hart]
+            self.words[word][hart] = use._replace(bytes=((1 << size) - 1) << at)
 
     def add(self, word: int, key: int, at: int, much: int) -> None:
         hart, is_read, size = key >> 8 & 0xFFFF, key & 0xFF == READ, key >> 56
@@ -153,7 +169,29 @@ class WordUses:
         return len({it.bytes for it in own}) > 1 and any(it.writes for it in own)
 
 
-def read_word_uses(predator: Predator, trace: str) -> WordUses | None:
+def narrow_atomics(counts: "Counter[int]") -> NarrowedWords:
+    """The harts that use one byte or half of a word, but for atomic instructions, each of which reads all of it and writes it at most
+    once; with that byte or half."""
+    whole: dict[tuple[int, int], list[int]] = {}
+    parts: dict[tuple[int, int], int] = {}
+    for key, much in counts.items():
+        addr, size, own = key >> 24 & 0xFFFFFFFF, key >> 56, key >> 8 & 0xFFFF
+        place = own, addr & ~3
+        if size == WHOLE_WORD:
+            found = whole.setdefault(place, [0, 0])
+            found[key & 0xFF != READ] += much
+        else:
+            parts[place] = parts.get(place, 0) | ((1 << size) - 1) << (addr & 3)
+    return {
+        place: NARROW[parts[place]]
+        for place, (reads, writes) in whole.items()
+        if 0 < writes <= reads and parts.get(place) in NARROW
+    }
+
+
+def read_word_uses(
+    predator: Predator, trace: str, has_wide_atomics: bool = False
+) -> WordUses | None:
     """Who uses the words of a trace, or none where it can't be read so."""
     with tempfile.TemporaryDirectory(prefix="predator-view-") as folder:
         is_part = False
@@ -161,7 +199,7 @@ def read_word_uses(predator: Predator, trace: str) -> WordUses | None:
             with open(trace, "rb") as file:
                 version = file.read(8)
             if version == b"PRDTRC01":
-                return WordUses(trace, is_part)
+                return WordUses(trace, is_part, has_wide_atomics)
             other = os.path.join(folder, str(at))
             if is_filtered(version):
                 write_plain(trace, other)

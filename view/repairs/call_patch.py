@@ -20,7 +20,7 @@ def patch_text(view: View) -> str:
         raise Fault(f"--patch writes fixes that were tried on the trace, which needs {wanted}")
     edits: list[Edit] = []
     for tried in view.trials.values():
-        if tried.repair is None or not tried.is_saving():
+        if tried.repair is None or not tried.is_named():
             continue
         why = patch_obstacle(
             tried.repair.edits and [*edits, *tried.repair.edits], source_finder(view)

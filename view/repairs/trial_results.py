@@ -11,6 +11,8 @@ from view.repairs.subjects import Subject
 
 # A repair that saves fewer than one in so many of the object's misses, or of the accesses, isn't worth it.
 MIN_OWN_SHARE_DIVISOR, MIN_ACCESS_SHARE_DIVISOR = 10, 1000
+# Two repairs of the same data are about as good whose savings differ by less than one in so many.
+ALIKE_DIVISOR = 50
 ALIGNMENT = re.compile(r"align(?:ed)?\((\d+)\)")
 # Where words in which threads use different bytes have one in so many of the accesses to what threads share, words can't tell.
 MIXED_SHARE_DIVISOR = 4
@@ -114,6 +116,26 @@ class Trial:
         """Whether the best repair saves enough to be named."""
         return self.is_much(self.saved_misses())
 
+    def is_named(self) -> bool:
+        """Whether the best repair is this object's fix: it saves enough, and the object isn't one that threads share alone."""
+        is_own = self.thing.useless > 0 or self.is_rare() or bool(self.mixed_words())
+        return self.is_saving() and is_own
+
+    def all_misses_left(self) -> int:
+        """All misses of the trace with the best repair."""
+        return self.after.all_misses() if self.after else self.before.all_misses()
+
+    def covers(self, other: "Trial") -> bool:
+        """Whether another object's best repair is a part of this one, or moves the same data and saves no more."""
+        if other is self or self.repair is None or other.repair is None:
+            return False
+        if set(other.repair.hows) < set(self.repair.hows):
+            return True
+        own, its = ({it[:2] for it in one.repair.parts} for one in (self, other) if one.repair)
+        saved = other.before.all_misses() - other.all_misses_left()
+        lost = self.all_misses_left() - other.all_misses_left()
+        return 2 * len(own & its) >= len(its) and lost * ALIKE_DIVISOR <= saved
+
     def is_much(self, saved: int) -> bool:
         return (
             saved > 0
@@ -183,7 +205,7 @@ class Trial:
             return f"none needed: {self.own_misses():,} of {self.accesses:,} accesses miss"
         mixed = f"because threads use different bytes of {', '.join(patterns(names))} and misses are counted per 4-byte word"
         if self.same_as is not None:
-            return f"see {self.same_as.name}: its fix covers this too"
+            return f"see {self.same_as.name}: its fix covers this too{self.otherwise()}"
         if self.is_saving() and self.repair:
             rest = (
                 f"; for the rest {self.instead}, then run again, {mixed}"
@@ -199,6 +221,9 @@ class Trial:
             return f"unknown: no layout that was tried helps{where}, and not all words could be separated"
         if self.is_much(self.saved_by(self.bound)):
             return f"no repair that predator can write removes them; {self.bound_text()}{less}"
+        if self.saved_misses() * MIN_OWN_SHARE_DIVISOR >= self.own_misses() > 0:
+            best = f"the best layout saves {self.saved_misses():,} misses"
+            return f"none: {best}, fewer than one in {MIN_ACCESS_SHARE_DIVISOR:,} accesses{where}{less}"
         return f"none: no layout change helps{where}{less}"
 
     def pairs_text(self) -> str:
@@ -223,8 +248,9 @@ class Trial:
         if self.after is not None and self.repair is not None and self.is_saving():
             more = ""
             least = self.saved_by(self.bound) - self.saved_misses()
-            if self.is_much(least):
-                more = f"; {self.bound_text()}"
+            if self.bound is not None and self.is_much(least):
+                most = f"{self.bound.all_misses():,} of {self.before.all_misses():,}"
+                more = f"; separating all words by thread would leave {most} misses"
             text = self.numbers(self.after, self.repair) + self.part_text()
             return text + self.otherwise() + more + rest
         if is_mixed:

@@ -11,7 +11,13 @@ from bisect import bisect_left, bisect_right
 from typing import Iterator, NamedTuple, Sequence, cast
 
 from view.repairs import advice
-from view.model.trace_uses import UsesFuture, can_move, read_uses, read_uses_once
+from view.model.trace_uses import (
+    UsesFuture,
+    can_move,
+    has_wide_atomics,
+    read_uses,
+    read_uses_once,
+)
 from view.model.byte_sharing import SharingMisses, convert_to_version_1, count_by_bytes
 from view.reading.byte_traces import MAX_ACCESSES, Occupied, write_moved_bytes
 from view.reading.filtered_traces import MOVED_NEAR
@@ -28,7 +34,7 @@ from view.repairs.candidates import bytewise_fix
 from view.repairs.repair import Repair
 from view.repairs.search import Search
 from view.reading.reports import Misses, Report
-from view.reading.trace_files import ACCESS, WordUses
+from view.reading.trace_files import ACCESS, NarrowedWords, WordUses
 from view.repairs.subjects import Subject, subject_of
 from view.repairs.trial_results import TrialCount, Trial
 
@@ -80,6 +86,8 @@ class TrialRunner:
         self.is_full = False
         # Of a filtered trace what it says of itself, and how many layouts brought data together that were far from each other.
         self.filtered, self.far_layouts = view.filtered, 0
+        # (what atomic instructions for whole words are taken to be for)
+        self.narrowed: NarrowedWords = {}
         # (whether the trace is the one whose misses the view shows)
         self.is_whole = trace == view.call.trace_file()
         if view.misses is not None:
@@ -158,7 +166,7 @@ class TrialRunner:
                 for at in range(part.size)
             }
             with contextlib.suppress(Occupied):
-                write_moved_bytes(self.plain(trace), out, places)
+                write_moved_bytes(self.plain(trace), out, places, self.narrowed)
                 return out
         return None
 
@@ -218,7 +226,7 @@ class TrialRunner:
             moved = self.write_moved(self.trace, repair)
             found = self.predator.read_trace_by_all(moved, readers) if moved else None
             by_bytes = (
-                count_by_bytes(self.predator, moved, left, self.layout[0], self.new_folder())
+                count_by_bytes(self.predator, moved, left, size, self.new_folder(), self.narrowed)
                 if moved
                 else {}
             )
@@ -292,6 +300,7 @@ def whole_ground(
     if trace is None or uses is None:
         return None
     trial = TrialRunner(view, predator, trace, folder)
+    trial.narrowed = uses.narrowed
     if uses.front:
         trial.write_front(uses)
     return TrialGround(trial, uses, count_before(view), view.accesses, view.report.accesses)
@@ -309,9 +318,12 @@ def part_ground(
     part, front = (os.path.join(folder, it) for it in ("part", "first"))
     accesses = write_prefix(trace, start + PART_ACCESSES, part)
     write_prefix(part, start + FRONT_ACCESSES, front)
-    uses, trial = read_uses(predator, part), TrialRunner(view, predator, part, folder)
+    uses, trial = read_uses(predator, part, has_wide_atomics(view)), TrialRunner(
+        view, predator, part, folder
+    )
     if uses is None:
         return None
+    trial.narrowed = uses.narrowed
     trial.set_front(front)
     misses, each = predator.read_trace_by_all(
         part, [misses_reader(trial.layout), every_line_reader(trial.layout)]
@@ -432,7 +444,7 @@ def count_repairs(trial: TrialRunner, found: Sequence[Trial]) -> TrialCount | No
         is_far = trial.filtered and (result.repair and not result.after or not result.bound)
         if is_far and FAR_LAYOUTS not in result.left_out:
             result.left_out.append(FAR_LAYOUTS)
-    saving = [it for it in found if it.is_saving()]
+    saving = [it for it in found if it.is_named()]
     if len(saving) < 2 or saving == likely:
         return counts[-1] if len(saving) > 1 else None
     return trial.count_whole(
@@ -473,18 +485,30 @@ def parts_outside(part: MovedRange, others: Sequence[MovedRange]) -> Iterator[Mo
 
 
 def note_same_repairs(found: Sequence[Trial]) -> None:
-    """Names a repair once: for the object that it saves most for."""
-    saving = sorted((it for it in found if it.is_saving()), key=lambda it: -it.own_misses())
-    for at, own in enumerate(saving):
-        for first in saving[:at]:
-            if own.repair and first.repair and set(own.repair.hows) <= set(first.repair.hows):
-                own.same_as = first.same_as or first.thing
-                break
+    """Names a repair once: of several that move the same data for the object whose repair saves most, with the fewest changes."""
+    named = [it for it in found if it.is_named() and it.repair]
+    order = {id(it): (len(it.repair.hows) if it.repair else 0, at) for at, it in enumerate(named)}
+    instead: dict[int, Trial] = {}
+    for own in named:
+        better = [
+            it
+            for it in named
+            if it.covers(own) and (not own.covers(it) or order[id(it)] < order[id(own)])
+        ]
+        if better:
+            instead[id(own)] = min(better, key=lambda it: (it.all_misses_left(), order[id(it)]))
+    for own in named:
+        last, seen = own, {id(own)}
+        while (other := instead.get(id(last))) is not None and id(other) not in seen:
+            last = other
+            seen.add(id(other))
+        if last is not own:
+            own.same_as = last.thing
 
 
 def note_joint_result(view: View, found: Sequence[Trial], counted: TrialCount | None) -> None:
     """Notes what all repairs come to that are named, where they are several different ones."""
-    if counted is not None and sum(it.same_as is None for it in found if it.is_saving()) > 1:
+    if counted is not None and sum(it.same_as is None for it in found if it.is_named()) > 1:
         view.notes.append(
             f"all fixes together{found[0].part_text()}: {found[0].before.beside(counted)}"
         )

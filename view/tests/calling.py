@@ -30,8 +30,8 @@ def view(*words, program=STAND_IN, lacks="", cwd=None, **more):
     """The status of a call, what it printed and what it said. A run in turns of one step is made only where the call asks for its bound."""
     if words[:1] == ("run",) and not any(it.startswith("--latency") for it in words):
         words = ("run", "--latency=0", *words[1:])
-    if words[:1] == ("run",) and not {"--fine", "--no-fine"} & {*words}:
-        words = ("run", "--no-fine", *words[1:])
+    if words[:1] in (("run",), ("native",)) and not {"--fine", "--no-fine"} & {*words}:
+        words = (words[0], "--no-fine", *words[1:])
     own = {"PREDATOR_PROGRAM": program, "STAND_IN_LACKS": lacks, "PREDATOR_BUILD": "no", **more}
     command = [os.path.join(TOP, "bin", "predator"), "view", *words]
     ran = subprocess.run(

@@ -22,9 +22,9 @@ MISSES = ("false_sharing", "true_sharing", "cold")
 NONE = "none: "
 
 
-@unittest.skipIf(LACKS, f"{' '.join(LACKS)} missing")
-@unittest.skipUnless(has(PROGRAM, "misses", "move"), "the program isn't built, or has no move")
-class Followed(unittest.TestCase):
+class Following(unittest.TestCase):
+    """How a program is built and viewed, and how its fixes are made."""
+
     def setUp(self):
         self.folder = tempfile.mkdtemp()
         self.addCleanup(shutil.rmtree, self.folder)
@@ -41,7 +41,8 @@ class Followed(unittest.TestCase):
         return f"{name}.elf"
 
     def look(self, program, *words):
-        call = ("run", program, "--explain", "0", *words, "--json", self.path("json"))
+        usual = () if "--explain" in words else ("--explain", "0")
+        call = ("run", program, *usual, "--no-fine", *words, "--json", self.path("json"))
         status, text, said = view(*call, program=PROGRAM, cwd=self.folder)
         self.assertEqual((status, said), (0, ""), program)
         with open(self.path("json"), encoding="utf-8") as file:
@@ -54,18 +55,18 @@ class Followed(unittest.TestCase):
         with open(os.path.join(FOLLOWED, f"{name}.c"), encoding="utf-8") as file:
             return file.read()
 
-    def follow(self, name, says, edits, flags=(), foretold=None):
+    def follow(self, name, says, edits, flags=(), words=()):
         """Builds a program with what its fix says, and compares all misses with those that were foretold. `says` are parts of the fix,
         `edits` what is replaced in the source."""
         text = self.source(name)
-        before = self.look(self.build(name, text, flags))
+        before = self.look(self.build(name, text, flags), *words)
         first = next(it for it in before["objects"] if it["tried"])
         for it in says:
             self.assertIn(it, first["fix"].replace("`", ""), name)
         for old, new in edits:
             self.assertIn(old, text)
             text = text.replace(old, new)
-        after = self.look(self.build(f"{name}-followed", text, flags))
+        after = self.look(self.build(f"{name}-followed", text, flags), *words)
         told = sum(first["tried"]["after"][it] for it in MISSES)
         saved = self.missed(before) - told
         self.assertGreater(saved * 5, self.missed(before) - before["total"]["cold"], name)
@@ -79,6 +80,38 @@ class Followed(unittest.TestCase):
             print("|", " | ".join(map(str, row)), "|", file=sys.stderr)
         return before
 
+    def separated(self, command):
+        """All misses of a run that `command` records, and those with each word of it on a line of its own, as the program counts both."""
+        trace, table, moved = (self.path(it) for it in ("trace", "table", "moved"))
+        words = [*command[:2], "--trace", trace, *command[2:]]
+        subprocess.run(words, cwd=self.folder, capture_output=True, check=True)
+        with open(trace, "rb") as file:
+            data = file.read()
+        records = [it for *_, it in located_records(data)]
+        words = sorted({it.addr // 4 * 4 for it in records if isinstance(it, Access)})
+        counts = []
+        for own in ([], words):
+            with open(table, "w", encoding="ascii") as file:
+                for place, word in enumerate(own):
+                    file.write(f"{word:#x} 4 {0xC0000000 + 64 * place:#x}\n")
+            subprocess.run([PROGRAM, "move", trace, table, moved], capture_output=True, check=True)
+            text = subprocess.run([PROGRAM, "misses", moved], capture_output=True, text=True).stdout
+            found = re.search(r"^total cold (\d+) useful (\d+) useless (\d+)$", text, re.MULTILINE)
+            counts.append([int(it) for it in found.groups()])
+        return counts
+
+    def no_layout_helps(self, name, found, command):
+        """Where no layout is said to help, each word on a line of its own saves less than a tenth."""
+        fixes = [it["fix"] for it in found["objects"] if it["fix"].startswith(NONE)]
+        self.assertNotEqual(fixes, [], name)
+        before, *apart = self.separated(command)
+        least = min(useful + useless for _, useful, useless in apart)
+        self.assertGreaterEqual(least * 10, (before[1] + before[2]) * 9, (name, apart))
+
+
+@unittest.skipIf(LACKS, f"{' '.join(LACKS)} missing")
+@unittest.skipUnless(has(PROGRAM, "misses", "move"), "the program isn't built, or has no move")
+class Followed(Following):
     def test_tallies(self):
         fields = "volatile uint64_t found; volatile uint64_t lost; volatile uint64_t bytes;"
         self.follow(
@@ -282,36 +315,74 @@ class Followed(unittest.TestCase):
             ],
         )
 
-    def separated(self, program):
-        """All misses of a run, and those with each word of it on a line of its own, as the program counts both."""
-        trace, table, moved = (self.path(it) for it in ("trace", "table", "moved"))
-        command = [PROGRAM, "run", self.path(program), "--trace", trace]
-        subprocess.run(command, capture_output=True, check=True)
-        with open(trace, "rb") as file:
-            data = file.read()
-        records = [it for *_, it in located_records(data)]
-        words = sorted({it.addr // 4 * 4 for it in records if isinstance(it, Access)})
-        counts = []
-        for own in ([], words):
-            with open(table, "w", encoding="ascii") as file:
-                for place, word in enumerate(own):
-                    file.write(f"{word:#x} 4 {0xC0000000 + 64 * place:#x}\n")
-            subprocess.run([PROGRAM, "move", trace, table, moved], capture_output=True, check=True)
-            text = subprocess.run([PROGRAM, "misses", moved], capture_output=True, text=True).stdout
-            found = re.search(r"^total cold (\d+) useful (\d+) useless (\d+)$", text, re.MULTILINE)
-            counts.append([int(it) for it in found.groups()])
-        return counts
+    def test_guarded(self):
+        """Bytes that atomic instructions use by whole words, beside what they guard."""
+        fields = "atomic_flag locks; volatile uint32_t sums; volatile uint32_t turns;"
+        wrapper = f"struct {LINE} locks_sums_turns {{ {fields} }}"
+        found = self.follow(
+            "guarded",
+            [f"join locks, sums and turns to one array of 4 elements of {wrapper};"],
+            [
+                (
+                    "static atomic_flag locks[THREADS];\n"
+                    "static volatile uint32_t sums[THREADS], turns[THREADS];",
+                    f"static {wrapper} own[THREADS];",
+                ),
+                ("locks[me]", "own[me].locks"),
+                ("sums[me]", "own[me].sums"),
+                ("turns[me]", "own[me].turns"),
+            ],
+        )
+        self.assertGreater(found["total"]["false_sharing"], 20 * found["total"]["true_sharing"])
+
+    def test_relay(self):
+        """A qualifier stays: without it the wait for a flag would never end."""
+        wrapper = f"struct {LINE} turn_line {{ volatile int value; }};"
+        self.follow(
+            "relay",
+            [f"give each element of turn its own line: wrap it in {wrapper}"],
+            [
+                (
+                    "static volatile int turn[THREADS];",
+                    f"{wrapper} static struct turn_line turn[THREADS];",
+                ),
+                ("turn[me]", "turn[me].value"),
+                ("turn[(me + 1) % THREADS]", "turn[(me + 1) % THREADS].value"),
+                ("turn[0]", "turn[0].value"),
+            ],
+            words=("--set", "quantum=3"),
+        )
 
     def test_no_layout_helps(self):
-        """Where no layout is said to help, each word on a line of its own saves less than a tenth."""
         for name in ("broker", "ledger", "mailbox"):
             program = self.build(name, self.source(name))
-            found = self.look(program)
-            (first, *rest) = [it["fix"] for it in found["objects"] if it["fix"].startswith(NONE)]
-            self.assertIn(NONE, first, name)
-            before, *apart = self.separated(program)
-            least = min(useful + useless for _, useful, useless in apart)
-            self.assertGreaterEqual(least * 10, (before[1] + before[2]) * 9, (name, apart))
+            self.no_layout_helps(name, self.look(program), [PROGRAM, "run", program])
+
+
+RECORDER = os.path.join(TOP, "native", "out", "predator-amd64-linux")
+
+
+@unittest.skipUnless(shutil.which("gcc"), "gcc is missing")
+@unittest.skipUnless(
+    os.path.exists(RECORDER) and has(PROGRAM, "misses", "move"),
+    "the recorder of native/ or the program isn't built",
+)
+class FollowedHere(Following):
+    """The same of programs of this machine."""
+
+    def test_no_layout_helps(self):
+        name = "ledger"
+        with open(self.path(f"{name}.c"), "w", encoding="utf-8") as file:
+            file.write(self.source(name))
+        build = ["gcc", "-g", "-O2", "-pthread", f"{name}.c", "-o", name]
+        subprocess.run(build, cwd=self.folder, check=True)
+        call = ("native", f"./{name}", "--explain", "0", "--json", self.path("json"))
+        status, _, _ = view(*call, program=PROGRAM, cwd=self.folder)
+        self.assertEqual(status, 0)
+        with open(self.path("json"), encoding="utf-8") as file:
+            found = json.load(file)
+        record = [os.path.join(TOP, "bin", "predator"), "native", "--no-pcs", "--", f"./{name}"]
+        self.no_layout_helps(name, found, record)
 
 
 if __name__ == "__main__":

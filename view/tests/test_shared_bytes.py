@@ -1,5 +1,6 @@
 """Traces that are spelled anew byte by byte, several `--set`, and a fine interleaving."""
 
+import contextlib
 import os
 import re
 import shutil
@@ -7,6 +8,7 @@ import subprocess
 import sys
 import tempfile
 import unittest
+from collections import Counter
 from types import SimpleNamespace
 
 from calling import HERE, PROGRAM, TOP, has, joined, view
@@ -17,14 +19,21 @@ from judge_report import Access, Case, Ending, trace_bytes  # noqa: E402
 from traces import Access as Accessed, located_records  # noqa: E402
 from view.faults import Fault  # noqa: E402
 from view.model.comparison import pair_objects, row  # noqa: E402
-from view.model.fine_grain import set_quantum, wants_fine_run  # noqa: E402
+from view.model.fine_grain import (  # noqa: E402
+    set_quantum,
+    wants_fine_recording,
+    wants_fine_run,
+    why_not_again,
+)
 from view.reading.byte_traces import (  # noqa: E402
     Occupied,
     spread,
     write_moved_bytes,
     write_stretched,
 )
-from view.reading.calls import Call  # noqa: E402
+from view.reading.calls import Call, Recording  # noqa: E402
+from view.reading.recording import without  # noqa: E402
+from view.reading.trace_files import narrow_atomics  # noqa: E402
 
 FOLLOWED = os.path.join(HERE, "programs", "followed")
 
@@ -95,6 +104,24 @@ class Bytes(unittest.TestCase):
         self.assertEqual(counts, [[2, 98, 0], [2, 0, 98]])
 
 
+class WideAtomics(unittest.TestCase):
+    def key(self, is_read, hart, addr, size):
+        return (1 if is_read else 2) | hart << 8 | addr << 24 | size << 56
+
+    def test_bytes_by_whole_words(self):
+        """A hart's atomic instructions for a word are for the byte that it uses else, where there is one."""
+        counts = Counter()
+        for hart, byte in ((1, 0), (2, 1), (3, 2)):
+            for is_read in (False, True):
+                counts[self.key(is_read, hart, 0x1000, 4)] = 9
+            counts[self.key(False, hart, 0x1000 + byte, 1)] = 5
+        # (one that uses two of the bytes, one that only reads the word, and one that only writes it)
+        counts[self.key(False, 3, 0x1000, 1)] = 1
+        counts[self.key(True, 4, 0x1000, 4)] = counts[self.key(True, 4, 0x1003, 1)] = 3
+        counts[self.key(False, 5, 0x1000, 4)] = counts[self.key(True, 5, 0x1003, 1)] = 3
+        self.assertEqual(narrow_atomics(counts), {(1, 0x1000): (0, 1), (2, 0x1000): (1, 1)})
+
+
 class Settings(unittest.TestCase):
     def test_several_sets_are_one_list(self):
         call = Call(["run", "p", "--set", "quantum=7,line=64", "--set=quantum=3", "--", "--set"])
@@ -117,7 +144,62 @@ class Settings(unittest.TestCase):
         ):
             self.assertEqual(wants_fine_run(Call(["run", "p", *words]), accesses), is_wanted, words)
         self.assertRaises(Fault, Call, ["replay", "t", "--fine"])
+        self.assertIn("fine", Call(["native", "p", "--fine"]).options)
         self.assertRaises(Fault, Call, ["run", "p", "--fine", "--no-fine"])
+
+
+class Recorded(unittest.TestCase):
+    """Whether a program of this machine is recorded once more."""
+
+    def call(self, *options, quantum=100, words=()):
+        call = Call(["native", "p", *words])
+        call.recording = Recording([*options], ["./p"], [], "/tmp", 1.0)
+        call.recorded_quantum = quantum
+        return call
+
+    def test_what_repeats(self):
+        good = SimpleNamespace(outcome="exit 0", accesses=1000)
+        for call, report, is_wanted in (
+            (self.call(), good, True),
+            (self.call("--all"), good, True),
+            (self.call("--for", "2s"), good, False),
+            (self.call("--most=90"), good, False),
+            (self.call(quantum=10), good, False),
+            (self.call(words=["--no-fine"]), good, False),
+            (self.call(), SimpleNamespace(outcome="exit 1", accesses=1000), False),
+            (self.call(), SimpleNamespace(outcome="exit 0", accesses=10**8), False),
+            (
+                self.call(words=["--fine"]),
+                SimpleNamespace(outcome="exit 0", accesses=10**8),
+                True,
+            ),
+        ):
+            with open(os.devnull, "rb") as empty, stdin_of(empty.fileno()):
+                self.assertEqual(wants_fine_recording(call, report, report.accesses), is_wanted)
+        reading, writing = os.pipe()
+        with stdin_of(reading):
+            self.assertEqual(
+                why_not_again(self.call(), good), "its standard input can be read once"
+            )
+        os.close(reading)
+        os.close(writing)
+
+    def test_options_of_another_recording(self):
+        words = ["--no-pcs", "--quantum", "7", "--trace=t", "--all", "--max-disk", "1G"]
+        kept = ["--no-pcs", "--all", "--max-disk", "1G"]
+        self.assertEqual(without(words, ("--quantum", "--trace")), kept)
+
+
+@contextlib.contextmanager
+def stdin_of(number):
+    """Has another file as standard input."""
+    kept = os.dup(0)
+    os.dup2(number, 0)
+    try:
+        yield
+    finally:
+        os.dup2(kept, 0)
+        os.close(kept)
 
 
 class Compared(unittest.TestCase):

@@ -1,6 +1,7 @@
 """Repairs that are tried before they are named: whose words are, where they would lie, and the fix as a sentence."""
 
 import contextlib
+import importlib.util
 import io
 import os
 import re
@@ -37,7 +38,12 @@ from view.repairs.subjects import UNUSED, Sharing, sharing_of  # noqa: E402
 from traces import Access as Accessed  # noqa: E402
 from traces import Alloc, Symbol, located_records, read_records, add_pcs  # noqa: E402
 from view.repairs.trial_results import TrialCount, Trial  # noqa: E402
-from view.repairs.trials import free_places, move_table, join_repairs  # noqa: E402
+from view.repairs.trials import (  # noqa: E402
+    free_places,
+    join_repairs,
+    move_table,
+    note_same_repairs,
+)
 
 
 class Folder(unittest.TestCase):
@@ -348,7 +354,7 @@ class Sentences(unittest.TestCase):
             "misses 4,654 → 2,490 (false 2,188 → 23, true 2,457 → 2,458, cold 9 → 9), 16 → 64 bytes"
         )
         self.assertEqual(self.tried(2188, 2457, 90000, (23, 2458)), ("do it", told))
-        apart = "; separating all words by thread would leave 10 of 4,645 misses"
+        apart = "; separating all words by thread would leave 19 of 4,654 misses"
         self.assertEqual(
             self.tried(2188, 2457, 90000, (23, 2458), apart=(0, 10)), ("do it", told + apart)
         )
@@ -394,6 +400,58 @@ class Sentences(unittest.TestCase):
         found.after, found.same_as = TrialCount({}, 9), SimpleNamespace(name="map")
         self.assertEqual(
             (found.fix([]), found.outcome(False)), ("see map: its fix covers this too", "")
+        )
+
+    def test_the_study_of_advice_reads_the_numbers(self):
+        path = os.path.join(HERE, "..", "..", "guest", "others", "advice.py")
+        found = importlib.util.spec_from_file_location("study_of_advice", path)
+        study = importlib.util.module_from_spec(found)
+        found.loader.exec_module(study)
+        before, after = (
+            TrialCount({"useless": it, "useful": 10, "cold": 4}, 9) for it in (1900, 0)
+        )
+        self.assertEqual(study.COUNTED.findall(before.beside(after)), [("1,900", "0", "10", "10")])
+
+    def trial_of(self, name, after, ranges, *hows):
+        """A trial of 1,000 misses and a repair that leaves some of them."""
+        counts = {"useless": 990, "useful": 10, "cold": 0}
+        found = Trial(
+            SimpleNamespace(useless=500, useful=9, name=name), TrialCount(counts, 9), 9000
+        )
+        found.repair = Repair(list(hows), [MovedRange(*it, 0) for it in ranges], 64, None)
+        found.after = TrialCount({**counts, "useless": after}, 2)
+        return found
+
+    def named(self, *found):
+        note_same_repairs(found)
+        return [it.same_as and it.same_as.name for it in found]
+
+    def test_several_objects_of_one_repair(self):
+        own, both = [(0x1000, 16)], [(0x1000, 16), (0x2000, 16)]
+        # (the same words, so that the first row has them; a part of another one)
+        pair = [self.trial_of(it, 100, own, "pad it") for it in ("first", "other")]
+        self.assertEqual(self.named(*pair), [None, "first"])
+        whole = self.trial_of("whole", 20, both, "pad it", "pad that")
+        self.assertEqual(
+            self.named(self.trial_of("part", 500, own, "pad it"), whole), ["whole", None]
+        )
+        # (other words for the same data: the shorter one)
+        long = self.trial_of("long", 20, both, "pad each", "pad it", "pad that")
+        short = self.trial_of("short", 20, both, "pad both")
+        self.assertEqual(self.named(long, short), ["short", None])
+        # (what moves other data, or saves less, stands for itself)
+        apart = self.trial_of("apart", 500, [(0x3000, 16)], "pad those")
+        worse = self.trial_of("worse", 600, [(0x3000, 16), (0x4000, 16)], "pad these")
+        self.assertEqual(self.named(whole, apart), [None, None])
+        self.assertEqual(self.named(worse, apart), ["apart", None])
+
+    def test_an_object_that_threads_share_alone(self):
+        """A repair of what lies beside it isn't its fix."""
+        shared = self.trial_of("shared", 100, [(0x1000, 16)], "pad it")
+        shared.thing.useless = 0
+        self.assertFalse(shared.is_named())
+        self.assertEqual(
+            self.named(self.trial_of("own", 100, [(0x1000, 16)], "pad it"), shared), [None, None]
         )
 
     def test_the_other_way(self):

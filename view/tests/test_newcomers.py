@@ -1,0 +1,147 @@
+"""Small programs as their screens show them: names by the program's own lines, rows in order, and no fix where there is none."""
+
+import json
+import os
+import re
+import shutil
+import struct
+import subprocess
+import tempfile
+import unittest
+
+import test_followed
+from calling import PROGRAM, TOP, has, joined, view
+from test_followed import FOLLOWED, LACKS
+from view.names.callers import calls_in
+
+RECORDER = os.path.join(TOP, "native", "out", "predator-amd64-linux")
+
+
+@unittest.skipIf(LACKS, f"{' '.join(LACKS)} missing")
+@unittest.skipUnless(has(PROGRAM, "misses", "move"), "the program isn't built, or has no move")
+class OfGuests(test_followed.Following):
+    def test_an_office(self):
+        """Variables of a stack, a counter beside numbers of single threads, nodes that are written once, and calls of the kit."""
+        found = self.look(self.build("office", self.source("office")), "--explain", "4")
+        objects = {it["name"].partition(" made")[0]: it for it in found["objects"]}
+        numbers = [(-it["false_sharing"], -it["true_sharing"]) for it in found["objects"][:4]]
+        self.assertEqual(numbers, sorted(numbers))
+        stack = next(iter(objects))
+        self.assertEqual(stack, "stack of hart 0")
+        self.assertIn("likely tasks (struct task[4]) of main", objects[stack]["fix"])
+        own = re.search(r"who (hart 1: .*?) fix ", found["screen"])
+        self.assertNotIn("hart 0", own[1])
+        # (the numbers of single threads on the counter's line aren't named for it)
+        self.assertNotIn("tries", objects)
+        alone = "none: all its misses are true sharing; write next less often"
+        self.assertIn(alone, objects["next"]["fix"])
+        # (a line for each of many small blocks costs more cold misses than it saves)
+        self.assertNotIn("aligned", objects["block"]["fix"])
+        self.assertRegex(found["screen"], r"office\.c:\d+ \(pthread_mutex_lock < work\)")
+        self.assertNotIn("pthread.c", found["screen"])
+
+    def test_blocks_that_became_variables(self):
+        found = self.look(self.build("blocks", self.source("blocks")))
+        first = found["objects"][0]
+        fields = "volatile uint32_t sent; volatile uint32_t lost;"
+        wrapper = f"struct {test_followed.LINE} sent_lost {{ {fields} }};"
+        fix = first["fix"].replace("`", "")
+        self.assertIn(f"join sent and lost to one array of 4 elements of {wrapper}, alloc", fix)
+        self.assertIn("each thread writes its own element: hart 1: [0]", found["screen"])
+        self.assertLess(sum(first["tried"]["after"][it] for it in test_followed.MISSES), 40)
+
+
+@unittest.skipUnless(
+    os.path.exists(RECORDER) and has(PROGRAM, "misses", "move"),
+    "the recorder of native/ or the program isn't built",
+)
+class OfThisMachine(unittest.TestCase):
+    def setUp(self):
+        self.folder = tempfile.mkdtemp()
+        self.addCleanup(shutil.rmtree, self.folder)
+
+    def build(self, source, *words):
+        out = os.path.join(self.folder, source.partition(".")[0])
+        shutil.copy(os.path.join(FOLLOWED, source), self.folder)
+        subprocess.run([*words, source, "-o", out], cwd=self.folder, check=True)
+
+    def look(self, program, *words):
+        call = ("native", f"./{program}", "--explain", "1", *words, "--json", "json")
+        status, text, _ = view(*call, program=PROGRAM, cwd=self.folder)
+        self.assertEqual(status, 0)
+        with open(os.path.join(self.folder, "json"), encoding="utf-8") as file:
+            return json.load(file)["objects"], joined(text)
+
+    def test_what_a_library_makes(self):
+        """Containers and lambdas have the program's lines, and one fix covers what is of one type."""
+        if shutil.which("g++") is None:
+            self.skipTest("g++ is missing")
+        self.build("pool.cpp", "g++", "-g", "-O2", "-std=c++17", "-pthread")
+        found, text = self.look("pool", "--type", "pool.cpp:19=app::Worker")
+        names = [it["name"] for it in found]
+        self.assertIn("vector<app::Worker> made at pool.cpp:19 < main", names)
+        self.assertIn("make_unique<app::Worker> made at pool.cpp:18 < main", names)
+        self.assertIn("lambda at pool.cpp:", text)
+        self.assertNotIn("new_allocator", text)
+        self.assertNotIn("()()", text)
+        fixes = [it["fix"].replace("`", "") for it in found if it["tried"]]
+        self.assertTrue(
+            any(f"struct {test_followed.LINE} Worker (pool.cpp:8)" in it for it in fixes), fixes
+        )
+
+    def test_a_ring(self):
+        """What threads contend for only in short turns has its fix by another recording of the same program."""
+        self.build("spsc.c", "gcc", "-g", "-O2", "-pthread")
+        call = ("native", "./spsc", "--explain", "0", "--fine")
+        status, text, _ = view(*call, program=PROGRAM, cwd=self.folder)
+        self.assertEqual(status, 0)
+        usual, _, fine = joined(text).partition("only at fine interleaving (quantum 3), typical")
+        self.assertNotIn("group the fields", usual)
+        self.assertIn("group the fields of struct spsc (spsc.c:9)", fine)
+
+    def test_a_run_of_which_nothing_was_recorded(self):
+        words = ("native", shutil.which("true"), "--fail-above", "0")
+        status, _, said = view(*words, program=PROGRAM, cwd=self.folder)
+        self.assertEqual(status, 3)
+        self.assertIn("nothing was recorded, so there is nothing to test", said)
+
+
+class Calls(unittest.TestCase):
+    def test_calls_in_code(self):
+        """A near call, a far one by two instructions, a jump, and what is none: an address that no call takes, a return."""
+        words = (0x008000EF, 0x00001097, 0x82C080E7, 0x00C0006F, 0x00001097, 0x00000013, 0x00008067)
+        found = calls_in(struct.pack("<7I", *words), 0x10294)
+        self.assertEqual([*found], [(0x10294, 0x1029C), (0x1029C, 0x10AC4), (0x102A0, 0x102AC)])
+
+
+class Streams(unittest.TestCase):
+    def test_a_closed_output(self):
+        command = f"exec {TOP}/bin/predator view nothing >&-"
+        own = {**os.environ, "PREDATOR_BUILD": "no"}
+        ran = subprocess.run(["sh", "-c", command], stderr=subprocess.PIPE, text=True, env=own)
+        self.assertEqual(ran.returncode, 2)
+        self.assertEqual(ran.stderr, "predator view: standard output is closed\n")
+
+
+class Folders(unittest.TestCase):
+    def test_recorders_without_a_home(self):
+        """Without HOME the recorders are kept in a folder that is this user's, and in none that another user made."""
+        with tempfile.TemporaryDirectory() as folder:
+            text = f"native={TOP}/native; . $native/places; places | tail -n +2"
+            own = {"PATH": os.environ["PATH"], "TMPDIR": folder}
+            below = os.path.join(folder, f"predator-{os.getuid()}")
+            for is_foreign in (False, True):
+                if is_foreign and os.getuid():
+                    self.skipTest("another user's folder is made by root alone")
+                if is_foreign:
+                    os.mkdir(below)
+                    os.chown(below, 65534, 65534)
+                ran = subprocess.run(
+                    ["bash", "-c", text], stdout=subprocess.PIPE, text=True, env=own, check=True
+                )
+                found = ran.stdout.strip()
+                self.assertEqual(found[: len(below) + 1], "" if is_foreign else f"{below}/")
+
+
+if __name__ == "__main__":
+    unittest.main()
