@@ -238,7 +238,7 @@ def view_options(table: dict[str, list[Row]]) -> dict[str, list[str]]:
         "view replay": [*own["options"], *own["names"], *of["replay"]],
         "view sweep": [*of["sweep"], "--top", "--html"],
         "view caches": own["caches"],
-        "view native": [*own["options"], *recorder["traces"], *layout],
+        "view native": [*own["options"], *own["records"], *recorder["traces"], *layout],
     }
 
 
@@ -436,6 +436,7 @@ def check_pages(table: dict[str, list[Row]]) -> Iterator[str]:
                 *command["options"],
                 *command.get("names", ()),
                 *command.get("runs", ()),
+                *command.get("records", ()),
                 *command.get("caches", ()),
             }
         ):
