@@ -59,7 +59,7 @@ _predator() {
         'view replay') options="--top --object --words --library --predicted --no-predicted --explain --type --sources --html --live --json --json-version --sarif --against --fail-above --by --patch --perf --program --map --settings --set --size --shift --save --resume" ;;
         'view sweep') options="--size --top --html" ;;
         'view caches') options="--shape --top --html" ;;
-        'view native') options="--top --object --words --library --predicted --no-predicted --explain --type --sources --html --live --json --json-version --sarif --against --fail-above --by --patch --perf --whole --built --quantum --all --marked --child --pcs --no-pcs --filtered --skip --for --windows --most --max-disk --trace --settings --set --size --shift" ;;
+        'view native') options="--top --object --words --library --predicted --no-predicted --explain --type --sources --html --live --json --json-version --sarif --against --fail-above --by --patch --perf --fine --no-fine --whole --built --quantum --all --marked --child --pcs --no-pcs --filtered --skip --for --windows --most --max-disk --trace --settings --set --size --shift" ;;
     # (so far)
         *) return ;;
     esac

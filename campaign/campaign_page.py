@@ -22,7 +22,8 @@ from view.output.drawings import Given, bar, strip, templates
 HERE = os.path.dirname(os.path.abspath(__file__))
 # A page stays below 2 MB with at most so many strips, lines about what failed, and letters of a name.
 MAX_STRIPS, MAX_FAILURES, MAX_NAME = 160, 24, 160
-# A row is drawn where in some seed one in so many accesses is a false-sharing miss, or where misses aren't counted an invalidation.
+# A row is drawn where in some seed one in so many accesses is a false-sharing miss, or, where misses aren't counted,
+# an invalidation.
 MIN_ACCESS_SHARE_DIVISOR = 1000
 # The side-by-side table has at most so many objects, programs of each, and columns of settings.
 MAX_OBJECTS, MAX_PROGRAMS, MAX_SETTINGS = 24, 6, 8

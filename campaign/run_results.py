@@ -170,8 +170,8 @@ class RunResults:
 
 
 def block_name(sites: Sequence[Site], number: int | None, naming: Naming) -> str:
-    """A block by its number and its call sites, without those of allocators and of where threads begin: their lines, which other builds
-    have too, or else their addresses."""
+    """A block by its number and its call sites, without those of allocators and of where threads begin: by their
+    lines, which other builds have too, or else by their addresses."""
     which = f"block {number} of" if number else "block of"
     if not sites:
         return f"{which} no call site"

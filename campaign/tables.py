@@ -299,7 +299,8 @@ def group_memory(campaign: Record, group: Record) -> Memory:
 
 
 def group_sources(campaign: Record, group: Record) -> Sources | None:
-    """The source lines of a group's program; none where its file isn't that of the campaign any more, or llvm-symbolizer is missing."""
+    """The source lines of a group's program; none where its file isn't that of the campaign any more, or
+    llvm-symbolizer is missing."""
     program = campaign["programs"][group["program"]]
     with contextlib.suppress(Fault, OSError):
         if file_sum(program["file"]) == program["sha256"]:

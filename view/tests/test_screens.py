@@ -12,7 +12,7 @@ from calling import PROGRAM, STAND_IN, TOP, TURNS, built, has, joined, view
 # A call that takes so many seconds reads a pipe that nobody writes: a busy machine takes a minute or two.
 HANGS = 900
 # The fix for a contended stack.
-OF_STACK = "other threads use variables on this stack: put __attribute__((aligned(64))) on these, or move them off the stack"
+OF_STACK = "other threads use variables on this stack: put __attribute__((aligned(64))) on their types, or move them off the stack"
 
 
 class Shown(unittest.TestCase):
