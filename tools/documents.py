@@ -173,7 +173,7 @@ def crate_layers() -> dict[str, int]:
 def wrong_layers(text: str) -> list[str]:
     written = {
         name: int(floor)
-        for floor, name in re.findall(r"^\| (\d) \| `(\w+)` \|", text, re.MULTILINE)
+        for floor, name in re.findall(r"^\| (\d+) \| `(\w+)` \|", text, re.MULTILINE)
     }
     return [
         f"{name}: floor {floor}"
