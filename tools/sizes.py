@@ -10,8 +10,9 @@ line from each other at each access, or write so many lines. The short form take
 accesses through every command that passes over one, one of more than 256 MiB through `replay`, a run and
 `explain` of more than 2^24 accesses, `explain` from a start above 2^32, more than 65,536 blocks, noted blocks,
 lines, and pairs of instructions on one line, programs of 16 MiB and of a byte less, a table of 1 MiB, a state,
-an output and a trace of more than 32 MiB, and a report of more than 64 MiB. The long form takes the longer trace through every command. Memory that is refused at any one
-place is tried by guest/refuse_memory.py."""
+an output and a trace of more than 32 MiB, and a report of more than 64 MiB. The long form
+takes the longer trace through every command. Memory that is refused at any one place is tried by
+guest/refuse_memory.py."""
 
 import hashlib
 import os

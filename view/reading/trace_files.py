@@ -117,8 +117,8 @@ WHOLE_WORD = 4
 class WordUses:
     """Who uses which words of a trace while threads run. Where the trace is filtered these are the accesses that it has: each thread that
     writes a word writes it there too, but not each of its bytes, nor as often. Where `has_wide_atomics` says that the machine has atomic
-    instructions for whole words alone, those of a hart that else uses one byte or half of a word are taken to be for that: `narrowed` has it
-    by hart and word, as its place in the word and its size."""
+    instructions for whole words alone, those of a hart that otherwise uses one byte or half of a word count for that: `narrowed`
+    has it by hart and word, as its place in the word and its size."""
 
     def __init__(
         self, path: str, is_filtered: bool = False, has_wide_atomics: bool = False
