@@ -1,7 +1,7 @@
 /* What a filtered trace leaves out. An access is redundant where an earlier one is by the same
    thread and in the same word of 4 bytes, that one writes or this one reads, and between the two no
    access of another thread is in the same region of 2^k bytes or in one beside it
-   (docs/FORMATS.md).
+   (docs/RULES.md).
 
    Each region has a number, which rises when a thread comes near that isn't the last one that came
    near, and each word has a stamp of its last access that was kept: its thread, whether it wrote,
