@@ -544,7 +544,7 @@ class Repairs(Shown):
         # (a line that the report doesn't list)
         self.shows(
             text,
-            "2 0 97 99 1 guarded: uint32_t, anderson.c:21 who used by several threads: +0 (100 writes, 100 reads)",
+            "2 0 97 99 1 guarded: uint32_t, anderson.c:21 who used by several threads: guarded (100 writes, 100 reads)",
         )
 
     def test_a_byte_for_each_slot(self):
