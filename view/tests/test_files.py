@@ -348,8 +348,8 @@ class Program(unittest.TestCase):
     def test_shows_what_the_stand_in_shows(self):
         with tempfile.TemporaryDirectory() as folder:
             for name in ("ring", "arena", "shards", "anderson", "flags", "pieces", "odd", "apart"):
-                # (repairs that are tried take the stand-in long)
-                is_tried = name == "shards" and has(PROGRAM, "move")
+                # (repairs that are tried take the stand-in long; what is counted by bytes wants a trace, as they do)
+                is_tried = name in ("shards", "flags") and has(PROGRAM, "move")
                 (one, text, found), (other, told, wanted) = (
                     self.seen(folder, name, **more)
                     for more in ({"STAND_IN_HAS": "move" * is_tried}, {"program": PROGRAM})
@@ -362,6 +362,7 @@ class Program(unittest.TestCase):
                     it["fix"] = it["tried"] = it["who"] = None
                 if is_tried:
                     self.assertEqual(text, told)
+                if is_tried and name == "shards":
                     self.assertIn(
                         "tried misses 2,153 → 6 (false 2,147 → 0, true 0 → 0, cold 6 → 6)",
                         " ".join(told.split()),
