@@ -120,6 +120,7 @@ async function take(file) {
 /** The settings of the form, or what is wrong with one. */
 function chosenSettings() {
   const settings = { size: Number(part("size").value) };
+  part("shift").max = `${settings.size - WORD_BYTES}`;
   for (const id of NUMBERS) {
     const input = part(id);
     if (input.closest("[hidden]")) {
@@ -133,7 +134,6 @@ function chosenSettings() {
     }
     settings[id] = Number(input.value);
   }
-  if (settings.shift >= settings.size) return { wrong: "Shift: it must be below the line size" };
   return { settings };
 }
 
@@ -260,16 +260,18 @@ function table(heads, rows) {
 
 const missesText = (misses) => `${counted(misses.falseSharing, "false-sharing miss")}, ${shown(misses.trueSharing)} true-sharing`;
 
-/** What the report says of the whole trace, in one sentence or two. */
+/** What the report says of the whole trace: a sentence, and one of its misses if they are known. */
 function summaryOf(report, misses) {
   const size = report ?? misses;
   const parts = [`${counted(size.accesses, "access")}; ${size.size}-byte lines${size.shift ? `, shifted by ${size.shift} bytes` : ""}`];
   if (report?.steps) parts.unshift(counted(report.steps, "instruction"));
   if (report) parts.unshift(`Outcome: ${report.outcome}`);
-  if (!misses) return `${parts.join(", ")}.`;
+  const sentence = `${parts.join(", ")}.`;
+  if (!misses) return [sentence];
   const of = report?.steps || misses.accesses;
   const rate = of ? ((1000 * misses.falseSharing) / of).toFixed(2) : "0.00";
-  return `${parts.join(", ")}. ${missesText(misses)}, ${shown(misses.cold)} cold: ${rate} false per 1,000 ${report?.steps ? "instructions" : "accesses"}.`;
+  const counts = `${missesText(misses)}, ${shown(misses.cold)} cold: ${rate} false per 1,000 ${report?.steps ? "instructions" : "accesses"}.`;
+  return [sentence, element("br"), element("b", "", counts)];
 }
 
 function showObjects(misses) {
@@ -277,8 +279,9 @@ function showObjects(misses) {
   part("objects").replaceChildren();
   if (!groups.length) return;
   const rows = groups.slice(0, SHOWN_OBJECTS).map((it, at) => [at + 1, it.falseSharing, it.trueSharing, it.cold, it.lines, it.name]);
-  part("objects").append(element("h3", "", "Objects by false-sharing misses"), table(["", "false", "true", "cold", "lines", "object"], rows), element("p", "soft", "false and true: false-sharing and true-sharing misses; cold: first accesses of a line by a thread; lines: those with sharing misses."));
-  if (groups.length > SHOWN_OBJECTS) part("objects").append(element("p", "soft", `and ${shown(groups.length - SHOWN_OBJECTS)} more`));
+  part("objects").append(element("h3", "", "Objects by false-sharing misses"), table(["", "false", "true", "cold", "lines", "object"], rows));
+  if (groups.length > SHOWN_OBJECTS) part("objects").append(element("p", "soft", `and ${counted(groups.length - SHOWN_OBJECTS, "object")} more`));
+  part("objects").append(element("p", "soft", "false and true: false-sharing and true-sharing misses; cold: first accesses of a line by a thread; lines: those with sharing misses."));
 }
 
 /** A word of a line: who uses it, and how often it is written and read. */
@@ -348,7 +351,7 @@ function show() {
   const misses = texts.misses ? readMisses(texts.misses) : null;
   const blame = texts.blame ? readBlame(texts.blame) : null;
   part("title").textContent = current.name;
-  part("summary").textContent = report || misses ? summaryOf(report, misses) : "";
+  part("summary").replaceChildren(...(report || misses ? summaryOf(report, misses) : []));
   showObjects(misses);
   showLines(report, misses, blame);
   const all = [texts.replay, texts.misses, texts.blame].filter(Boolean).join("\n");
@@ -362,6 +365,8 @@ function show() {
 
 function listen() {
   for (const size of SIZES) part("size").append(new Option(`${size}`, `${size}`, size === USUAL_SIZE, size === USUAL_SIZE));
+  // (so that the same file can be chosen again, which may have changed)
+  part("file").onclick = () => (part("file").value = "");
   part("file").onchange = () => part("file").files.length && take(part("file").files[0]);
   part("settings").onchange = () => current?.file && count();
   part("settings").onsubmit = (event) => event.preventDefault();

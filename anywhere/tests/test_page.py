@@ -239,6 +239,12 @@ class Page(unittest.TestCase):
                 self.wait_for_status(said)
             self.browser.set_value(name, f"{USUAL[name]}")
             self.browser.wait_for("!current.isCounting")
+        # (a shift may be as great as the line size allows)
+        self.browser.set_value("size", "256")
+        self.browser.set_value("shift", "252")
+        self.browser.wait_for("!current.isCounting")
+        expected = self.expected_text("queue.trace", False, size=256, shift=252)
+        self.assertEqual(self.text_of("text"), expected)
 
     def test_stops_and_counts_again(self) -> None:
         self.browser.choose_file(self.path("large.trace"))
