@@ -14,9 +14,11 @@ const SHOWN_PAIRS = 8;
 const SHOWN_TEXT = 2 ** 20;
 // Of each hart its colour, and again from the first on; the number distinguishes them in grey.
 const COLOURS = ["#e69f00", "#56b4e9", "#009e73", "#f0e442", "#8fb8ff", "#ff9f6b", "#e6a9c9", "#bdbdbd"];
-const PHASES = { reading: "Reading", run: "Running the program", replay: "Replaying", misses: "Counting misses", blame: "Finding instructions" };
+const PHASES = { reading: "Reading", run: "Running", replay: "Counting invalidations of", misses: "Counting misses of", blame: "Finding the pairs of instructions of" };
 const FIRST_RATE = 1.5e7; // bytes of a trace in a second, before one was measured
+const LEAST_RATED_BYTES = 2 ** 22; // of a smaller trace a count mostly takes the time of the start
 const TICK_MS = 100;
+const MOST_IN_FULL = 999_999; // a larger number of a cell is shortened, and stands in full in its title
 const ELF_MAGIC = "\x7fELF";
 const ELF_32_BITS = 1;
 const ELF_RISC_V = 243;
@@ -36,6 +38,8 @@ function element(tag, className, ...content) {
 
 const shown = (number) => number.toLocaleString("en-US");
 
+const shortened = (number) => (number > MOST_IN_FULL ? number.toLocaleString("en-US", { notation: "compact", maximumFractionDigits: 2 }) : shown(number));
+
 function counted(number, noun) {
   return `${shown(number)} ${noun}${number === 1 ? "" : /(s|x|ch|sh)$/.test(noun) ? "es" : "s"}`;
 }
@@ -48,8 +52,9 @@ let texts = {};
 let ticking = null;
 const rates = {};
 
-function say(text) {
+function say(text, isWrong = false) {
   part("status").textContent = text;
+  part("status").classList.toggle("wrong", isWrong);
 }
 
 /** What is wrong with a file that is neither of the three, and what to do with it. */
@@ -59,7 +64,7 @@ function describeOther(head) {
     return "it is a program, but not for 32-bit RISC-V: record it on Linux with predator native --trace, and drop the trace";
   }
   if (head.startsWith("\x1f\x8b")) return "it is compressed: unpack it with gunzip first";
-  return "it is no trace, no RISC-V program and no report of predator";
+  return "it is no trace, RISC-V program or report of predator";
 }
 
 /** `program`, `trace` or `text`, or none. */
@@ -75,7 +80,7 @@ async function kindOfFile(file) {
 
 async function showSavedText(file) {
   if (file.size > MOST_TEXT_BYTES) {
-    say(`${file.name}: the report has ${shown(file.size)} bytes, and here one has at most ${shown(MOST_TEXT_BYTES)}`);
+    say(`${file.name}: the report has ${shown(file.size)} bytes, and here one has at most ${shown(MOST_TEXT_BYTES)}`, true);
     return;
   }
   const text = new TextDecoder("latin1").decode(await file.arrayBuffer());
@@ -87,26 +92,26 @@ async function showSavedText(file) {
 }
 
 async function take(file) {
-  const stopped = worker ? `Stopped counting ${current.name}. ` : "";
+  const stopped = current?.isCounting ? `Stopped counting ${current.name}. ` : "";
   endWorker();
   clearResults();
   const { kind, why } = await kindOfFile(file);
+  part("schedule").hidden = kind !== "program";
   if (kind === null) {
     current = null;
-    say(`${stopped}${file.name}: ${why}`);
+    say(`${stopped}${file.name}: ${why}`, true);
   } else if (file.size > MOST_BYTES) {
     current = null;
-    say(`${stopped}${file.name}: it has ${shown(file.size)} bytes, and here a file has at most ${shown(MOST_BYTES)}: use predator view`);
+    say(`${stopped}${file.name}: it has ${shown(file.size)} bytes, and here a file has at most ${shown(MOST_BYTES)}: use predator view`, true);
   } else if (kind === "text") {
     await showSavedText(file);
   } else if (hasMemory64()) {
     current = { name: file.name, file, isProgram: kind === "program" };
     part("settings").hidden = false;
-    part("schedule").hidden = !current.isProgram;
     count(stopped);
   } else {
     current = null;
-    say(`${file.name}: this browser can't count it`);
+    say(`${file.name}: this browser can't count it`, true);
   }
 }
 
@@ -115,6 +120,7 @@ async function take(file) {
 /** The settings of the form, or what is wrong with one. */
 function chosenSettings() {
   const settings = { size: Number(part("size").value) };
+  part("shift").max = `${settings.size - WORD_BYTES}`;
   for (const id of NUMBERS) {
     const input = part(id);
     if (input.closest("[hidden]")) {
@@ -128,7 +134,6 @@ function chosenSettings() {
     }
     settings[id] = Number(input.value);
   }
-  if (settings.shift >= settings.size) return { wrong: "Shift: it must be below the line size" };
   return { settings };
 }
 
@@ -155,8 +160,9 @@ function endWorker() {
 
 function count(before = "") {
   const { settings, wrong } = chosenSettings();
+  part("earlier").hidden = false;
   if (wrong) {
-    say(wrong);
+    say(wrong, true);
     return;
   }
   // (a count that runs is ended: its numbers would be those of other settings)
@@ -189,7 +195,7 @@ function showPhase({ phase, done, total, size }) {
   ticking = setInterval(() => {
     const seconds = (performance.now() - begun) / 1000;
     if (phase !== "run") bar.value = Math.min(0.98, seconds / likely);
-    if (seconds >= 1) part("phase").textContent = `${name}, ${seconds.toFixed(0)} s${phase === "run" ? "" : ` of about ${Math.max(likely, seconds).toFixed(0)}`}`;
+    if (seconds >= 1) part("phase").textContent = `${name}, ${seconds.toFixed(0)} s${phase === "run" ? "" : ` of about ${Math.max(likely, seconds).toFixed(0)} s`}`;
   }, TICK_MS);
 }
 
@@ -208,7 +214,7 @@ function hear(data) {
     if (data.fault) {
       endWorker();
       clearResults();
-      say(`${current.name}: ${data.fault}`);
+      say(`${current.name}: ${data.fault}`, true);
     } else if (texts.replay) {
       say("");
       show();
@@ -218,12 +224,12 @@ function hear(data) {
 
 function hearAnswer({ name, status, text, message, seconds }) {
   if (text.startsWith("predator report") || status === 0) {
-    if (seconds > 0.2) rates[name] = current.size / seconds;
+    if (current.size >= LEAST_RATED_BYTES) rates[name] = current.size / seconds;
     if (name !== "run") texts[name] = text;
     return;
   }
   clearResults();
-  say(`${current.name}: ${message || text.trim().replace(/^predator: /, "")}`);
+  say(`${current.name}: ${message || text.trim().replace(/^predator: /, "")}`, true);
 }
 
 function stop() {
@@ -245,18 +251,27 @@ function row(tag, cells) {
 }
 
 function table(heads, rows) {
-  const head = element("thead", "", row("th", heads));
+  const headRow = row("th", heads);
+  // (the head of a column of numbers stands above their ends)
+  [...headRow.cells].forEach((it, at) => it.classList.toggle("n", typeof rows[0]?.[at] === "number"));
+  const head = element("thead", "", headRow);
   return element("table", "", head, element("tbody", "", ...rows.map((it) => row("td", it))));
 }
 
-/** What the report says of the whole trace, in one sentence. */
+const missesText = (misses) => `${counted(misses.falseSharing, "false-sharing miss")}, ${shown(misses.trueSharing)} true-sharing`;
+
+/** What the report says of the whole trace: a sentence, and one of its misses if they are known. */
 function summaryOf(report, misses) {
   const size = report ?? misses;
-  const parts = [`${counted(size.accesses, "access")}; ${size.size}-byte lines${size.shift ? `, shifted by ${size.shift}` : ""}`];
-  if (report) parts.unshift(report.outcome);
-  if (!misses) return `${parts.join(", ")}.`;
-  const rate = misses.accesses ? ((1000 * misses.falseSharing) / misses.accesses).toFixed(2) : "0.00";
-  return `${parts.join(", ")}. ${counted(misses.falseSharing, "false-sharing miss")}, ${shown(misses.trueSharing)} true-sharing, ${shown(misses.cold)} cold: ${rate} false per 1,000 accesses.`;
+  const parts = [`${counted(size.accesses, "access")}; ${size.size}-byte lines${size.shift ? `, shifted by ${size.shift} bytes` : ""}`];
+  if (report?.steps) parts.unshift(counted(report.steps, "instruction"));
+  if (report) parts.unshift(`Outcome: ${report.outcome}`);
+  const sentence = `${parts.join(", ")}.`;
+  if (!misses) return [sentence];
+  const of = report?.steps || misses.accesses;
+  const rate = of ? ((1000 * misses.falseSharing) / of).toFixed(2) : "0.00";
+  const counts = `${missesText(misses)}, ${shown(misses.cold)} cold: ${rate} false per 1,000 ${report?.steps ? "instructions" : "accesses"}.`;
+  return [sentence, element("br"), element("b", "", counts)];
 }
 
 function showObjects(misses) {
@@ -265,7 +280,8 @@ function showObjects(misses) {
   if (!groups.length) return;
   const rows = groups.slice(0, SHOWN_OBJECTS).map((it, at) => [at + 1, it.falseSharing, it.trueSharing, it.cold, it.lines, it.name]);
   part("objects").append(element("h3", "", "Objects by false-sharing misses"), table(["", "false", "true", "cold", "lines", "object"], rows));
-  if (groups.length > SHOWN_OBJECTS) part("objects").append(element("p", "soft", `and ${shown(groups.length - SHOWN_OBJECTS)} more`));
+  if (groups.length > SHOWN_OBJECTS) part("objects").append(element("p", "soft", `and ${counted(groups.length - SHOWN_OBJECTS, "object")} more`));
+  part("objects").append(element("p", "soft", "false and true: false-sharing and true-sharing misses; cold: first accesses of a line by a thread; lines: those with sharing misses."));
 }
 
 /** A word of a line: who uses it, and how often it is written and read. */
@@ -273,7 +289,7 @@ function wordCell(address, word) {
   if (!word) return Object.assign(element("div", "word idle", element("b", "", "·")), { title: `${address}: never accessed` });
   const cell = element("div", word.hart === null ? "word many" : "word", element("b", "", word.hart === null ? "many" : `${word.hart}`));
   if (word.hart !== null) cell.style.background = COLOURS[word.hart % COLOURS.length];
-  cell.append(element("span", "", `${shown(word.writes)} w`), element("span", "", `${shown(word.reads)} r`));
+  cell.append(element("span", "", `${shortened(word.writes)} w`), element("span", "", `${shortened(word.reads)} r`));
   cell.title = `${address}: ${word.hart === null ? "many harts" : `hart ${word.hart}`}, ${counted(word.writes, "write")}, ${counted(word.reads, "read")}`;
   return cell;
 }
@@ -297,26 +313,37 @@ function drawWords(line) {
 
 function pairsTable(blamed) {
   const rows = blamed.pairs.slice(0, SHOWN_PAIRS).map((it) => [it.count, it.same, element("code", "", it.by), element("code", "", it.victim)]);
-  const pairs = table(["inval", "same word", "instruction", "invalidates the copy used at"], rows);
+  const pairs = table(["inval", "same word", "invalidates", "loses the line"], rows);
   pairs.classList.add("pairs");
   return pairs;
 }
 
-function showLines(report, blame) {
+/** A line of the report: its name, its numbers, its words, and the pairs of instructions if they are known. */
+function drawLine(line, misses, blame) {
+  const isObserved = line.kind === "observed";
+  const missed = isObserved ? misses?.lines.find((it) => it.base === line.base) : null;
+  const numbers = [missed ? missesText(missed) : "", counted(line.invalidations, "invalidation"), `${line.verdict} sharing`].filter(Boolean);
+  const placement = line.kind === "doubled" ? `${line.size}-byte lines` : "another placement of the data";
+  const kind = isObserved ? "" : `, predicted for ${placement}`;
+  const place = line.objects.length ? ` at ${line.base}` : "";
+  const title = element("h3", "", nameOfLine(line), element("span", "soft", `${place}: ${numbers.join(", ")}${kind}`));
+  part("lines").append(title, drawWords(line));
+  if (isObserved && blame?.has(line.base)) part("lines").append(pairsTable(blame.get(line.base)));
+}
+
+/** The lines that were observed, and then those that are predicted. */
+function showLines(report, misses, blame) {
   part("lines").replaceChildren();
   if (!report) return;
-  const predicted = report.lines.filter((it) => it.kind !== "observed").length;
-  const drawn = report.lines.slice(0, SHOWN_LINES);
+  const observed = report.lines.filter((it) => it.kind === "observed");
+  const predicted = report.lines.filter((it) => it.kind !== "observed");
+  const drawn = [...observed, ...predicted].slice(0, SHOWN_LINES);
   part("lines").append(element("h3", "", drawn.length ? "Lines by invalidations, a cell for each word of 4 bytes" : "No line reaches the report's threshold"));
-  if (drawn.length) part("lines").append(element("p", "soft", "A cell has the number of the only hart that uses the word, or “many”, and its writes (w) and reads (r)."));
-  for (const line of drawn) {
-    const kind = line.kind === "observed" ? "" : `, predicted (${line.kind})`;
-    const title = element("h3", "", nameOfLine(line), element("span", "soft", ` at ${line.base}: ${counted(line.invalidations, "invalidation")}, ${line.verdict} sharing${kind}`));
-    part("lines").append(title, drawWords(line));
-    if (line.kind === "observed" && blame?.has(line.base)) part("lines").append(pairsTable(blame.get(line.base)));
-  }
+  if (drawn.length) part("lines").append(element("p", "soft", "Each cell has the number of the only thread (hart) that uses the word, or “many”, and the word's writes (w) and reads (r)."));
+  if (blame) part("lines").append(element("p", "soft", "inval: invalidations by a pair of instructions; same word: those of them where both access the same word."));
+  for (const line of drawn) drawLine(line, misses, blame);
   const more = report.lines.length - drawn.length;
-  if (more > 0) part("lines").append(element("p", "soft", `and ${counted(more, "line")} more in the text${predicted ? `, ${shown(predicted)} predicted in all` : ""}`));
+  if (more > 0) part("lines").append(element("p", "soft", `and ${counted(more, "line")} more in the text; ${shown(predicted.length)} of all ${shown(report.lines.length)} are predicted`));
 }
 
 function show() {
@@ -324,12 +351,13 @@ function show() {
   const misses = texts.misses ? readMisses(texts.misses) : null;
   const blame = texts.blame ? readBlame(texts.blame) : null;
   part("title").textContent = current.name;
-  part("summary").textContent = report || misses ? summaryOf(report, misses) : "";
+  part("summary").replaceChildren(...(report || misses ? summaryOf(report, misses) : []));
   showObjects(misses);
-  showLines(report, blame);
+  showLines(report, misses, blame);
   const all = [texts.replay, texts.misses, texts.blame].filter(Boolean).join("\n");
   part("text").textContent = all.slice(0, SHOWN_TEXT) + (all.length > SHOWN_TEXT ? `\n.. and ${shown(all.length - SHOWN_TEXT)} bytes more\n` : "");
   part("textPart").open = !report && !misses;
+  part("earlier").hidden = true;
   part("results").hidden = false;
 }
 
@@ -337,6 +365,8 @@ function show() {
 
 function listen() {
   for (const size of SIZES) part("size").append(new Option(`${size}`, `${size}`, size === USUAL_SIZE, size === USUAL_SIZE));
+  // (so that the same file can be chosen again, which may have changed)
+  part("file").onclick = () => (part("file").value = "");
   part("file").onchange = () => part("file").files.length && take(part("file").files[0]);
   part("settings").onchange = () => current?.file && count();
   part("settings").onsubmit = (event) => event.preventDefault();
@@ -349,7 +379,9 @@ function listen() {
   document.ondrop = (event) => {
     event.preventDefault();
     part("drop").classList.remove("over");
-    if (event.dataTransfer.files.length) take(event.dataTransfer.files[0]);
+    if (!event.dataTransfer.files.length) return;
+    part("file").files = event.dataTransfer.files;
+    take(event.dataTransfer.files[0]);
   };
   if (!hasMemory64()) {
     part("unable").textContent = NO_MEMORY64;
@@ -366,5 +398,14 @@ async function takeOwnTrace() {
   await take(new File([bytes], part("trace").dataset.name));
 }
 
+/** In the frame of a page of `--live`: the frame becomes as high as what is shown, and only the page around it scrolls. */
+function fitFrame() {
+  const frame = window.frameElement;
+  if (!frame) return;
+  const root = document.documentElement;
+  new ResizeObserver(() => (frame.style.height = `${root.offsetHeight + frame.offsetHeight - frame.clientHeight}px`)).observe(root);
+}
+
 listen();
+fitFrame();
 takeOwnTrace();

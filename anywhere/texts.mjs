@@ -11,6 +11,8 @@ const MISSED_IN_ALL = /^total cold (\d+) useful (\d+) useless (\d+)$/;
 const BLAMED = /^line (\S+) takings (\d+) pairs (\d+) harts (\d+)$/;
 const PAIR = /^pair (\S+) (\S+) taken (\d+) same (\d+)$/;
 
+const MOST_NAMES = 4;
+
 /** Which text this is, by its first line; none where it is no text of the program. */
 export function kindOfText(text) {
   if (text.startsWith("predator report ")) return "report";
@@ -143,16 +145,18 @@ export function readBlame(text) {
 export function nameOf(object) {
   if (object.name !== null) return object.name;
   const site = object.sites.find((it) => it.name !== "-");
-  return `block of ${object.size} bytes${site ? ` from ${site.name}` : ""}`;
+  return `block of ${object.size.toLocaleString("en-US")} bytes${site ? ` from ${site.name}` : ""}`;
 }
 
 function namesOn(line) {
   return [...new Set(line.objects.map(nameOf))];
 }
 
-/** What the memory of a line is called: its objects, or its address. */
+/** What the memory of a line is called: its first objects, or its address. */
 export function nameOfLine(line) {
-  return namesOn(line).join(", ") || `memory at ${line.base}`;
+  const names = namesOn(line);
+  const more = names.length > MOST_NAMES ? ` and ${names.length - MOST_NAMES} more` : "";
+  return names.slice(0, MOST_NAMES).join(", ") + more || `memory at ${line.base}`;
 }
 
 /** Lines of a count of misses by what stands on them, those with the most false sharing first. */

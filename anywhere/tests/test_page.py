@@ -51,6 +51,7 @@ class Page(unittest.TestCase):
         cls.native("run", PROGRAM, "--trace", "pcs.trace", "--pcs", "--output", "out")
         cls.native("gen", f"{LARGE_ACCESSES}", "large.trace")
         cls.write("report.txt", cls.native("replay", "queue.trace"))
+        cls.write("notes.txt", b"no report")
         cls.browser = cls.enterClassContext(Browser())
 
     @classmethod
@@ -141,7 +142,8 @@ class Page(unittest.TestCase):
         )
         expected: list[str] = []
         harts: list[str | None] = []
-        for line in report.lines[:20]:
+        lines = [*report.observed(), *report.predicted()]
+        for line in lines[:20]:
             used = {it.addr: it for it in line.words()}
             for address in range(line.base, line.base + line.size, 4):
                 word = used.get(address)
@@ -209,7 +211,7 @@ class Page(unittest.TestCase):
         large = self.write("too_large.trace", trace[:64])
         os.truncate(large, TOO_LARGE_BYTES)
         for path, said in (
-            (self.write("notes.txt", b"no report"), "it is no trace, no RISC-V program"),
+            (self.path("notes.txt"), "it is no trace, RISC-V program"),
             (self.write("state", b"PRDSTA01" + bytes(56)), "it is a saved state"),
             (self.write("t.gz", gzip.compress(trace)), "it is compressed"),
             ("/bin/true", "not for 32-bit RISC-V"),
@@ -229,14 +231,20 @@ class Page(unittest.TestCase):
         for name, value, said in (
             ("shift", "6", "Shift: it must be a multiple of 4"),
             ("shift", "64", "Shift: it must be a multiple of 4 from 0 to 60"),
-            ("tracking", "0", "Tracked from: it must be a whole number from 1"),
-            ("report", "many", "Listed from"),
+            ("tracking", "0", "Track lines from: it must be a whole number from 1"),
+            ("report", "many", "List lines from"),
         ):
             self.browser.set_value(name, value)
             with self.subTest(name=name, value=value):
                 self.wait_for_status(said)
             self.browser.set_value(name, f"{USUAL[name]}")
             self.browser.wait_for("!current.isCounting")
+        # (a shift may be as great as the line size allows)
+        self.browser.set_value("size", "256")
+        self.browser.set_value("shift", "252")
+        self.browser.wait_for("!current.isCounting")
+        expected = self.expected_text("queue.trace", False, size=256, shift=252)
+        self.assertEqual(self.text_of("text"), expected)
 
     def test_stops_and_counts_again(self) -> None:
         self.browser.choose_file(self.path("large.trace"))
@@ -257,6 +265,28 @@ class Page(unittest.TestCase):
         self.wait_for_count()
         self.assertEqual(self.text_of("title"), "queue.trace")
         self.assertEqual(self.text_of("text"), self.expected_text("queue.trace", False))
+
+    def test_takes_a_second_file_after_a_count(self) -> None:
+        self.browser.choose_file(self.path("queue.trace"))
+        self.wait_for_count()
+        self.browser.drop_file(self.path("notes.txt"))
+        status = self.wait_for_status("notes.txt: it is no trace")
+        self.assertNotIn("Stopped", status)
+        chosen = self.browser.value_of("document.getElementById('file').files[0].name")
+        self.assertEqual(chosen, "notes.txt")
+
+    def test_marks_the_results_of_earlier_settings(self) -> None:
+        self.browser.choose_file(self.path("queue.trace"))
+        self.wait_for_count()
+        self.assertFalse(self.is_shown("earlier"))
+        self.browser.set_value("shift", "6")
+        self.wait_for_status("Shift: it must be")
+        self.assertTrue(self.is_shown("earlier"))
+        self.assertTrue(self.is_shown("summary"))
+        self.browser.set_value("shift", "4")
+        self.browser.wait_for("!current.isCounting")
+        self.assertFalse(self.is_shown("earlier"))
+        self.assertIn("shifted by 4 bytes", self.text_of("summary"))
 
     def test_says_which_browsers_can_count(self) -> None:
         script = self.browser.send("Page.addScriptToEvaluateOnNewDocument", source=NO_MEMORY64)
@@ -286,6 +316,12 @@ class Page(unittest.TestCase):
             self.browser.value_of(f"{part}('text').textContent"),
             self.expected_text("queue.trace", False),
         )
+        # (the frame is as high as what it shows, and has no scroll bar of its own)
+        root = f"{frame}.document.documentElement"
+        heights = f"{root}.scrollHeight === {root}.clientHeight && {root}.offsetHeight"
+        shown = self.browser.wait_for(heights)
+        height = self.browser.value_of("document.querySelector('iframe').clientHeight")
+        self.assertLessEqual(abs(height - shown), 1)
 
     def test_uses_no_network_and_has_no_error(self) -> None:
         self.browser.choose_file(self.path("queue.trace"))
