@@ -3,6 +3,7 @@
 from __future__ import annotations
 
 import json
+import math
 import os
 import resource
 import shutil
@@ -18,7 +19,7 @@ ACCESSES = 20_000_000
 # A count by the module takes at most so many times the time of the native program, by the best of some tries: the first
 # ones also compile the module.
 MOST_TIMES_NATIVE = 3.0
-TRIES = 4
+TRIES, ROUNDS = 4, 4
 SPEED = os.path.join(os.path.dirname(os.path.abspath(__file__)), "speed.mjs")
 TOO_LARGE_BYTES = 3 << 30
 LARGE_BYTES = 100_000_000
@@ -104,18 +105,28 @@ class Node(unittest.TestCase):
 
     def test_takes_at_most_some_times_as_long(self) -> None:
         run_in(self.folder, [native_program()], ["gen", f"{ACCESSES}", "t"])
-        ran = run_in(self.folder, [node_command()[0], SPEED], ["t", f"{TRIES}", "replay", "misses"])
-        for row in ran.stdout.splitlines():
-            found = json.loads(row)
-            words = [found["command"], "t"]
-            native = min(user_seconds(self.folder, [native_program()], words) for _ in range(TRIES))
-            times = found["best"] / native
+        for command in ("replay", "misses"):
+            with self.subTest(command=command):
+                self.assertLess(self.times_native(command), MOST_TIMES_NATIVE)
+
+    def times_native(self, command: str) -> float:
+        """How many times the program's processor time a command takes. What else a machine does slows the module more: it is measured again
+        where that is too much."""
+        native, module = math.inf, math.inf
+        for _ in range(ROUNDS):
+            ran = run_in(self.folder, [node_command()[0], SPEED], ["t", f"{TRIES}", command])
+            found = json.loads(ran.stdout)
+            own = [
+                user_seconds(self.folder, [native_program()], [command, "t"]) for _ in range(TRIES)
+            ]
+            native, module = min(native, *own), min(module, found["best"])
             print(
-                f"{words[0]}: {native:.2f} s, module {found['best']:.2f} s ({times:.2f} times),"
+                f"{command}: {native:.2f} s, module {module:.2f} s ({module / native:.2f} times),"
                 f" the first time {found['first']:.2f} s"
             )
-            with self.subTest(words=words):
-                self.assertLess(times, MOST_TIMES_NATIVE)
+            if module / native < MOST_TIMES_NATIVE:
+                break
+        return module / native
 
     def test_counts_100_megabytes(self) -> None:
         run_in(self.folder, [native_program()], ["gen", f"{LARGE_BYTES // ACCESS_BYTES}", "t"])
