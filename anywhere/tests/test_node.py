@@ -110,8 +110,8 @@ class Node(unittest.TestCase):
                 self.assertLess(self.times_native(command), MOST_TIMES_NATIVE)
 
     def times_native(self, command: str) -> float:
-        """How many times the program's processor time a command takes. What else a machine does slows the module more: it is measured again
-        where that is too much."""
+        """How many times the program's processor time a command takes. What else the machine does slows the
+        module more, so that a time above the bar is measured again."""
         native, module = math.inf, math.inf
         for _ in range(ROUNDS):
             ran = run_in(self.folder, [node_command()[0], SPEED], ["t", f"{TRIES}", command])
