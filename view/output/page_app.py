@@ -109,7 +109,8 @@ def add_app(page: str, call: Call) -> str:
         raise Fault("'--live' needs a trace: that of a replay, or of `--trace F`")
     app = app_page(read_trace(trace), os.path.basename(call.named))
     frame = (
-        "<h2>Other layouts</h2>\n<p>This page contains the trace. Change a setting, and the verified program counts it again in the browser.</p>\n"
+        "<h2>Other layouts</h2>\n<p>This page contains the trace. Change a setting, and the verified program counts"
+        " it again in the browser.</p>\n"
         f'<iframe title="Other layouts" style="width:100%;height:60rem;border:1px solid #c9c9c9" srcdoc="{html.escape(app)}"></iframe>\n'
     )
     # (the page in the frame is held to the policy of this one too)
