@@ -330,7 +330,7 @@ refuses "an undefined name" "undefined symbol: add" "$cc" main.c
 refuses "a shared library" "there are no shared libraries" "$cc" -shared main.c -o x.so
 refuses "another machine's object" "incompatible" bash -c 'clang -c add.c -o x86.o && "$0" main.c x86.o' "$cc"
 refuses "no place to write" "nowhere/x.elf" "$cc" main.c add.c -o nowhere/x.elf
-refuses "no place to keep the kit" "can't be written" env XDG_CACHE_HOME=/dev/null "$cc" main.c add.c
+refuses "no place to keep the kit" "no folder for the kit" env XDG_CACHE_HOME=/dev/null HOME=/dev/null TMPDIR=/dev/null "$cc" main.c add.c
 # (and another for C++, where LLVM's headers of its library are installed)
 kits=1
 ! compgen -G "/usr/lib/llvm-*/include/c++/v1/__config" >/dev/null || kits=2
@@ -412,7 +412,7 @@ refuses "an exception that is insisted on" "can't be had: C++ has no exceptions 
 printf 'struct a { virtual ~a() {} }; struct b : a {};\nint main() { a *it = new b; return dynamic_cast<b *>(it) == nullptr; }\n' >casts.cc
 refuses "type information" "-frtti" "$cxx" casts.cc -o x.elf
 refuses "type information without LLVM's library" "can't be had: type information needs" env LIBCXX=none "$cxx" -frtti casts.cc -o x.elf
-[ -z "$(cxx_headers)" ] || builds "type information that is asked for" "$cxx" -frtti casts.cc -o casts.elf
+[ -z "$(. "$here/common.bash" && cxx_headers)" ] || builds "type information that is asked for" "$cxx" -frtti casts.cc -o casts.elf
 cat >place.cc <<'C'
 #include <new>
 struct a { int x; a(int x) : x(x) {} };
