@@ -12,11 +12,11 @@ gcc -O1 -g -pthread "$here/tries/looks.c" -o looks
 # A busy machine may give another trace of the same program. Where the two differ, both are recorded again, and once more whole: what two whole
 # recordings differ in says nothing.
 same_filtered() { # NAME NEAR OPTIONS PROGRAM ..: both recordings print the same, and end with the same status
-    local name="filtered $1" near=$2 said filtered_said status again
+    local name="filtered $1" near=$2 said filtered_said status _
     local -a options
     read -ra options <<<"$3"
     shift 3
-    for again in 1 2 3; do
+    for _ in 1 2 3; do
         said=$("$run" "${options[@]}" --trace w -- "$@" 2>/dev/null)
         status=$?
         filtered_said=$("$run" "${options[@]}" "--filtered=$near" --trace f -- "$@" 2>/dev/null; echo $? >f.status)
