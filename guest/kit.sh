@@ -412,7 +412,7 @@ refuses "an exception that is insisted on" "can't be had: C++ has no exceptions 
 printf 'struct a { virtual ~a() {} }; struct b : a {};\nint main() { a *it = new b; return dynamic_cast<b *>(it) == nullptr; }\n' >casts.cc
 refuses "type information" "-frtti" "$cxx" casts.cc -o x.elf
 refuses "type information without LLVM's library" "can't be had: type information needs" env LIBCXX=none "$cxx" -frtti casts.cc -o x.elf
-[ -z "$(. "$here/common.bash" && cxx_headers)" ] || builds "type information that is asked for" "$cxx" -frtti casts.cc -o casts.elf
+[ -z "$(bash -c '. "$0" && cxx_headers' "$here/common.bash")" ] || builds "type information that is asked for" "$cxx" -frtti casts.cc -o casts.elf
 cat >place.cc <<'C'
 #include <new>
 struct a { int x; a(int x) : x(x) {} };

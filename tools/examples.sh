@@ -48,6 +48,7 @@ try_commands() {
     example place '^place counters 0x00011000 32 line 64$' place trace counters
     echo '0x00011000 4 0x00020000' >table
     example move '^move 160042 20001$' move trace table moved
+    example filter '^filter 160042 7539$' filter trace filtered
     example misses '^total cold 10 useful 1 useless 4000$' misses trace
     example blame '^line 0x00011000 takings 4007 ' blame trace
     example explain '^line 0x00011000 64 start 41 count 4007$' explain "$guest" 0x00011000 64 41
