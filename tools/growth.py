@@ -166,18 +166,19 @@ def misses(trace: str, made: TraceCaseFile) -> Call:
     )
 
 
-def write_with_pcs(trace: str, made: TraceCaseFile) -> str:
-    """The name of the trace with pcs, of which the first has the first address, and so on."""
+def write_with_pcs(trace: str, made: TraceCaseFile, command: str) -> str:
+    """The name of the trace with pcs for a command, of which the first has the first address, and so on."""
+    name = f"{trace}.{command}.sited"
     numbers = itertools.count()
-    with open(trace, "rb") as plain, open(f"{trace}.sited", "wb") as file:
+    with open(trace, "rb") as plain, open(name, "wb") as file:
         file.write(
             add_pcs(plain.read(), lambda access, before: CODE + 4 * (next(numbers) % made.pcs))
         )
-    return f"{trace}.sited"
+    return name
 
 
 def blame(trace: str, made: TraceCaseFile) -> Call:
-    with_pcs = write_with_pcs(trace, made)
+    with_pcs = write_with_pcs(trace, made, "blame")
     rows = (
         []
         if made.settings
@@ -191,7 +192,7 @@ def blame(trace: str, made: TraceCaseFile) -> Call:
 
 
 def filter_accesses(trace: str, made: TraceCaseFile) -> Call:
-    with_pcs = write_with_pcs(trace, made)
+    with_pcs = write_with_pcs(trace, made, "filter")
     return Call(["filter", with_pcs, f"{trace}.filtered"], [(f"filter {made.accesses}", 1)])
 
 
