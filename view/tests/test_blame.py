@@ -311,13 +311,13 @@ class OfThisMachine(Compiled):
             joined(text),
             r"where nameless\.c:[0-9]+ \(in_file\) invalidates nameless\.c:[0-9]+ \(in_file\): ",
         )
+        # (the variable that the block is assigned to has its type)
         self.assertRegex(
-            joined(text),
-            r"block of 4,096 made at nameless\.c:[0-9]+ < main \(an arena, used at ",
+            joined(text), r"block made at nameless\.c:[0-9]+ < main: unsigned int where "
         )
         self.assertRegex(
             joined(text),
-            r"used at nameless\.c:[0-9]+ \((odd|even)\) and nameless\.c:[0-9]+ \((odd|even)\)\)",
+            r"where nameless\.c:[0-9]+ \((odd|even)\) invalidates nameless\.c:[0-9]+ \((odd|even)\): ",
         )
 
     def test_by_valgrind(self):
