@@ -70,6 +70,6 @@ declare_parts() {
     part view daily all 2 120 "" view/try.sh
     part anywhere daily all 2 100 "program python3" anywhere/try.sh
     # (this one fetches its packages)
-    part bare long all 1 600 "mmdebstrap git dpkg-deb" dist/bare.sh
+    part bare long all 1 1800 "mmdebstrap git dpkg-deb" dist/bare.sh
     part all_edits long all 1 1800 "python3 rt" tools/edits.py
 }

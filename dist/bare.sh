@@ -1,10 +1,11 @@
 #!/usr/bin/env bash
 # Tries the package on a bare Debian: one made by mmdebstrap that has nothing but the package and what it names, and no kit. An ordinary user
-# gives README's first commands there. An older Debian must say why the program can't run there.
+# gives README's first commands there. In a checkout there, bin/test installs what it needs and tests everything but the proofs. An older
+# Debian must say why the program can't run there.
 #
 #     dist/bare.sh [FOLDER]      (keeps the system in FOLDER, and takes it from there the next time)
 #
-# It fetches some 700 MB from a Debian mirror. Where there is none, or a slow one, or where it isn't root, it ends with 77. The last line is
+# It takes half an hour, and fetches some 1,500 MB from a Debian mirror. Where there is none, or a slow one, or where it isn't root, it ends with 77. The last line is
 # `N passed, M failed`.
 set -u
 top=$(cd "$(dirname "$(readlink -f "$0")")/.." && pwd)
@@ -16,15 +17,21 @@ work=$(mktemp -d)
 system=${1:-$work/system}
 bare=$system
 trap 'umount "$bare/proc" "$bare/dev/shm" 2>/dev/null; rm -rf --one-file-system "$work"' EXIT
-passed=0 failed=0
+passed=0 failed=0 is_root=
 "$top/bin/release" "$work/packages" >/dev/null || skip "there is no package to try"
 
 make() { # FOLDER SUITE
     timeout 400 mmdebstrap --quiet --variant=minbase "$2" "$1" >"$work/log" 2>&1 || { tail -n 3 "$work/log"; skip "no $2 could be made: is there a mirror?"; }
 }
 inside() { chroot "$system" env -i PATH=/usr/sbin:/usr/bin:/sbin:/bin LANG=C.UTF-8 DEBIAN_FRONTEND=noninteractive "$@"; }
-# A user's call, in the user's own folder.
-call() { inside runuser -u user -- sh -c "cd && $1" >"$work/out" 2>"$work/said" </dev/null; }
+# Calls a command in the user's own folder, or as root in the checkout.
+call() {
+    if [ -n "$is_root" ]; then
+        inside HOME=/root sh -c "cd /root/checkout && $1"
+    else
+        inside runuser -u user -- sh -c "cd && $1"
+    fi >"$work/out" 2>"$work/said" </dev/null
+}
 
 # try WHAT STATUS TEXT CALL: the call ends so, and prints or says the text.
 try() {
@@ -50,8 +57,8 @@ cp "$work/packages/"*.deb "$system/root/predator.deb"
     inside timeout 600 apt-get install -y -o Dpkg::Options::=--force-unsafe-io --no-install-recommends clang lld picolibc-riscv64-unknown-elf \
         gcc libc6-dev valgrind libc6-dbg snakemake man-db
     inside id user || inside useradd -m user
-    # (a kept system's user begins anew)
-    inside sh -c 'rm -rf /home/user/* /home/user/.cache'
+    # (a kept system's user and checkout begin anew)
+    inside sh -c 'rm -rf /home/user/* /home/user/.cache /root/checkout'
 } >"$work/log" 2>&1 || { tail -n 5 "$work/log"; skip "the packages couldn't be installed: is there a mirror?"; }
 
 share=/usr/share/predator
@@ -66,6 +73,15 @@ try "a program of this machine" 0 "counters" "gcc -g -O1 -pthread $share/native/
 try "a campaign" 0 "counters" "predator campaign $share/campaign/plans/first.yaml --to first && cat first/table.tsv"
 try "the manual page" 0 "find false sharing" "man predator | cat"
 try "the completion" 0 "explain" "bash -c '. /usr/share/bash-completion/completions/predator; COMP_WORDS=(predator ex) COMP_CWORD=1; _predator; echo \${COMPREPLY[@]}'"
+
+# README's two commands for who works on it. The second one installs what is missing, and without the kit it tests the program of dist/.
+mkdir "$system/root/checkout"
+(cd "$top" && tar -c --exclude=out --exclude=.git --exclude=__pycache__ --exclude=fetched --exclude='*.campaign' .) | tar -x --no-same-owner -C "$system/root/checkout"
+is_root=1
+try "the first command of a checkout" 0 "count 4007" "bin/predator run guest/built/counters.elf"
+try "the test command" 0 ", 0 failed" "bin/test --install"
+grep -E "^(FAILED|skipped)|passed, " "$work/out"
+is_root=
 inside "$share/native/build" >"$work/log" 2>&1
 inside apt-get remove -y predator >"$work/log" 2>&1
 try "what removing leaves" 0 "nothing" "find / -xdev -path '*predator*' ! -path '/home/*' ! -path '/var/lib/dpkg/*' ! -path '/root/*' 2>/dev/null | grep . || echo nothing"
