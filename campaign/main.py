@@ -25,6 +25,7 @@ from campaign.campaign_file import (  # noqa: E402
 )
 from campaign.rerun_commands import settings_text  # noqa: E402
 from view.faults import Fault, plain  # noqa: E402
+from view.reading.program import call_program  # noqa: E402
 
 if TYPE_CHECKING:
     # (which needs packages that may be missing)
@@ -140,9 +141,7 @@ def describe_predator() -> Record:
     launcher, program = os.environ["PREDATOR"], os.environ["PREDATOR_CAMPAIGN"]
     if not os.access(program, os.X_OK):
         raise Fault(f"there is no program {program}", 127)
-    version = subprocess.run(
-        [launcher, "--version"], capture_output=True, encoding="utf-8", stdin=subprocess.DEVNULL
-    ).stdout.strip()
+    version = call_program([launcher], ["--version"], stderr=subprocess.PIPE).text.strip()
     # (the launcher's version is that of its own program)
     if os.environ.get("PREDATOR_PROGRAM"):
         version = "unknown, named by PREDATOR_PROGRAM"
@@ -160,16 +159,9 @@ def checker_of(predator: str) -> "Check":
         with tempfile.NamedTemporaryFile("w", suffix=".toml") as file:
             file.write(settings_text(settings, 0))
             file.flush()
-            ran = subprocess.run(
-                [predator, "check", path, "--settings", file.name],
-                capture_output=True,
-                encoding="latin-1",
-                stdin=subprocess.DEVNULL,
-            )
-        if not ran.returncode:
-            return None
-        first = (ran.stdout or ran.stderr).strip().partition("\n")[0]
-        return first.removeprefix("predator: ")
+            words = ["check", path, "--settings", file.name]
+            answer = call_program([predator], words, stderr=subprocess.PIPE)
+        return (answer.refusal() or answer.reason()) if answer.status else None
 
     return check
 

@@ -6,14 +6,15 @@ import os
 import platform
 import shutil
 import subprocess
-from dataclasses import dataclass
+import sys
 from typing import Sequence, Union
 
 HERE = os.path.dirname(os.path.abspath(__file__))
-TOP = os.path.dirname(os.path.dirname(HERE))
+sys.path.append(os.path.dirname(os.path.dirname(HERE)))
+
+from view.reading.program import Answer, call_program, find_launcher  # noqa: E402
+
 NODE_SCRIPT = os.path.join(os.path.dirname(HERE), "predator.mjs")
-# The launcher of a checkout, and that of the folder where this was installed.
-LAUNCHERS = (os.path.join(TOP, "bin", "predator"), os.path.join(TOP, "..", "..", "bin", "predator"))
 Path = Union[str, "os.PathLike[str]"]
 
 
@@ -23,15 +24,6 @@ class PredatorError(Exception):
     def __init__(self, text: str, status: int) -> None:
         super().__init__(text)
         self.status = status
-
-
-@dataclass(frozen=True)
-class Answer:
-    """What came of a call: the exit status, the printed text, and what was said on standard error."""
-
-    status: int
-    text: str
-    message: str
 
 
 def runs_here() -> bool:
@@ -44,13 +36,9 @@ def find_command() -> list[str]:
     named = os.environ.get("PREDATOR")
     if named:
         return [named]
-    if runs_here():
-        for path in LAUNCHERS:
-            if os.path.exists(path):
-                return [path]
-        found = shutil.which("predator")
-        if found:
-            return [found]
+    found = (find_launcher() or shutil.which("predator")) if runs_here() else None
+    if found:
+        return [found]
     node = shutil.which("node")
     if node and os.path.exists(NODE_SCRIPT):
         return [node, NODE_SCRIPT]
@@ -61,14 +49,7 @@ def call(words: Sequence[str], good: Sequence[int] = (0,)) -> Answer:
     """Calls any command of the program, as `call(["sweep", "t", "--size", "64"])`.
 
     Raises `PredatorError` where it ends with another status than a good one."""
-    ran = subprocess.run(
-        [*find_command(), *words],
-        stdin=subprocess.DEVNULL,
-        stdout=subprocess.PIPE,
-        stderr=subprocess.PIPE,
-    )
-    text, message = ran.stdout.decode("latin-1"), ran.stderr.decode("utf-8", "replace").strip()
-    if ran.returncode not in good:
-        last = message.rpartition("\n")[2] or text.partition("\n")[0]
-        raise PredatorError(last.removeprefix("predator: "), ran.returncode)
-    return Answer(ran.returncode, text, message)
+    answer = call_program(find_command(), words, stderr=subprocess.PIPE)
+    if answer.status not in good:
+        raise PredatorError(answer.reason() or answer.refusal(), answer.status)
+    return answer

@@ -15,7 +15,7 @@ from native.allocators.driver_builds import Driver
 from native.allocators.libraries import list_names
 from native.allocators.results import Row
 from view.faults import Fault
-from view.reading.engine import TOP
+from view.reading.program import TOP
 
 GUEST = os.path.join(TOP, "guest")
 HERE = os.path.join(GUEST, "allocators")

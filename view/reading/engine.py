@@ -11,10 +11,10 @@ import threading
 from typing import Any, Callable, NamedTuple, Sequence, Union
 
 from view.faults import Fault
+from view.reading.program import call_program, find_launcher
 from view.reading.reports import Blame, Explanation, Misses, Placement, Report
 from view.reading.settings import USUAL
 
-TOP = os.path.dirname(os.path.dirname(os.path.dirname(os.path.abspath(__file__))))
 # What a run or a replay ends with where its report is printed.
 REPORT_STATUSES = (0, 10, 11, 12)
 PIECE_BYTES = 1 << 20
@@ -24,14 +24,10 @@ PassResult = Union[Misses, Report, Blame]
 
 def launcher() -> str:
     """The command `predator` of this checkout, or that of the folder where this was installed."""
-    for path in (
-        os.environ.get("PREDATOR"),
-        os.path.join(TOP, "bin", "predator"),
-        os.path.join(TOP, "..", "..", "bin", "predator"),
-    ):
-        if path and os.path.exists(path):
-            return path
-    raise Fault("can't find the command predator", 127)
+    path = find_launcher()
+    if path is None:
+        raise Fault("can't find the command predator", 127)
+    return path
 
 
 class Refused(Fault):
@@ -52,26 +48,15 @@ class Predator:
 
     def output(self, words: Sequence[str | bytes], good: Sequence[int] = (0,), **how: Any) -> str:
         """What a call prints, which must end with one of these statuses."""
-        command = how.pop("command", self.command)
-        ran = subprocess.run(
-            [command, *words],
-            stdout=subprocess.PIPE,
-            stdin=how.pop("stdin", subprocess.DEVNULL),
-            **how,
-        )
-        text = ran.stdout.decode("latin-1")
-        if ran.stderr:
-            self.stderr_text = ran.stderr.decode("utf-8", "replace")
-        if ran.returncode not in good:
-            said = (
-                text.partition("\n")[0]
-                if text.startswith("predator: ")
-                else f"status {ran.returncode}"
-            )
-            if ran.stderr:
-                said += f" ({ran.stderr.decode('utf-8', 'replace').strip().rpartition(chr(10))[2].removeprefix('predator: ')})"
-            raise Refused(f"`predator {words[0]!s}` failed: {said.removeprefix('predator: ')}")
-        return text
+        answer = call_program([how.pop("command", self.command)], words, **how)
+        if answer.message:
+            self.stderr_text = answer.message
+        if answer.status not in good:
+            said = answer.refusal() or f"status {answer.status}"
+            if answer.message:
+                said += f" ({answer.reason()})"
+            raise Refused(f"`predator {words[0]!s}` failed: {said}")
+        return answer.text
 
     def direct_command(self) -> str:
         """The program without its launcher, which a first screen calls dozens of times; or the launcher where that doesn't know it."""
@@ -83,13 +68,8 @@ class Predator:
         return self.direct_path
 
     def program_path(self) -> str:
-        ran = subprocess.run(
-            [self.command, "--where"],
-            stdout=subprocess.PIPE,
-            stderr=subprocess.DEVNULL,
-            stdin=subprocess.DEVNULL,
-        )
-        return os.fsdecode(ran.stdout).rstrip("\n")
+        found = call_program([self.command], ["--where"], stderr=subprocess.DEVNULL)
+        return found.text.rstrip("\n")
 
     def quiet_output(
         self, words: Sequence[str | bytes], good: Sequence[int] = (0,), **how: Any
@@ -102,21 +82,12 @@ class Predator:
     def has_command(self, command: str) -> bool:
         """Whether the program knows a command, by its lines of usage."""
         if self.commands is None:
-            ran = subprocess.run(
-                [self.command],
-                stdout=subprocess.PIPE,
-                stderr=subprocess.PIPE,
-                stdin=subprocess.DEVNULL,
-            )
-            if ran.returncode != 1:
+            answer = call_program([self.command], [], stderr=subprocess.PIPE)
+            if answer.status != 1:
                 raise Fault(
-                    ran.stderr.decode("utf-8", "replace").strip()
-                    or "the command predator fails without a message",
-                    127,
+                    answer.message.strip() or "the command predator fails without a message", 127
                 )
-            self.commands = set(
-                re.findall(r"^usage: predator (\w+)", ran.stdout.decode("latin-1"), re.MULTILINE)
-            )
+            self.commands = set(re.findall(r"^usage: predator (\w+)", answer.text, re.MULTILINE))
         return command in self.commands
 
     def read_report(self, words: Sequence[str], **how: Any) -> Report:
