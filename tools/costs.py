@@ -24,7 +24,8 @@ import tempfile
 from concurrent.futures import Future, ThreadPoolExecutor
 from typing import Callable, NamedTuple
 
-from growth import Call, Cost, measure_once, choose_way
+from growth import Cost, choose_way, measure_once
+from growth_calls import Call
 from made_guests import DATA
 from rv32 import CODE, Code, Segment, elf
 
