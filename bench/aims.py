@@ -2,14 +2,13 @@
 """Measures what the built program is to reach, each beside sha256sum in the same run, and prints a table for
 docs/BENCHMARKS.md.
 
-usage: bench/aims.py [PROGRAM ..]
-
 Each command runs eight times in turn with sha256sum of 200 MiB, and the least times count. A run's figure is
 its steps a second for each MB/s of sha256sum; a replay's is its time beside that of sha256sum of the trace.
 The sort is guest/examples/checksum.c over 100,000 numbers, which wants clang and lld. Where several programs
 are named, such as one of before a change and one of after it, each command runs with each of them in turn,
 and each has a column. A benchmark, no test."""
 
+import argparse
 import os
 import struct
 import subprocess
@@ -211,7 +210,13 @@ def main(programs):
 
 
 if __name__ == "__main__":
-    chosen = [os.path.abspath(it) for it in sys.argv[1:]] or [BUILT]
+    parser = argparse.ArgumentParser(
+        description=__doc__, formatter_class=argparse.RawDescriptionHelpFormatter
+    )
+    parser.add_argument(
+        "programs", nargs="*", metavar="PROGRAM", help="the programs (the built one)"
+    )
+    chosen = [os.path.abspath(it) for it in parser.parse_args().programs] or [BUILT]
     if not all(os.access(it, os.X_OK) for it in chosen):
         sys.exit("bench: build the program first: bin/predator replay examples/counters.trace")
     main(chosen)

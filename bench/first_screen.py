@@ -2,14 +2,13 @@
 """Measures a first screen of `view` of a trace of 20,000,000 accesses beside `replay` of the same trace, and
 compares that with the aim.
 
-usage: bench/first_screen.py [ROUNDS]
-
 Two of the programs of view/tests make that many accesses, as guests: statistics of workers, and a deque of
 work, whose struct has many fields. Each trace is in versions 1, 2 and 3. Both commands run in turn, and the
 middle of what each takes counts: the time of the processors (of all processes that the command waits for) and
 the time that passes. On a busy machine the first says more. It needs the packages of the guest kit and of
 `view`. A benchmark, no test."""
 
+import argparse
 import os
 import re
 import resource
@@ -65,8 +64,14 @@ def measure(words: list[str]) -> tuple[float, float]:
     return after.ru_utime + after.ru_stime - before.ru_utime - before.ru_stime, passed
 
 
-def main(words: list[str]) -> int:
-    rounds, worst = int(words[0]) if words else 5, 0.0
+def main() -> int:
+    parser = argparse.ArgumentParser(
+        description=__doc__, formatter_class=argparse.RawDescriptionHelpFormatter
+    )
+    parser.add_argument(
+        "rounds", nargs="?", type=int, default=5, help="how often both commands run (5)"
+    )
+    rounds, worst = parser.parse_args().rounds, 0.0
     with tempfile.TemporaryDirectory() as folder:
         for name in PROGRAMS:
             *own, elf = make_traces(name, folder)
@@ -92,4 +97,4 @@ def main(words: list[str]) -> int:
 
 
 if __name__ == "__main__":
-    sys.exit(main(sys.argv[1:]))
+    sys.exit(main())

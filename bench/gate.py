@@ -1,12 +1,13 @@
 #!/usr/bin/env python3
 """Runs the gate and says what it took.
 
-bench/gate.py [NAME ..] runs `rt ci [NAME ..]`, and puts the processor minutes that each crate took, for its
+It runs `rt ci` for the crates that are named, or for all, and puts the processor minutes that each crate took, for its
 library, its tests and its edits, into the table of docs/GATE.md. What was kept from an earlier run keeps its
 times there. The times are those of the prover's processes, which are looked at twice a second. With no names,
 on a machine where nothing is kept, it measures the whole gate in one piece. It ends with the status of `rt
 ci`."""
 
+import argparse
 import datetime
 import os
 import re
@@ -108,7 +109,12 @@ def table(rows):
     return "\n".join(shown) + "\n"
 
 
-def main(names):
+def main():
+    parser = argparse.ArgumentParser(
+        description=__doc__, formatter_class=argparse.RawDescriptionHelpFormatter
+    )
+    parser.add_argument("names", nargs="*", metavar="NAME", help="the crates (all)")
+    names = parser.parse_args().names
     begun = time.monotonic()
     gate = subprocess.Popen(["rt", "ci", *names], cwd=TOP)
     parts, seconds = {}, {}
@@ -143,4 +149,4 @@ def main(names):
     return gate.returncode
 
 
-sys.exit(main(sys.argv[1:]))
+sys.exit(main())

@@ -1,12 +1,10 @@
 #!/usr/bin/env python3
 """Writes a trace of N accesses by 8 harts, three writes to a read, from a fixed seed.
 
-usage: make_trace.py N FILE [KIND]
-
 KIND says where they go: `dense`, the usual one, 64 lines of 64 bytes; `random`, 65,536 such lines in random
 order; `ends`, 32,768 words at each end of the address space. """
+import argparse
 import struct
-import sys
 
 
 def dense_access(r, hart):
@@ -22,11 +20,18 @@ def border_access(r, hart):
     return offset if r >> 28 & 1 else 0x100000000 - 4 - offset
 
 
+KINDS = {"dense": dense_access, "random": random_access, "ends": border_access}
+
+
 def main():
-    count, name = int(sys.argv[1]), sys.argv[2]
-    place = {"dense": dense_access, "random": random_access, "ends": border_access}[
-        sys.argv[3] if len(sys.argv) > 3 else "dense"
-    ]
+    parser = argparse.ArgumentParser(
+        description=__doc__, formatter_class=argparse.RawDescriptionHelpFormatter
+    )
+    parser.add_argument("count", type=int, metavar="N")
+    parser.add_argument("name", metavar="FILE")
+    parser.add_argument("kind", nargs="?", choices=KINDS, default="dense", metavar="KIND")
+    call = parser.parse_args()
+    count, name, place = call.count, call.name, KINDS[call.kind]
     record = struct.Struct("<BHIB")
     state = 1
     with open(name, "wb") as out:

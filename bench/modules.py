@@ -1,11 +1,12 @@
 #!/usr/bin/env python3
 """Says what the parts of a crate's proof take.
 
-bench/modules.py CRATE [COUNT] proves a crate from nothing, over libraries that are built, and prints how many
-seconds its COUNT (20) dearest modules took. The prover writes a file for each module once it is checked, so
+It proves a crate from nothing, over libraries that are built, and prints how many seconds its COUNT dearest
+modules took. The prover writes a file for each module once it is checked, so
 the time between two files is that of the later one. What `out/` holds of the crate is put aside, and comes
 back; what `rt ci` kept on this machine counts as proved."""
 
+import argparse
 import os
 import shutil
 import subprocess
@@ -24,8 +25,16 @@ def module_times(folder):
     return [(now - before, name) for (before, _), (now, name) in zip(files, files[1:])]
 
 
-def main(name, count=20):
-    crate = os.path.join(TOP, "crates", name)
+def main():
+    parser = argparse.ArgumentParser(
+        description=__doc__, formatter_class=argparse.RawDescriptionHelpFormatter
+    )
+    parser.add_argument("crate", metavar="CRATE")
+    parser.add_argument(
+        "count", nargs="?", type=int, default=20, metavar="COUNT", help="how many modules (20)"
+    )
+    call = parser.parse_args()
+    crate = os.path.join(TOP, "crates", call.crate)
     out, aside = os.path.join(crate, "out"), os.path.join(crate, "out.aside")
     shutil.rmtree(aside, ignore_errors=True)
     if os.path.isdir(out):
@@ -39,10 +48,10 @@ def main(name, count=20):
         shutil.rmtree(out, ignore_errors=True)
         if os.path.isdir(aside):
             os.rename(aside, out)
-    for seconds, module in sorted(found, reverse=True)[: int(count)]:
+    for seconds, module in sorted(found, reverse=True)[: call.count]:
         print(f"{seconds:7.1f} {module.removesuffix('.oantt')}")
     print(f"{sum(it for it, _ in found):7.1f} all")
     return status
 
 
-sys.exit(main(*sys.argv[1:3]))
+sys.exit(main())

@@ -2,14 +2,13 @@
 """Measures what pcs in a trace cost, what `blame` takes of time and memory, and what `move` takes beside
 `convert`, and compares that with the aims.
 
-usage: bench/pcs.py [PROGRAM]
-
 20,000,000 accesses to 64 lines are written in version 3, with 64 pcs for each of 8 harts, and converted to
 version 2: once each line has a pc of its own, and once any pc comes at any line. `move` moves each word to a
 line of its own, by a table of 512 rows. The commands run five times in turn, and the least time of each
 counts. Then 1,000,000 pairs of instructions take one line: `blame` of that shows its memory. What reading
 alone takes is measured by `crates/benches`, where that is built. A benchmark, no test."""
 
+import argparse
 import functools
 import os
 import struct
@@ -178,4 +177,10 @@ def main(program: str) -> None:
 
 
 if __name__ == "__main__":
-    main(os.path.abspath(sys.argv[1]) if len(sys.argv) > 1 else BUILT)
+    parser = argparse.ArgumentParser(
+        description=__doc__, formatter_class=argparse.RawDescriptionHelpFormatter
+    )
+    parser.add_argument(
+        "program", nargs="?", default=BUILT, metavar="PROGRAM", help="the program (the built one)"
+    )
+    main(os.path.abspath(parser.parse_args().program))

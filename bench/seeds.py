@@ -2,25 +2,22 @@
 """Measures what drawn turns cost: how much longer a step takes under the seed 1 than under the usual
 schedule.
 
-usage: bench/seeds.py [ROUNDS]
-
 Three guests, each with 8 harts and turns of 1, 10 and 100 steps: harts that jump to themselves, so that a
 step is little but its turn; harts in a loop of ten arithmetic instructions, a load, a store and the jump
 back; and guest/built/counters.elf. Both seeds run by turns, ROUNDS times (9; 0 takes no times), and the least
 user times count. Where valgrind is there, the machine instructions of a step of the first two are counted
 too, which a busy machine doesn't change, as the difference of two runs. A benchmark, no test."""
 
+import argparse
 import os
 import re
 import shutil
 import subprocess
-import sys
 import tempfile
 
-import aims
-from aims import ALL, LOOP, TOP, program_file, write_file
+from aims import ALL, BUILT, LOOP, TOP, program_file, write_file
 
-PROGRAM = os.environ.get("PREDATOR_PROGRAM") or aims.PROGRAM
+PROGRAM = os.environ.get("PREDATOR_PROGRAM") or BUILT
 STEPS, FEW = 20_000_000, (100_000, 300_000)
 USUAL = "harts = 8\nstack = 4096\nmemory = 4194304\n"
 COUNTERS = os.path.join(TOP, "guest/built/counters.elf")
@@ -74,7 +71,7 @@ def compare_instructions(work, guest, quantum):
     return ratio_text(*((many - few) / (FEW[1] - FEW[0]) for few, many in found))
 
 
-def main(rounds=9):
+def main(rounds):
     with tempfile.TemporaryDirectory() as work:
         turns, loop = (
             write_file(f"{work}/{name}.elf", program_file(code))
@@ -86,7 +83,7 @@ def main(rounds=9):
         print("|---|---|---|---|---|---|---|---|", flush=True)
         for name, guest in (("turns alone", turns), ("a loop", loop), ("counters", COUNTERS)):
             for quantum in (1, 10, 100):
-                row = compare_times(work, guest, quantum, int(rounds)) if int(rounds) else ["-"] * 3
+                row = compare_times(work, guest, quantum, rounds) if rounds else ["-"] * 3
                 row += (
                     compare_instructions(work, guest, quantum)
                     if shutil.which("valgrind") and guest != COUNTERS
@@ -96,6 +93,15 @@ def main(rounds=9):
 
 
 if __name__ == "__main__":
-    if len(sys.argv) > 2 or sys.argv[1:] and not sys.argv[1].isdigit():
-        sys.exit(__doc__)
-    main(*sys.argv[1:])
+    parser = argparse.ArgumentParser(
+        description=__doc__, formatter_class=argparse.RawDescriptionHelpFormatter
+    )
+    parser.add_argument(
+        "rounds",
+        nargs="?",
+        type=int,
+        default=9,
+        metavar="ROUNDS",
+        help="how often both seeds run (9)",
+    )
+    main(parser.parse_args().rounds)

@@ -1,8 +1,6 @@
 #!/usr/bin/env python3
 """Measures saved states with the built program, and prints a table for docs/BENCHMARKS.md.
 
-usage: bench/states.py
-
 First a made trace of 4,000,000 accesses is replayed whole, and then in ten parts with nine saved states
 between them: the report is to be the same, and the time of all ten is set beside that of the whole. Then a
 state of 65,536 written lines, each with a track, is saved and taken up again, each beside sha256sum of the

@@ -1,6 +1,5 @@
 #!/usr/bin/env python3
-"""Runs the commands of the documents and compares their output with the documents: check_docs.py [--renew]
-[FILE ..].
+"""Runs the commands of the documents and compares their output with the documents.
 
 A command is an indented line that begins with `$ `, and the lines of the same block after it are its output;
 a blank line may be part of a block. All commands of a document run in one folder, which has the folders of
@@ -8,6 +7,7 @@ the repository. A command that needs something that this machine lacks (NEEDS) i
 commands stand between .nf and .fi. --renew writes the output into the documents, to be read before it is
 committed. The status is 1 if anything differs."""
 
+import argparse
 import os
 import re
 import shutil
@@ -156,12 +156,14 @@ def check_manual(renew):
     return wrong
 
 
-def main(words):
-    if "--help" in words or "-h" in words:
-        print(__doc__)
-        return 0
-    names = [it for it in words if not it.startswith("--")]
-    renew = "--renew" in words
+def main():
+    parser = argparse.ArgumentParser(
+        description=__doc__, formatter_class=argparse.RawDescriptionHelpFormatter
+    )
+    parser.add_argument("--renew", action="store_true", help="write the output into the documents")
+    parser.add_argument("names", nargs="*", metavar="FILE", help="the documents (all)")
+    call = parser.parse_args()
+    names, renew = call.names, call.renew
     wrong = 0 if names else check_manual(renew)
     wrong += sum(
         check_document(page, renew)
@@ -170,4 +172,4 @@ def main(words):
     return 1 if wrong else 0
 
 
-sys.exit(main(sys.argv[1:]))
+sys.exit(main())

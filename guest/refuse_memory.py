@@ -2,13 +2,12 @@
 """Refuses memory to the built program, one allocation of a call after the other, and looks at how the call
 ends.
 
-usage: guest/refuse_memory.py
-
 Each call is made once with all memory, and then with its first allocation refused, with its second one, and
 so on. It must end with status 9, print nothing but `predator: no memory` behind a front of what it prints
 else, and leave a front of each file that it writes; or it goes on without that memory, and ends, prints and
 writes as before. It needs a C compiler. bin/try calls it."""
 
+import argparse
 import os
 import subprocess
 import sys
@@ -212,9 +211,9 @@ def main():
         sys.exit(1 if sum(try_call(words) for words in CALLS) else 0)
 
 
-if len(sys.argv) > 1:
-    print(__doc__)
-    sys.exit(0 if sys.argv[1] in ("--help", "-h") else 1)
+argparse.ArgumentParser(
+    description=__doc__, formatter_class=argparse.RawDescriptionHelpFormatter
+).parse_args()
 if not os.access(PROGRAM, os.X_OK):
     sys.exit(
         "refuse_memory.py: build the program first: bin/predator replay examples/counters.trace"

@@ -1,14 +1,13 @@
 #!/usr/bin/env python3
 """Puts load on a server of this machine.
 
-usage: tools/clients.py memcached|redis|http|dns PORT CLIENTS TIMES [--anew] [--in-step] [--again]
-
 So many clients at the same time each set a value of 100 bytes and get it back, so often: under a key of their
 own, or, --anew, under a new one each time. Of http each asks for a page, and of dns, over TCP, for a name
 below `here`, which is to be 10.0.0.1 for an hour. With --in-step all have asked before the first answer is
 read, and with --again each question has a connection of its own. A wrong answer ends it with status 1, and no
 server on the port within a minute too."""
 
+import argparse
 import socket
 import sys
 import time
@@ -101,12 +100,25 @@ def exchange_in_step(clients: list[socket.socket], asked: list[list[Exchange]]) 
             check_answer(client, wanted)
 
 
-def main(words: list[str], options: set[str]) -> None:
-    kind, port, count, times = KINDS[words[0]], *map(int, words[1:])
+def main() -> None:
+    parser = argparse.ArgumentParser(
+        description=__doc__, formatter_class=argparse.RawDescriptionHelpFormatter
+    )
+    parser.add_argument("kind", choices=KINDS)
+    parser.add_argument("port", type=int)
+    parser.add_argument("clients", type=int)
+    parser.add_argument("times", type=int)
+    parser.add_argument("--anew", action="store_true", help="a new key for each value")
+    parser.add_argument(
+        "--in-step", action="store_true", help="all ask before the first answer is read"
+    )
+    parser.add_argument("--again", action="store_true", help="a connection for each question")
+    call = parser.parse_args()
+    kind, port, count, times = KINDS[call.kind], call.port, call.clients, call.times
     until = time.monotonic() + 60
     keys = [
         [
-            b"key-%d-%d" % (client, turn) if "--anew" in options else b"key-%d" % client
+            b"key-%d-%d" % (client, turn) if call.anew else b"key-%d" % client
             for turn in range(times)
         ]
         for client in range(count)
@@ -116,11 +128,11 @@ def main(words: list[str], options: set[str]) -> None:
         for own in keys
     ]
     with ThreadPoolExecutor(count) as pool:
-        if "--again" in options:
+        if call.again:
             list(pool.map(exchange_anew, [port] * count, [until] * count, asked))
             return
         clients = [connect(port, until) for _ in range(count)]
-        if "--in-step" in options:
+        if call.in_step:
             exchange_in_step(clients, asked)
         else:
             list(pool.map(exchange_each, clients, asked))
@@ -128,8 +140,4 @@ def main(words: list[str], options: set[str]) -> None:
 
 KINDS = {"memcached": memcached, "redis": redis, "http": http, "dns": dns}
 if __name__ == "__main__":
-    options = {it for it in sys.argv[1:] if it.startswith("-")}
-    words = [it for it in sys.argv[1:] if it not in options]
-    if len(words) != 4 or words[0] not in KINDS or options - {"--anew", "--in-step", "--again"}:
-        sys.exit(__doc__)
-    main(words, options)
+    main()

@@ -1,15 +1,14 @@
 #!/usr/bin/env python3
 """Writes what documents and scripts repeat of commands.toml, and compares both with the program.
 
-usage: tools/commands.py [--renew | --calls KIND]
-
-Without a word it says which places differ from commands.toml, and where commands.toml differs from the
+Without an option it says which places differ from commands.toml, and where commands.toml differs from the
 crates: in the lines of usage and in the exit statuses; and, with the program that bin/predator runs, in the
 ranges of the settings. --renew writes the places anew.
 
 --calls prints, for the tries, the calls of all commands that read a TRACE or a PROGRAM, read one `twice`,
 have an option as --settings, or have files `written`, with IT in the place of that file."""
 
+import argparse
 import os
 import re
 import subprocess
@@ -514,20 +513,24 @@ def example_calls(table: dict[str, list[Row]], kind: str) -> list[str]:
     return [" ".join(it) for it in found]
 
 
-def main(words: list[str]) -> int:
+def main() -> int:
+    parser = argparse.ArgumentParser(
+        description=__doc__, formatter_class=argparse.RawDescriptionHelpFormatter
+    )
+    choice = parser.add_mutually_exclusive_group()
+    choice.add_argument("--renew", action="store_true", help="write the places anew")
+    choice.add_argument("--calls", metavar="KIND", help="print the calls of a kind")
+    call = parser.parse_args()
     table = read_commands()
-    if words[:1] == ["--calls"] and len(words) == 2:
-        print("\n".join(example_calls(table, words[1])))
+    if call.calls:
+        print("\n".join(example_calls(table, call.calls)))
         return 0
-    if words == ["--renew"]:
+    if call.renew:
         for name, renew in PLACES.items():
             text = renew(read(name), table)
             with open(os.path.join(TOP, name), "w", encoding="utf-8") as file:
                 file.write(text)
         return 0
-    if words:
-        print(__doc__)
-        return 0 if words == ["--help"] else 1
     launcher = os.path.join(TOP, "bin/predator")
     words = [launcher, "check", os.path.join(TOP, "guest/built/apart.elf")]
     is_there = (
@@ -548,4 +551,4 @@ def main(words: list[str]) -> int:
 
 
 if __name__ == "__main__":
-    sys.exit(main(sys.argv[1:]))
+    sys.exit(main())

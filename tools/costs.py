@@ -2,8 +2,6 @@
 """Counts what costs nothing but time: how many machine instructions a step of `run` and an access of `replay`
 take, and how many of them divide.
 
-usage: tools/costs.py PROGRAM
-
 Each row of ROWS has a bound. What is counted is the difference of two calls, one of which has some times as
 many steps or accesses, so that the start doesn't count, nor a busy machine. Beside it the like is counted
 that the program does by its slow way: turns of one step, at which no hart can go ahead, accesses of the first
@@ -13,6 +11,7 @@ how the instructions are counted, by perf or valgrind; the divisions are counted
 objdump, and where these aren't that is said. The status is 1 where a row is above its bound or what is slow
 isn't."""
 
+import argparse
 import functools
 import os
 import re
@@ -24,7 +23,8 @@ import tempfile
 from concurrent.futures import Future, ThreadPoolExecutor
 from typing import Callable, NamedTuple
 
-from growth import Call, Cost, measure_once, choose_way
+from growth import Cost, choose_way, measure_once
+from growth_calls import Call
 from made_guests import DATA
 from rv32 import CODE, Code, Segment, elf
 
@@ -272,16 +272,18 @@ def try_divisions(costs: Costs) -> list[bool]:
     return [judge_row(DIVIDED, "divisions", unit_cost(one, two), unit_cost(three, four))]
 
 
-def main(words: list[str]) -> int:
-    if len(words) != 1 or words[0].startswith("-"):
-        print(__doc__)
-        return 0 if words in (["--help"], ["-h"]) else 1
+def main() -> int:
+    parser = argparse.ArgumentParser(
+        description=__doc__, formatter_class=argparse.RawDescriptionHelpFormatter
+    )
+    parser.add_argument("program", metavar="PROGRAM")
+    program = os.path.abspath(parser.parse_args().program)
     with tempfile.TemporaryDirectory() as folder:
-        costs = Costs(os.path.abspath(words[0]), folder)
+        costs = Costs(program, folder)
         found = try_rows(costs) + try_divisions(costs)
     print(f"{sum(found)} passed, {len(found) - sum(found)} failed ({costs.way.name})")
     return 0 if all(found) else 1
 
 
 if __name__ == "__main__":
-    sys.exit(main(sys.argv[1:]))
+    sys.exit(main())

@@ -1,8 +1,6 @@
 #!/usr/bin/env python3
 """Finds what the documents name and the repository doesn't have.
 
-usage: tools/documents.py [FILE ..]      all documents, unless some are named
-
 Prints `FILE:LINE: NAME` for each
 - path below a crate, as sharing_rules/specs/Lines, with or without crates/ before it, and a crate that
   crates.txt doesn't list; a path that begins with src/, specs/ or proofs/, or a name with the ending .rt, is
@@ -19,6 +17,7 @@ Prints `FILE:LINE: NAME` for each
 - link to a file or to a heading that isn't there.
 It ends with 1 where there are any."""
 
+import argparse
 import os
 import re
 import sys
@@ -240,10 +239,12 @@ def find_wrong_names(
         yield number, dict.fromkeys(found)
 
 
-def main(words: list[str]) -> int:
-    if "--help" in words or "-h" in words:
-        print(__doc__)
-        return 0
+def main() -> int:
+    parser = argparse.ArgumentParser(
+        description=__doc__, formatter_class=argparse.RawDescriptionHelpFormatter
+    )
+    parser.add_argument("documents", nargs="*", metavar="FILE", help="the documents (all)")
+    chosen: list[str] = parser.parse_args().documents
     listed = [
         line.split(":")[0].split()[0]
         for line in read("crates.txt").split("\n")
@@ -254,11 +255,11 @@ def main(words: list[str]) -> int:
     page = read("docs/ARCHITECTURE.md")
     for mistake in (
         []
-        if words
+        if chosen
         else [*wrong_layers(page), *(f"{it}: twice in the glossary" for it in repeated_words(page))]
     ):
         wrong.append(f"docs/ARCHITECTURE.md:1: {mistake}")
-    for name in words or sorted(find_documents()):
+    for name in chosen or sorted(find_documents()):
         if name == promises.PAGE:
             wrong += [
                 f"{name}:{number}: {line}" for number, line in unknown_quotes(read(name), crates)
@@ -274,4 +275,4 @@ def main(words: list[str]) -> int:
 
 
 if __name__ == "__main__":
-    sys.exit(main(sys.argv[1:]))
+    sys.exit(main())

@@ -1,10 +1,6 @@
 #!/usr/bin/env python3
 """The edits that a proof must refuse: each gives one function a wrong body, and its name says what is wrong.
 
-usage: tools/edits.py [CRATE ..]              tries those of crates/*/edits/, of all crates or of those that
-are named
-       tools/edits.py --check [--planted]     compares all edits with the sources, and tries none
-
 The two most significant edits of each crate stand in its must-fail/, where `rt ci` tries them. The others stand
 in edits/ beside it, in the same form: a line `file: src/lib.rt`, and then pairs of lines `old: TEXT` and
 `new: TEXT`.
@@ -19,6 +15,7 @@ there exactly once after its earlier pairs; it changes nothing; its crate has it
 that isn't read; it is the third one in a must-fail/; or crates.txt doesn't list its crate. --planted makes
 each of these mistakes in a copy, and each must be found. The status is 1 if there is a mistake."""
 
+import argparse
 import contextlib
 import os
 import re
@@ -268,22 +265,27 @@ def try_edits(chosen: list[str]) -> int:
     return 1 if failed or left else 0
 
 
-def main(words: list[str]) -> int:
-    if "--help" in words or "-h" in words:
-        print(__doc__)
-        return 0
-    if "--check" in words:
-        return check_edits("--planted" in words)
-    if any(it.startswith("-") for it in words):
-        print(f"edits: unexpected option; {sys.argv[0]} --help prints them", file=sys.stderr)
-        return 2
+def main() -> int:
+    parser = argparse.ArgumentParser(
+        description=__doc__, formatter_class=argparse.RawDescriptionHelpFormatter
+    )
+    parser.add_argument(
+        "crates", nargs="*", metavar="CRATE", help="try the edits of these crates (all)"
+    )
+    parser.add_argument(
+        "--check", action="store_true", help="compare all edits with the sources, and try none"
+    )
+    parser.add_argument("--planted", action="store_true", help="with --check: plant mistakes too")
+    call = parser.parse_args()
+    if call.check:
+        return check_edits(call.planted)
     if not shutil.which("rt"):
         print("edits aren't tried: the Rattle kit isn't installed")
         return SKIPPED
     for number in (signal.SIGTERM, signal.SIGHUP):
         signal.signal(number, lambda *_: sys.exit(1))
-    return try_edits(words)
+    return try_edits(call.crates)
 
 
 if __name__ == "__main__":
-    sys.exit(main(sys.argv[1:]))
+    sys.exit(main())

@@ -1,13 +1,12 @@
 #!/usr/bin/env python3
 """Finds names that a file of the crates imports for contracts and proofs, and doesn't use.
 
-usage: tools/imports.py [--fix] [FILE or FOLDER ..]      all crates, unless some are named
-
 In a .rt file a `ghost use` serves clauses, ghost members and attributes: a name that only Rust's code has is
 unused. In an .antt file a `use` serves all other lines. An operator is used where each of its signs stands by
 itself. Prints `FILE:LINE: NAME` for each, and ends with 1 where there are any. --fix takes them out, with
 lines that nothing is left of; `rt fmt` lays out what remains."""
 
+import argparse
 import os
 import re
 import sys
@@ -210,13 +209,18 @@ def files_below(names: Iterable[str]) -> Iterator[str]:
             )
 
 
-def main(words: list[str]) -> int:
-    if "--help" in words or "-h" in words:
-        print(__doc__)
-        return 0
-    fix = "--fix" in words
+def main() -> int:
+    parser = argparse.ArgumentParser(
+        description=__doc__, formatter_class=argparse.RawDescriptionHelpFormatter
+    )
+    parser.add_argument(
+        "paths", nargs="*", metavar="FILE or FOLDER", help="where to look (all crates)"
+    )
+    parser.add_argument("--fix", action="store_true", help="take the names out")
+    call = parser.parse_args()
+    fix: bool = call.fix
     count = 0
-    for path in files_below([it for it in words if it != "--fix"] or [os.path.join(TOP, "crates")]):
+    for path in files_below(call.paths or [os.path.join(TOP, "crates")]):
         with open(path, encoding="utf-8") as file:
             text = file.read()
         gone = find_unused(text, path.endswith(".rt"))
@@ -230,4 +234,4 @@ def main(words: list[str]) -> int:
 
 
 if __name__ == "__main__":
-    sys.exit(main(sys.argv[1:]))
+    sys.exit(main())

@@ -3,11 +3,10 @@
 stands on nothing of the program. It goes over whole lists: caches are sets of harts, starts and openings
 least positions, and nothing is kept of a line.
 
-usage: tools/judge_report.py PROGRAM [COUNT [SEED]]
-
-makes COUNT (1000) small traces, each with its settings and words, by the random numbers that follow from SEED
+It makes COUNT small traces, each with its settings and words, by the random numbers that follow from SEED
 (1); replays each by PROGRAM, and reports where it prints another report. It ends with 1 where it found one.
 """
+import argparse
 import random
 import struct
 import subprocess
@@ -405,10 +404,20 @@ def random_case(dice: random.Random) -> Case:
     )
 
 
-def main(program: str, count: str | int = 1000, seed: str | int = 1) -> bool:
-    dice, wrong = random.Random(int(seed)), 0
+def main() -> bool:
+    parser = argparse.ArgumentParser(
+        description=__doc__, formatter_class=argparse.RawDescriptionHelpFormatter
+    )
+    parser.add_argument("program", metavar="PROGRAM")
+    parser.add_argument(
+        "count", nargs="?", type=int, default=1000, metavar="COUNT", help="how many traces (1000)"
+    )
+    parser.add_argument("seed", nargs="?", type=int, default=1, metavar="SEED")
+    call = parser.parse_args()
+    program, count, seed = str(call.program), int(call.count), int(call.seed)
+    dice, wrong = random.Random(seed), 0
     with tempfile.TemporaryDirectory() as folder:
-        for number in range(int(count)):
+        for number in range(count):
             case = random_case(dice)
             with open(f"{folder}/trace", "wb") as file:
                 file.write(trace_bytes(case))
@@ -439,7 +448,4 @@ def main(program: str, count: str | int = 1000, seed: str | int = 1) -> bool:
 
 
 if __name__ == "__main__":
-    if not 2 <= len(sys.argv) <= 4 or sys.argv[1] in ("--help", "-h"):
-        print(__doc__)
-        sys.exit(0 if sys.argv[1:2] in (["--help"], ["-h"]) else 1)
-    sys.exit(main(*sys.argv[1:]))
+    sys.exit(main())

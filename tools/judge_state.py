@@ -2,10 +2,10 @@
 """Says what a saved state is by its rules alone, as docs/FORMATS.md has them, and stands on nothing of the
 program.
 
-usage: tools/judge_state.py STATE                      prints `good`, or the place of the first unit at fault
-       tools/judge_state.py STATE PROGRAM TRACE WORDS
-           changes and cuts the state in many ways, replays TRACE from each by PROGRAM with WORDS (settings, a
-           layout), and reports where it prints another result"""
+With STATE alone it prints `good`, or the place of the first unit at fault. Else it changes and cuts the state
+in many ways, replays TRACE from each by PROGRAM with WORDS (settings, a layout), and reports where it prints
+another result."""
+import argparse
 import os
 import struct
 import subprocess
@@ -235,19 +235,24 @@ def is_right_ending(own: Header | None, changed: bytes, status: int, text: str, 
     return text.startswith("predator report 1\n") and status == good
 
 
-def main(words: list[str]) -> int:
-    if not words or words[0] in ("--help", "-h"):
-        print(__doc__)
-        return 0 if words else 1
-    if len(words) == 1:
-        with open(words[0], "rb") as file:
+def main() -> int:
+    parser = argparse.ArgumentParser(
+        description=__doc__, formatter_class=argparse.RawDescriptionHelpFormatter
+    )
+    parser.add_argument("state", metavar="STATE")
+    parser.add_argument("program", nargs="?", metavar="PROGRAM")
+    parser.add_argument("trace", nargs="?", metavar="TRACE")
+    parser.add_argument("words", nargs=argparse.REMAINDER, metavar="WORDS")
+    call = parser.parse_args()
+    if call.program is None:
+        with open(call.state, "rb") as file:
             place = judge_state(file.read())[1]
         print("good" if place is None else f"BadState {place}")
         return 0
-    tried, wrong = judge_changes(words[0], words[1], words[2], words[3:])
+    tried, wrong = judge_changes(call.state, call.program, call.trace, call.words)
     print(f"{tried} tried, {wrong} wrong")
     return 1 if wrong else 0
 
 
 if __name__ == "__main__":
-    sys.exit(main(sys.argv[1:]))
+    sys.exit(main())

@@ -1,9 +1,7 @@
 #!/usr/bin/env python3
 """Judges a program on random traces by recount.py and judge_state.py, which share no code with it.
 
-usage: tools/judge_traces.py PROGRAM [COUNT [SEED]]
-
-makes COUNT (200) small traces as judge_report.py does, by the random numbers that follow from SEED (1). Of
+It makes COUNT small traces as judge_report.py does, by the random numbers that follow from SEED (1). Of
 each, the observed lines that PROGRAM reports must be those of a recount; and where it is cut at a random
 access, the state that is saved of its first half must be good, and the second half, carried on from it, must
 have the report of the whole. With random pcs, in version 3, it must have the same report, the same accesses
@@ -12,6 +10,7 @@ trace without pcs, must be what recount_blame.py does. By a random table it must
 recount_move.py moves it, or be refused so. Some of the states are changed in each byte and cut at each, and
 what PROGRAM says of them is compared. It ends with 1 where anything differs."""
 
+import argparse
 import os
 import random
 import subprocess
@@ -195,10 +194,20 @@ def find_faults(
         yield "its halves have another report, or a bad state"
 
 
-def main(program: str, count: str | int = 200, seed: str | int = 1) -> bool:
-    dice, wrong, changed = random.Random(int(seed)), recount_move.try_worked(), 0
+def main() -> bool:
+    parser = argparse.ArgumentParser(
+        description=__doc__, formatter_class=argparse.RawDescriptionHelpFormatter
+    )
+    parser.add_argument("program", metavar="PROGRAM")
+    parser.add_argument(
+        "count", nargs="?", type=int, default=200, metavar="COUNT", help="how many traces (200)"
+    )
+    parser.add_argument("seed", nargs="?", type=int, default=1, metavar="SEED")
+    call = parser.parse_args()
+    program, count, seed = str(call.program), int(call.count), int(call.seed)
+    dice, wrong, changed = random.Random(seed), recount_move.try_worked(), 0
     with tempfile.TemporaryDirectory() as folder:
-        for number in range(int(count)):
+        for number in range(count):
             case = random_case(dice)
             words = write_case(folder, case)
             faults = list(find_faults(program, folder, dice, case, words))
@@ -219,7 +228,4 @@ def main(program: str, count: str | int = 200, seed: str | int = 1) -> bool:
 
 
 if __name__ == "__main__":
-    if not 2 <= len(sys.argv) <= 4 or sys.argv[1] in ("--help", "-h"):
-        print(__doc__)
-        sys.exit(0 if sys.argv[1:2] in (["--help"], ["-h"]) else 1)
-    sys.exit(main(*sys.argv[1:]))
+    sys.exit(main())

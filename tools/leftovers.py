@@ -1,8 +1,6 @@
 #!/usr/bin/env python3
 """Finds what a review would take out of the crates.
 
-usage: tools/leftovers.py [CRATE ..]      all crates, unless some are named
-
 Prints `FILE:LINE: WHAT` for each
 - dead item: one of specs/ or proofs/ that nothing names but itself and imports that nothing uses. Answers to
   goals, invariants and the worked cases (files whose name begins with Worked) stand for themselves;
@@ -10,6 +8,7 @@ Prints `FILE:LINE: WHAT` for each
 - comment that says no more than the name under it.
 It ends with 1 where there are any."""
 
+import argparse
 import os
 import re
 import sys
@@ -206,15 +205,17 @@ def repeated_comments(source: Source) -> Iterator[str]:
             yield f"{source.path}:{number + 1}: comment that repeats the name: {found[1]}"
 
 
-def main(words: list[str]) -> int:
-    if "--help" in words or "-h" in words:
-        print(__doc__)
-        return 0
+def main() -> int:
+    parser = argparse.ArgumentParser(
+        description=__doc__, formatter_class=argparse.RawDescriptionHelpFormatter
+    )
+    parser.add_argument("crates", nargs="*", metavar="CRATE", help="the crates (all)")
+    crates: list[str] = parser.parse_args().crates
     sources = [Source(it) for it in imports.files_below([os.path.join(TOP, "crates")])]
     chosen = [
         source
         for source in sources
-        if not words or os.path.relpath(source.path, f"{TOP}/crates").split(os.sep)[0] in words
+        if not crates or os.path.relpath(source.path, f"{TOP}/crates").split(os.sep)[0] in crates
     ]
     found = list(dead_items(sources, chosen))
     for source in chosen:
@@ -233,4 +234,4 @@ def main(words: list[str]) -> int:
 
 
 if __name__ == "__main__":
-    sys.exit(main(sys.argv[1:]))
+    sys.exit(main())

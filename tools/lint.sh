@@ -3,7 +3,8 @@
 #
 #     shell     shellcheck, over each shell script, with .shellcheckrc
 #     python    black (its layout, with pyproject.toml) and flake8 (with setup.cfg), over all Python
-#     types     mypy --strict, over campaign/, native/allocators/, bench/clock/, tools/ and anywhere/, and mypy over view/, with setup.cfg
+#     types     mypy --strict, over view/, campaign/, native/allocators/, bench/clock/, tools/ and anywhere/, with setup.cfg (of tests only
+#               those of anywhere/)
 #     c         clang-format, clang-tidy and gcc's analyzer, over native/ (anywhere/: clang-format alone) and, by the cross compiler that the kit's C library comes with, over the kit; a warning is an error
 #
 # What isn't installed is skipped: the status is 77, and the last line names it.
@@ -121,7 +122,7 @@ case ${1:-} in
         cache=$(mktemp -d)
         trap 'rm -rf "$cache"' EXIT
         mapfile -t found < <(python_files | grep '^view/' | grep -v '^view/tests/')
-        check_types "${found[@]}"
+        check_types --strict "${found[@]}"
         mapfile -t found < <(python_files | grep '^campaign/' | grep -v '^campaign/\(tests\|profiles\)/')
         check_types --strict --follow-imports=silent "${found[@]}"
         mapfile -t found < <(python_files | grep '^native/allocators/' | grep -v '/tests/')

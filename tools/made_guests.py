@@ -29,6 +29,20 @@ class Guest(NamedTuple):
     status: int = 0
 
 
+class GuestCase(NamedTuple):
+    """A guest of two sizes, of which `size` is the lesser one, and the commands that it is made for; the
+    greatest size that it may have; a size that costs next to nothing, if another guest can't stand for that;
+    and commands whose text of it is a square."""
+
+    name: str
+    make: Callable[[int], Guest]
+    size: int
+    commands: str
+    most: int = 1 << 16
+    least: int = 0
+    never: str = ""
+
+
 def guest_of_code(code: Code) -> bytes:
     """The program of code without variables."""
     return elf([Segment(CODE, code.bytes(), 4 * len(code.words), 5)])
@@ -486,113 +500,6 @@ def large(n: int) -> Guest:
     )
 
 
-# ---- Schedules and settings, by their bytes.
-
-
-def two_turns(budget: int) -> Guest:
-    """Two harts go round."""
-    code = Code()
-    code.jump("begin")
-    code.label("worker")
-    code.jump("worker")
-    code.label("begin")
-    code.call("spawn", WORKER, 0)
-    code.jump("worker")
-    return Guest(
-        guest_of_code(code), f"budget={budget}", "budget", ((f"steps {budget}", 1),), status=10
-    )
-
-
-def schedule(n: int) -> Guest:
-    """The two harts take turns."""
-    return two_turns(n // 4)._replace(schedule=b"0 1\n1 1\n" * (n // 8))
-
-
-def schedule_of_others(n: int) -> Guest:
-    """Turns of harts that can't run, and one of the first hart behind each few."""
-    return two_turns(n // 64)._replace(schedule=(b"7 1\n" * 15 + b"0 1\n") * (n // 64))
-
-
-def schedule_of_nothing(n: int) -> Guest:
-    """Empty lines."""
-    return two_turns(1)._replace(schedule=b"\n" * n)
-
-
-def schedule_refused(n: int) -> Guest:
-    """Its last line is bad."""
-    return two_turns(1)._replace(
-        schedule=b"0 1\n" * (n // 4 - 1) + b"0  1",
-        run=((f"predator: schedule BadLine {n // 4}", 1),),
-        status=3,
-    )
-
-
-def guest_with_settings(text: str, fault: str = "") -> Guest:
-    if not fault:
-        return ends(1)._replace(file=text.encode(), checked=(("objects 0", 1),))
-    return ends(1)._replace(
-        file=text.encode(), checked=((f"predator: settings {fault}", 1),), status=4
-    )
-
-
-def comments(n: int) -> Guest:
-    return guest_with_settings("#\n" * (n // 4 - 8) + "report = 1\n" + "  " * (n // 4 - 8))
-
-
-def keys(n: int) -> Guest:
-    return guest_with_settings(
-        "".join(f"k{i:06}=1\n" for i in range(n // 10)), "UnknownKey k000000"
-    )
-
-
-def long_key(n: int) -> Guest:
-    return guest_with_settings("k" * (n - 8) + " = 1\n", "UnknownKey " + 1024 * "k")
-
-
-def tables(n: int) -> Guest:
-    return guest_with_settings("".join(f"[k{i:05}]\n" for i in range(n // 9)), "UnknownKey k00000")
-
-
-def tables_in_tables(n: int) -> Guest:
-    return guest_with_settings("".join(f"[k.k{i:05}]\n" for i in range(n // 11)), "UnknownKey k")
-
-
-def arrays_of_tables(n: int) -> Guest:
-    return guest_with_settings("[[k]]\n" * (n // 6), "UnknownKey k")
-
-
-def dotted(n: int) -> Guest:
-    return guest_with_settings(
-        "".join(f"k.k{i:05}.a.b.c=1\n" for i in range(n // 17)), "UnknownKey k"
-    )
-
-
-def arrays(n: int) -> Guest:
-    return guest_with_settings("k = [" + "1," * (n // 2 - 8) + "]\n", "UnknownKey k")
-
-
-def arrays_in_arrays(n: int) -> Guest:
-    return guest_with_settings("k = [" + "[[[[]]]]," * (n // 9 - 2) + "]\n", "UnknownKey k")
-
-
-def strings(n: int) -> Guest:
-    return guest_with_settings('k = "' + "\\n" * (n // 2 - 8) + '"\n', "UnknownKey k")
-
-
-class GuestCase(NamedTuple):
-    """A guest of two sizes, of which `size` is the lesser one, and the commands that it is made for; the
-    greatest size that it may have; a size that costs next to nothing, if another guest can't stand for that;
-    and commands whose text of it is a square."""
-
-    name: str
-    make: Callable[[int], Guest]
-    size: int
-    commands: str
-    most: int = 1 << 16
-    least: int = 0
-    never: str = ""
-
-
 CASES = [
     GuestCase("guest: blocks freed in order", freed_in_order, 4096, "run run--trace"),
     GuestCase("guest: blocks freed in reverse", freed_in_reverse, 4096, "run"),
@@ -618,18 +525,4 @@ CASES = [
     GuestCase("program file: segments", segments, 2048, "check", 65535),
     GuestCase("program file: names in one", names_of_one, 4096, "check"),
     GuestCase("program file: large", large, 1 << 22, "check run", 1 << 24),
-    GuestCase("schedule: two in turn", schedule, 1 << 18, "run", 1 << 20, 64),
-    GuestCase("schedule: harts that can't run", schedule_of_others, 1 << 18, "run", 1 << 20, 64),
-    GuestCase("schedule: empty lines", schedule_of_nothing, 1 << 18, "run", 1 << 20, 64),
-    GuestCase("schedule: refused", schedule_refused, 1 << 18, "run", 1 << 20, 64),
-    GuestCase("settings: comments and blanks", comments, 1 << 14, "check", 1 << 16, 1 << 11),
-    GuestCase("settings: keys", keys, 1 << 14, "check", 1 << 16, 1 << 11),
-    GuestCase("settings: a long key", long_key, 1 << 14, "check", 1 << 16, 1 << 11),
-    GuestCase("settings: tables", tables, 1 << 14, "check", 1 << 16, 1 << 11),
-    GuestCase("settings: tables in a table", tables_in_tables, 1 << 14, "check", 1 << 16, 1 << 11),
-    GuestCase("settings: arrays of tables", arrays_of_tables, 1 << 14, "check", 1 << 16, 1 << 11),
-    GuestCase("settings: dotted keys", dotted, 1 << 14, "check", 1 << 16, 1 << 11),
-    GuestCase("settings: a long array", arrays, 1 << 14, "check", 1 << 16, 1 << 11),
-    GuestCase("settings: arrays in arrays", arrays_in_arrays, 1 << 14, "check", 1 << 16, 1 << 11),
-    GuestCase("settings: a long string", strings, 1 << 14, "check", 1 << 16, 1 << 11),
 ]

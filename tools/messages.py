@@ -1,8 +1,6 @@
 #!/usr/bin/env python3
 """Compares what the program says of wrong words and files, whole, with what is to be said by commands.toml.
 
-usage: tools/messages.py PROGRAM [--planted]
-
 Each key of the settings and each number among the words is given its bounds and what lies just beyond them,
 the keys in a file, with `--set`, and in one of them while the other is right. The expected message names the
 right file, or none. Its ranges and names come from commands.toml, so a message with another range than the
@@ -13,6 +11,7 @@ contain control characters. tools/edges tests the messages for system failures.
 With --planted each range of commands.toml is then widened, one after the other, as if the program enforced
 another range or printed another one than it enforces. Each must be found."""
 
+import argparse
 import os
 import subprocess
 import sys
@@ -548,11 +547,14 @@ KINDS = {
 }
 
 
-def main(words: list[str]) -> int:
-    if len(words) not in (1, 2) or words[0].startswith("-") or words[1:] not in ([], ["--planted"]):
-        print(__doc__)
-        return 0 if words in (["--help"], ["-h"]) else 1
-    program, tried = os.path.abspath(words[0]), dict[str, int]()
+def main() -> int:
+    parser = argparse.ArgumentParser(
+        description=__doc__, formatter_class=argparse.RawDescriptionHelpFormatter
+    )
+    parser.add_argument("program", metavar="PROGRAM")
+    parser.add_argument("--planted", action="store_true", help="then widen each range too")
+    call = parser.parse_args()
+    program, tried = os.path.abspath(call.program), dict[str, int]()
     failed: list[str] = []
     with tempfile.TemporaryDirectory() as folder:
         os.chdir(folder)
@@ -563,7 +565,7 @@ def main(words: list[str]) -> int:
         for what, kind in KINDS.items():
             tried[what] = len(list(kind()))
             failed += find_failures(program, kind())
-        if "--planted" in words:
+        if call.planted:
             tried["planted"] = len(TABLE["setting"]) + len(TABLE["number"])
             failed += try_planted(program)
         os.chdir("/")
@@ -575,4 +577,4 @@ def main(words: list[str]) -> int:
 
 
 if __name__ == "__main__":
-    sys.exit(main(sys.argv[1:]))
+    sys.exit(main())

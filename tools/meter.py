@@ -1,13 +1,12 @@
 #!/usr/bin/env python3
 """Tries what a terminal is shown of long work: that each line has the right numbers in the right places.
 
-usage: tools/meter.py PROGRAM [SECONDS]
-
-lets PROGRAM make a trace, replay it, and run a guest that never ends, each of a size that lasts some SECONDS
-(3) here, with a pseudo terminal as standard error. A line is wanted about once a second: its second number is
+It lets PROGRAM make a trace, replay it, and run a guest that never ends, each of a size that lasts some SECONDS
+here, with a pseudo terminal as standard error. A line is wanted about once a second: its second number is
 the whole, and its first one grows towards it as time goes by. Into a file nothing may be shown. It ends with
 1 where a line is wrong, or none came."""
 
+import argparse
 import os
 import pty
 import re
@@ -112,11 +111,19 @@ def list_tries(program: str, seconds: float, folder: str) -> Iterator[Try]:
     ], 10, STEPS, lambda: steps // 1_000_000, True
 
 
-def main(program: str, seconds: str | float = 3.0) -> int:
-    found = []
+def main() -> int:
+    parser = argparse.ArgumentParser(
+        description=__doc__, formatter_class=argparse.RawDescriptionHelpFormatter
+    )
+    parser.add_argument("program", metavar="PROGRAM")
+    parser.add_argument(
+        "seconds", nargs="?", type=float, default=3.0, metavar="SECONDS", help="(3)"
+    )
+    call = parser.parse_args()
+    program, found = str(call.program), []
     with tempfile.TemporaryDirectory() as folder:
         for what, words, wanted, form, whole, has_total in list_tries(
-            program, float(seconds), folder
+            program, call.seconds, folder
         ):
             shown, took, status = record_terminal([program, *words])
             if status != wanted:
@@ -140,4 +147,4 @@ def main(program: str, seconds: str | float = 3.0) -> int:
 
 
 if __name__ == "__main__":
-    sys.exit(main(*sys.argv[1:]))
+    sys.exit(main())

@@ -1,12 +1,11 @@
 #!/usr/bin/env python3
 """Makes the pictures of the documents: pages of the program, as Debian's chromium shows them.
 
-usage: tools/pictures.py [NAME ..]
-
-Each picture is a PNG of at most 100 KB in docs/pictures. Those that are named are made, or all. Nothing in
+Each picture is a PNG of at most 100 KB in docs/pictures. Nothing in
 them is drawn by hand. It needs the program, chromium and what `predator view` needs: without chromium the
 status is 77, and no picture is changed."""
 
+import argparse
 import os
 import shutil
 import subprocess
@@ -86,7 +85,12 @@ def draw(name: str, browser: str) -> str:
     return f"{os.path.relpath(to, TOP)}: {size} bytes"
 
 
-def main(names: list[str]) -> int:
+def main(words: list[str]) -> int:
+    parser = argparse.ArgumentParser(
+        description=__doc__, formatter_class=argparse.RawDescriptionHelpFormatter
+    )
+    parser.add_argument("names", nargs="*", metavar="NAME", help="the pictures (all)")
+    names: list[str] = parser.parse_args(words).names
     unknown = [it for it in names if it not in PICTURES]
     if unknown:
         print(f"there is no picture {unknown[0]}: there are {', '.join(PICTURES)}", file=sys.stderr)

@@ -1,9 +1,6 @@
 #!/usr/bin/env python3
 """The functions, clauses and definitions that docs/PROMISES.md names, compared with the crates.
 
-usage: tools/promises.py             compares docs/PROMISES.md with the crates
-       tools/promises.py --planted   plants mistakes in copies of it, and fails unless each is found
-
 In the document a promise is a paragraph, followed by its references, one a line:
 
     - `CRATE::FUNCTION`: `CLAUSE`, `CLAUSE`       clauses that a function ensures; a method is
@@ -18,6 +15,7 @@ In the document a promise is a paragraph, followed by its references, one a line
 Prints `LINE: what is wrong` for each reference that the crates don't have, and for each promise that
 names no function. It ends with 1 if there is any."""
 
+import argparse
 import os
 import re
 import sys
@@ -338,17 +336,23 @@ def missed_mistakes(crates: dict[str, Crate], text: str) -> Iterator[str]:
             yield f"a planted mistake isn't found: {wrong or right}"
 
 
-def main(words: list[str]) -> int:
-    if words not in ([], ["--planted"]):
-        print(__doc__)
-        return 0 if words in (["--help"], ["-h"]) else 1
+def main() -> int:
+    parser = argparse.ArgumentParser(
+        description=__doc__, formatter_class=argparse.RawDescriptionHelpFormatter
+    )
+    parser.add_argument(
+        "--planted",
+        action="store_true",
+        help="plant mistakes in copies of the document, and fail unless each is found",
+    )
+    is_planted: bool = parser.parse_args().planted
     crates, text = read_crates(), read(PAGE)
-    wrong = [*(missed_mistakes if words else wrong_references)(crates, text)]
+    wrong = [*(missed_mistakes if is_planted else wrong_references)(crates, text)]
     print("\n".join(wrong), end="\n" if wrong else "")
-    what = f"{len(MISTAKES)} mistakes" if words else f"{len([*references(text)])} references"
-    print(f"{PAGE}: {what}, {len(wrong)} {'missed' if words else 'wrong'}")
+    what = f"{len(MISTAKES)} mistakes" if is_planted else f"{len([*references(text)])} references"
+    print(f"{PAGE}: {what}, {len(wrong)} {'missed' if is_planted else 'wrong'}")
     return 1 if wrong else 0
 
 
 if __name__ == "__main__":
-    sys.exit(main(sys.argv[1:]))
+    sys.exit(main())

@@ -1,12 +1,11 @@
 #!/usr/bin/env python3
 """Counts the observed lines of a trace anew.
 
-usage: tools/recount.py TRACE [SIZE SHIFT TRACKING REPORT]      (64 0 16 100 unless they are given)
-
 Written from docs/RULES.md and the trace of docs/FORMATS.md alone, as slow and plain as they are: one cache
 without bounds for each hart, and a write takes its line out of all others. It prints each observed line that
 is listed as a report does, up to its count."""
 
+import argparse
 import sys
 
 from traces import read_accesses
@@ -37,20 +36,26 @@ def recount_lines(
     )
 
 
-def main(words: list[str]) -> int:
-    if not words or words[0] in ("--help", "-h"):
-        print(__doc__)
-        return 0 if words else 1
-    numbers = [int(it) for it in words[1:]]
-    with open(words[0], "rb") as file:
+def main() -> int:
+    parser = argparse.ArgumentParser(
+        description=__doc__, formatter_class=argparse.RawDescriptionHelpFormatter
+    )
+    parser.add_argument("trace", metavar="TRACE")
+    for name, usual in (("size", 64), ("shift", 0), ("tracking", 16), ("report", 100)):
+        parser.add_argument(
+            name, nargs="?", type=int, default=usual, metavar=name.upper(), help=f"({usual})"
+        )
+    call = parser.parse_args()
+    numbers = call.size, call.shift, call.tracking, call.report
+    with open(call.trace, "rb") as file:
         for base, start, count in recount_lines(file.read(), *numbers):
             print(
                 "line observed"
-                f" {'-' if base < 0 else ''}0x{abs(base):08x} {(numbers + [64])[0]} start"
+                f" {'-' if base < 0 else ''}0x{abs(base):08x} {call.size} start"
                 f" {start} count {count}"
             )
     return 0
 
 
 if __name__ == "__main__":
-    sys.exit(main(sys.argv[1:]))
+    sys.exit(main())

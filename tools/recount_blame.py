@@ -1,13 +1,11 @@
 #!/usr/bin/env python3
 """Counts anew by which instructions the lines of a trace with pcs are taken.
 
-usage: tools/recount_blame.py TRACE [--size N] [--shift N]       (64 and 0 unless they are given)
-       tools/recount_blame.py --try                              the worked lists below, and what they are to give
-
 Written from docs/RULES.md and the trace of docs/FORMATS.md alone: of each line the harts whose caches hold
 it, and the latest access of each hart that came. It prints what `predator blame` prints, also where the trace
 has no pcs."""
 
+import argparse
 import sys
 from collections import Counter
 from typing import Iterable, Iterator, NamedTuple
@@ -160,19 +158,22 @@ def try_worked() -> int:
     return wrong
 
 
-def main(words: list[str]) -> int:
-    if words == ["--try"]:
+def main() -> int:
+    parser = argparse.ArgumentParser(
+        description=__doc__, formatter_class=argparse.RawDescriptionHelpFormatter
+    )
+    choice = parser.add_mutually_exclusive_group(required=True)
+    choice.add_argument("trace", nargs="?", metavar="TRACE")
+    choice.add_argument("--try", action="store_true", dest="tries", help="try the worked lists")
+    parser.add_argument("--size", type=int, default=64, metavar="N", help="(64)")
+    parser.add_argument("--shift", type=int, default=0, metavar="N", help="(0)")
+    call = parser.parse_args()
+    if call.tries:
         return 1 if try_worked() else 0
-    options = {"--size": 64, "--shift": 0}
-    for name, number in zip(words[1::2], words[2::2]):
-        options[name] = int(number)
-    if len(words) % 2 == 0 or words[0].startswith("-") or len(options) > 2:
-        print(__doc__)
-        return 0 if words in (["--help"], ["-h"]) else 1
-    with open(words[0], "rb") as file:
-        sys.stdout.writelines(f"{it}\n" for it in blame_text(file.read(), *options.values()))
+    with open(call.trace, "rb") as file:
+        sys.stdout.writelines(f"{it}\n" for it in blame_text(file.read(), call.size, call.shift))
     return 0
 
 
 if __name__ == "__main__":
-    sys.exit(main(sys.argv[1:]))
+    sys.exit(main())

@@ -1,13 +1,12 @@
 #!/usr/bin/env python3
 """Moves the accesses of a trace by a table anew.
 
-usage: tools/recount_move.py TRACE TABLE FILE      writes FILE, and prints what `predator move` prints, also
-where it refuses
-       tools/recount_move.py --try                 the worked lists below, and what they are to give
+It writes FILE, and prints what `predator move` prints, also where it refuses.
 
 Written from docs/RULES.md and docs/FORMATS.md alone: each access is looked for in all ranges, and in all
 places. Of a file that is no trace it says nothing."""
 
+import argparse
 import re
 import struct
 import sys
@@ -137,20 +136,25 @@ def try_worked() -> int:
     return 1 if wrong else 0
 
 
-def main(words: list[str]) -> int:
-    if words == ["--try"]:
+def main() -> int:
+    parser = argparse.ArgumentParser(
+        description=__doc__, formatter_class=argparse.RawDescriptionHelpFormatter
+    )
+    parser.add_argument("--try", action="store_true", dest="tries", help="try the worked lists")
+    parser.add_argument("files", nargs="*", metavar="TRACE TABLE FILE")
+    call = parser.parse_args()
+    if call.tries:
         return try_worked()
-    if len(words) != 3 or words[0].startswith("-"):
-        print(__doc__)
-        return 0 if words in (["--help"], ["-h"]) else 1
-    with open(words[0], "rb") as trace, open(words[1], "rb") as table:
+    if len(call.files) != 3:
+        parser.error("TRACE, TABLE and FILE, or --try")
+    with open(call.files[0], "rb") as trace, open(call.files[1], "rb") as table:
         line, made = move_trace(trace.read(), table.read())
     print(line)
     if made is not None:
-        with open(words[2], "wb") as file:
+        with open(call.files[2], "wb") as file:
             file.write(made)
     return 0 if line.startswith("move ") else 14
 
 
 if __name__ == "__main__":
-    sys.exit(main(sys.argv[1:]))
+    sys.exit(main())

@@ -1,13 +1,11 @@
 #!/usr/bin/env python3
 """Places the words of an object of a trace anew, and counts what that comes to.
 
-usage: tools/recount_place.py TRACE NAME [--size N]              (64 unless it is given)
-       tools/recount_place.py --try                              the worked lists below, and what they are to give
-
 Written from docs/RULES.md and the trace of docs/FORMATS.md alone, over whole lists: the harts that touch each
 word, the groups one behind the other, and the list with its accesses moved, counted by plain caches. It
 prints what `predator place` prints, also where it refuses."""
 
+import argparse
 import re
 import sys
 from typing import Iterable, Mapping, Sequence
@@ -146,19 +144,25 @@ def try_worked() -> int:
     return wrong
 
 
-def main(words: list[str]) -> int:
-    if words == ["--try"]:
+def main() -> int:
+    parser = argparse.ArgumentParser(
+        description=__doc__, formatter_class=argparse.RawDescriptionHelpFormatter
+    )
+    parser.add_argument("--try", action="store_true", dest="tries", help="try the worked lists")
+    parser.add_argument("trace", nargs="?", metavar="TRACE")
+    parser.add_argument("name", nargs="?", metavar="NAME", help="the object's")
+    parser.add_argument("--size", type=int, default=64, metavar="N", help="(64)")
+    call = parser.parse_args()
+    if call.tries:
         return 1 if try_worked() else 0
-    if len(words) not in (2, 4) or words[2:3] not in ([], ["--size"]):
-        print(__doc__)
-        return 0 if words in (["--help"], ["-h"]) else 1
-    with open(words[0], "rb") as file:
+    if call.name is None:
+        parser.error("TRACE and NAME, or --try")
+    with open(call.trace, "rb") as file:
         sys.stdout.writelines(
-            f"{line}\n"
-            for line in place_text(file.read(), words[1].encode(), int((words[3:] or ["64"])[0]))
+            f"{line}\n" for line in place_text(file.read(), call.name.encode(), call.size)
         )
     return 0
 
 
 if __name__ == "__main__":
-    sys.exit(main(sys.argv[1:]))
+    sys.exit(main())

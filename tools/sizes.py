@@ -2,8 +2,6 @@
 """Gives the program much of everything, and little memory: long traces through every command that passes over
 one, runs of many steps, many lines, large files. No want of memory, no cut and no wrong count may come of it.
 
-usage: tools/sizes.py PROGRAM [--long]
-
 Each call has half of the usual stack, and an address space of so many bytes as its row says, so that one that
 holds a trace, or takes pieces of a GiB, ends with want of memory. What it prints is known: two harts take one
 line from each other at each access, or write so many lines. The short form takes a trace of more than 2^24
@@ -14,6 +12,7 @@ an output and a trace of more than 32 MiB, and a report of more than 64 MiB. The
 takes the longer trace through every command. Memory that is refused at any one place is tried by
 guest/refuse_memory.py."""
 
+import argparse
 import hashlib
 import os
 import resource
@@ -501,14 +500,19 @@ def tries_by_kind(is_long: bool) -> Iterator[list[Try]]:
     yield list(trace_tries("long", LONGER)) if is_long else list(trace_tries("long", LONGER))[:1]
 
 
-def main(words: list[str]) -> int:
-    if len(words) not in (1, 2) or words[0].startswith("-") or words[1:] not in ([], ["--long"]):
-        print(__doc__)
-        return 0 if words in (["--help"], ["-h"]) else 1
-    program, tried, failed = os.path.abspath(words[0]), 0, 0
+def main() -> int:
+    parser = argparse.ArgumentParser(
+        description=__doc__, formatter_class=argparse.RawDescriptionHelpFormatter
+    )
+    parser.add_argument("program", metavar="PROGRAM")
+    parser.add_argument(
+        "--long", action="store_true", help="take the longer trace through every command"
+    )
+    call = parser.parse_args()
+    program, tried, failed = os.path.abspath(call.program), 0, 0
     with tempfile.TemporaryDirectory() as folder:
         os.chdir(folder)
-        for tries in tries_by_kind("--long" in words):
+        for tries in tries_by_kind(call.long):
             with ThreadPoolExecutor(len(os.sched_getaffinity(0))) as pool:
                 for attempt, fault in zip(
                     tries, pool.map(lambda attempt: find_fault(program, attempt), tries)
@@ -525,4 +529,4 @@ def main(words: list[str]) -> int:
 
 
 if __name__ == "__main__":
-    sys.exit(main(sys.argv[1:]))
+    sys.exit(main())

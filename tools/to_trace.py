@@ -2,9 +2,6 @@
 """Makes a trace that `predator replay` reads of lines of text, as other tracers print them after a line of
 awk.
 
-usage: tools/to_trace.py LINES OUT.trace [--split] [--table FILE]
-       tools/to_trace.py --back FILE ADDRESS ..
-
 Each line is `HART KIND ADDRESS SIZE`, in the order in which the accesses were made: HART is any word that
 names a thread, KIND is `R` or `W`, ADDRESS is hexadecimal, with `0x` or without, and SIZE is in bytes. LINES
 may be `-`, for standard input.
@@ -17,6 +14,7 @@ which, and to_trace.py --back FILE ADDRESS .. says what addresses of a report we
 An access of 1, 2 or 4 bytes that is a multiple of its size is taken as it is. Any other is refused with its
 line, or, with --split, taken apart into such accesses from its lowest byte on."""
 
+import argparse
 import struct
 import sys
 from typing import Iterable, Iterator, NoReturn
@@ -111,32 +109,31 @@ def translate_back(path: str, words: list[str]) -> None:
         print(word, "is no address of the trace" if was is None else f"was {was:#x}")
 
 
-def main(words: list[str]) -> None:
-    if words[:1] in (["--help"], ["-h"]):
-        print(__doc__)
-        return
-    if words[:1] == ["--back"] and len(words) > 2:
-        return translate_back(words[1], words[2:])
-    splits = "--split" in words
-    words = [it for it in words if it != "--split"]
-    table_path = None
-    if "--table" in words[:-1]:
-        at = words.index("--table")
-        table_path = words[at + 1]
-        del words[at : at + 2]
-    if len(words) != 2 or any(it.startswith("--") for it in words):
-        fail(
-            "usage: to_trace.py LINES OUT.trace [--split] [--table FILE] | to_trace.py --back FILE ADDRESS .."
-        )
-    with sys.stdin if words[0] == "-" else open(words[0]) as lines:
-        found, harts = read_accesses(lines, splits)
+def main() -> None:
+    parser = argparse.ArgumentParser(
+        description=__doc__, formatter_class=argparse.RawDescriptionHelpFormatter
+    )
+    parser.add_argument("lines", nargs="?", metavar="LINES")
+    parser.add_argument("trace", nargs="?", metavar="OUT.trace")
+    parser.add_argument("--split", action="store_true", help="take accesses apart")
+    parser.add_argument("--table", metavar="FILE", help="write which page became which")
+    parser.add_argument(
+        "--back", nargs="+", metavar=("FILE", "ADDRESS"), help="print what addresses were"
+    )
+    call = parser.parse_args()
+    if call.back and not call.lines:
+        return translate_back(call.back[0], call.back[1:])
+    if call.back or not call.trace:
+        parser.error("LINES and OUT.trace, or --back FILE ADDRESS ..")
+    with sys.stdin if call.lines == "-" else open(call.lines) as lines:
+        found, harts = read_accesses(lines, call.split)
     table = page_table(found)
-    write_trace(found, harts, table, words[1])
-    if table_path:
-        with open(table_path, "w") as out:
+    write_trace(found, harts, table, call.trace)
+    if call.table:
+        with open(call.table, "w") as out:
             for page, new in table.items():
                 print(f"{new * PAGE:#010x} {page * PAGE:#x}", file=out)
     print(f"{len(found)} accesses of {harts} harts, {len(table)} pages", file=sys.stderr)
 
 
-main(sys.argv[1:])
+main()

@@ -1,31 +1,17 @@
 #!/usr/bin/env python3
 """What a miss is worth in time, on this machine.
 
-usage: bench/clock/run.py [OPTIONS]           measures all, for some fifteen minutes or until it is
-interrupted, and prints what was found
-       bench/clock/run.py --again FOLDER      makes the texts and the page of a study anew, and measures nothing
-       bench/clock/run.py --check             tries the study itself without timing
-
 Each pair of programs/ is a program as it is, and padded. Both are timed here, in turn, each thread on a
 processor of its own; the same sources are counted as guests of predator and, where valgrind is installed,
 recorded on this machine.
 
-Options:
-  --cpus A,B,..     the processors, of which each thread gets one (all that this call may use)
-  --threads N,..    with how many threads each pair runs (2,4, as far as there are processors)
-  --runs N          how many runs of each form nothing must have disturbed (15)
-  --only NAME,..    these pairs alone
-  --line N          the length of a line, by which the padded form is aligned (64)
-  --step NS         the nanoseconds of a step, for `at most` (0.4)
-  --no-recording    without valgrind
-  --count-only      counts, which wants no quiet machine, and measures nothing
-  --counted FOLDER  takes what was counted by an earlier call, whose folder that is, and only measures
-  --disturbed       takes runs whose threads were switched, too: to see on a busy machine that all works
-  --out FOLDER      where study.md, study.tsv, study.html and what they are made from go (bench/clock/out)
+It measures all, for some fifteen minutes or until it is interrupted, and prints what was found. study.md,
+study.tsv, study.html and what they are made from go to a folder.
 
 Wants gcc, clang with lld and llvm, and the built program; for the page python3-jinja2. The machine has to be
 quiet."""
 
+import argparse
 import os
 import sys
 import tempfile
@@ -51,59 +37,86 @@ from tables import (
 )
 from timing import measure_latencies, read_steal_seconds, time_pair, default_rounds
 
-OPTIONS = {
-    "--cpus": "",
-    "--threads": "2,4",
-    "--runs": "15",
-    "--only": "",
-    "--line": "64",
-    "--step": "0.4",
-    "--again": "",
-    "--counted": "",
-}
-OPTIONS["--out"] = os.path.join(HERE, "out")
-SWITCHES = ("--no-recording", "--disturbed", "--count-only", "--check", "--help", "-h")
 # The records in a folder.
 STUDY, COUNTS = "study.json", "counts.json"
 
 
-class Call:
+class Call(argparse.Namespace):
     """What is asked."""
 
-    def __init__(self, words: Sequence[str]) -> None:
-        given, rest = dict(OPTIONS), list(words)
-        self.switches = set()
-        while rest:
-            name, has_value, value = rest.pop(0).partition("=")
-            if name in SWITCHES and not has_value:
-                self.switches.add(name)
-            elif name in given and (has_value or rest):
-                given[name] = value if has_value else rest.pop(0)
-            else:
-                raise Trouble(f"{name}: no such option, or it lacks a value; --help has them")
-        try:
-            self.cpus = [int(it) for it in given["--cpus"].split(",") if it] or sorted(
-                os.sched_getaffinity(0)
-            )
-            self.threads = [
-                int(number)
-                for number in given["--threads"].split(",")
-                if int(number) <= len(self.cpus)
-            ]
-            self.runs, self.line, self.step = (
-                int(given["--runs"]),
-                int(given["--line"]),
-                float(given["--step"]),
-            )
-        except ValueError as error:
-            raise Trouble(str(error)) from None
-        self.only = [it for it in given["--only"].split(",") if it]
-        self.out, self.again, self.counted = given["--out"], given["--again"], given["--counted"]
-        if not self.threads or any(it % 2 for it in self.threads) or self.runs < 1:
-            raise Trouble(
-                "--threads are even numbers, none above that of the processors, and --runs is 1 or"
-                " more"
-            )
+    cpus: list[int]
+    threads: list[int]
+    runs: int
+    only: list[str]
+    line: int
+    step: float
+    no_recording: bool
+    count_only: bool
+    counted: str
+    disturbed: bool
+    out: str
+    again: str
+    check: bool
+
+
+def read_names(text: str) -> list[str]:
+    return [it for it in text.split(",") if it]
+
+
+def read_numbers(text: str) -> list[int]:
+    return [int(it) for it in read_names(text)]
+
+
+def parse_call(words: Sequence[str]) -> Call:
+    parser = argparse.ArgumentParser(
+        description=__doc__, formatter_class=argparse.RawDescriptionHelpFormatter
+    )
+    add = parser.add_argument
+    add(
+        "--again", default="", metavar="FOLDER", help="only make the texts and page of a study anew"
+    )
+    add("--check", action="store_true", help="try the study itself without timing")
+    add("--cpus", type=read_numbers, default=[], metavar="A,B,..", help="the processors (all)")
+    add(
+        "--threads",
+        type=read_numbers,
+        default=[2, 4],
+        metavar="N,..",
+        help="with how many threads each pair runs (2,4), as far as there are processors",
+    )
+    add(
+        "--runs",
+        type=int,
+        default=15,
+        metavar="N",
+        help="how many runs of each form nothing must have disturbed (15)",
+    )
+    add("--only", type=read_names, default=[], metavar="NAME,..", help="these pairs alone")
+    add("--line", type=int, default=64, metavar="N", help="the line's length, for padding (64)")
+    add("--step", type=float, default=0.4, metavar="NS", help="nanoseconds of a step (0.4)")
+    add("--no-recording", action="store_true", help="without valgrind")
+    add("--count-only", action="store_true", help="count, on any machine, and measure nothing")
+    add(
+        "--counted",
+        default="",
+        metavar="FOLDER",
+        help="measure, with the counts of an earlier call",
+    )
+    add("--disturbed", action="store_true", help="take runs whose threads were switched, too")
+    add(
+        "--out",
+        default=os.path.join(HERE, "out"),
+        metavar="FOLDER",
+        help="where the study goes (bench/clock/out)",
+    )
+    call = parser.parse_args(words, Call())
+    call.cpus = call.cpus or sorted(os.sched_getaffinity(0))
+    call.threads = [it for it in call.threads if it <= len(call.cpus)]
+    if not call.threads or any(it % 2 for it in call.threads) or call.runs < 1:
+        parser.error(
+            "--threads are even numbers, none above that of the processors, and --runs is 1 or more"
+        )
+    return call
 
 
 def warn(text: str) -> None:
@@ -139,7 +152,7 @@ def measure_pairs(call: Call, built: Sequence[Built]) -> list[Row]:
             f"{at:>3} of {len(built) // 2}  {pair[0].program.name} with {pair[0].threads} threads"
         )
         try:
-            timed = time_pair(pair, call.cpus, call.runs, "--disturbed" in call.switches)
+            timed = time_pair(pair, call.cpus, call.runs, call.disturbed)
         except Trouble as error:
             warn(f"{name}: left out: {error}")
             continue
@@ -174,11 +187,10 @@ def count_all(call: Call, built: Sequence[Built]) -> Counted:
             if form.guest
             for quantum in QUANTA
         ]
-        records = "--no-recording" not in call.switches
         jobs += [
             (form, RECORDED, pool.submit(count_recording, form))
             for form in built
-            if form.guest and records
+            if form.guest and not call.no_recording
         ]
         for task, quantum, job in jobs:
             found = count_outcome(job)
@@ -263,7 +275,7 @@ def make_study(call: Call) -> Study:
             else count_all(call, built)
         )
         store_text(counts_json(counted), call.out, COUNTS)
-        if "--count-only" in call.switches:
+        if call.count_only:
             return Study({}, {}, call.step, [])
         before, began = read_steal_seconds(), time.monotonic()
         lines = {
@@ -286,10 +298,8 @@ def make_study(call: Call) -> Study:
 
 def main(words: Sequence[str]) -> int:
     try:
-        call = Call(words)
-        if call.switches & {"--help", "-h"}:
-            print(__doc__)
-        elif "--check" in call.switches:
+        call = parse_call(words)
+        if call.check:
             from check import check
 
             return check(call.only)

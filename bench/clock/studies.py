@@ -1,12 +1,9 @@
 #!/usr/bin/env python3
 """The studies that are kept, beside each other.
 
-usage: bench/clock/studies.py                prints the tables of docs/STUDIES.md
-       bench/clock/studies.py --renew        puts them there
-       bench/clock/studies.py --html FILE    writes a page with the points of all, which wants python3-jinja2
-
 A study is kept as results/NAME.tsv, which is the study.tsv that run.py writes."""
 
+import argparse
 import csv
 import os
 import re
@@ -285,25 +282,33 @@ def renew_documents(studies: Mapping[str, Study]) -> Iterator[tuple[str, str, st
         yield path, text, renew_parts(text, found, path)
 
 
-def main(words: Sequence[str]) -> int:
+def main() -> int:
+    parser = argparse.ArgumentParser(
+        description=__doc__, formatter_class=argparse.RawDescriptionHelpFormatter
+    )
+    choice = parser.add_mutually_exclusive_group()
+    choice.add_argument(
+        "--renew", action="store_true", help="put the tables into docs/STUDIES.md, and print none"
+    )
+    choice.add_argument(
+        "--html", metavar="FILE", help="write a page with the points of all (python3-jinja2)"
+    )
+    call = parser.parse_args()
     try:
         studies = read_studies()
-        if words == ["--renew"]:
+        if call.renew:
             for path, _, text in renew_documents(studies):
                 with open(path, "w", encoding="utf-8") as file:
                     file.write(text)
-        elif len(words) == 2 and words[0] == "--html":
+        elif call.html:
             made = page(studies)
             if made is None:
                 raise Trouble("a page wants python3-jinja2: apt-get install python3-jinja2")
-            with open(words[1], "w", encoding="utf-8") as file:
+            with open(call.html, "w", encoding="utf-8") as file:
                 file.write(made)
-        elif not words:
+        else:
             for found in document_parts(studies).values():
                 print(*found.values(), sep="\n\n", end="\n\n")
-        else:
-            print(__doc__)
-            return 2
     except (Trouble, OSError) as error:
         print(f"studies.py: {error}", file=sys.stderr)
         return 2
@@ -311,4 +316,4 @@ def main(words: Sequence[str]) -> int:
 
 
 if __name__ == "__main__":
-    sys.exit(main(sys.argv[1:]))
+    sys.exit(main())

@@ -6,10 +6,9 @@ has more misses than they allow, and not where it has fewer; and they must leave
 The Dockerfile has instructions that docker knows, in an order that it takes, and bash reads its commands; it
 isn't built, which takes a network.
 
-    try.py [PREDATOR]     (bin/predator of this checkout)
-
 Its last line is `N passed, M failed, K skipped`."""
 
+import argparse
 import json
 import os
 import re
@@ -126,7 +125,17 @@ def try_dockerfile() -> None:
 
 
 def main() -> int:
-    predator = sys.argv[1] if len(sys.argv) > 1 else str(TOP / "bin" / "predator")
+    parser = argparse.ArgumentParser(
+        description=__doc__, formatter_class=argparse.RawDescriptionHelpFormatter
+    )
+    parser.add_argument(
+        "predator",
+        nargs="?",
+        default=str(TOP / "bin" / "predator"),
+        metavar="PREDATOR",
+        help="the command predator (bin/predator of this checkout)",
+    )
+    predator = parser.parse_args().predator
     if not (TOP / "native" / "out" / "predator-amd64-linux").exists():
         subprocess.run([TOP / "native" / "build"], stdout=subprocess.DEVNULL, check=True)
     try_github(predator)

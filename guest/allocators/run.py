@@ -1,11 +1,8 @@
 #!/usr/bin/env python3
 """Builds Debian's allocators, unchanged, into one workload, runs it, and prints where blocks of two threads
-meet: run.py [--renew | --build].
+meet. fetch.sh has fetched the sources."""
 
-fetch.sh has fetched the sources. --renew puts the table into docs/STUDIES.md. --build leaves the two programs
-of the allocators, where each thread asks for its first blocks itself, in guest/built/studies, as
-`dlmalloc.elf` and `mimalloc.elf`, and runs none."""
-
+import argparse
 import os
 import subprocess
 import sys
@@ -88,10 +85,24 @@ def table_row(name, workload, run, heap):
     ]
 
 
-def main(words):
+def main():
+    parser = argparse.ArgumentParser(
+        description=__doc__, formatter_class=argparse.RawDescriptionHelpFormatter
+    )
+    choice = parser.add_mutually_exclusive_group()
+    choice.add_argument("--renew", action="store_true", help="put the table into docs/STUDIES.md")
+    choice.add_argument(
+        "--build",
+        action="store_true",
+        help=(
+            "only build the allocators' programs in which each thread asks for its first blocks itself:"
+            " guest/built/studies/dlmalloc.elf and mimalloc.elf"
+        ),
+    )
+    call = parser.parse_args()
     if not os.path.isdir(os.path.join(FETCHED, "mimalloc")):
         sys.exit("run.py: guest/allocators/fetch.sh fetches the allocators' sources first")
-    if "--build" in words:
+    if call.build:
         for name in (it for it in ALLOCATORS if it != KIT):
             build(os.path.join(BUILT, f"{name.split()[0]}.elf"), *ALLOCATORS[name])
         return 0
@@ -119,9 +130,9 @@ def main(words):
     }
     for name, text in parts.items():
         print(f"\n== {name}\n\n{text}")
-    if "--renew" in words:
+    if call.renew:
         renew_document(parts)
     return 1 if wrong else 0
 
 
-sys.exit(main(sys.argv[1:]))
+sys.exit(main())

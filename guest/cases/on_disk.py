@@ -1,11 +1,11 @@
 #!/usr/bin/env python3
-"""Plays the cases of crates/worked_runs/data with the built program over real files: on_disk.py [--renew]
-[CASE ..].
+"""Plays the cases of crates/worked_runs/data with the built program over real files.
 
 It says which calls end otherwise than their case says, and ends with 1 if any does. With --renew it puts into
 the cases what the program printed and answered: read the difference line by line before it is committed,
 since a case says what is right."""
 
+import argparse
 import os
 import struct
 import subprocess
@@ -201,17 +201,25 @@ def renew_failing(case):
     save(case, found)
 
 
-def main(words):
+def main():
+    parser = argparse.ArgumentParser(
+        description=__doc__, formatter_class=argparse.RawDescriptionHelpFormatter
+    )
+    parser.add_argument(
+        "--renew", action="store_true", help="put into the cases what the program printed"
+    )
+    parser.add_argument("cases", nargs="*", metavar="CASE", help="the cases (all)")
+    call = parser.parse_args()
     if not os.path.exists(PROGRAM):
         sys.exit("on_disk.py: build the program first: bin/predator check guest/built/counters.elf")
     with open(os.path.join(DATA, "cases.txt")) as file:
-        cases = [it for it in words if it != "--renew"] or file.read().split()
-    wrong = sum(play(case, "--renew" in words) for case in cases)
-    if "--renew" in words:
+        cases = call.cases or file.read().split()
+    wrong = sum(play(case, call.renew) for case in cases)
+    if call.renew:
         for name in cases:
             renew_failing(name)
     print(f"{len(cases)} cases, {wrong} wrong")
     return 1 if wrong else 0
 
 
-sys.exit(main(sys.argv[1:]))
+sys.exit(main())

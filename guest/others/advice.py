@@ -1,6 +1,6 @@
 #!/usr/bin/env python3
 """Follows what `predator view` advises on programs that nobody here wrote, and prints the table of
-docs/STUDIES.md: advice.py [--renew] [PROGRAM ..].
+docs/STUDIES.md.
 
 Each is built with its types, shown, built as the advice says, and counted again. Where a build of the study
 does what is advised, it is that; else view's patch is taken. fetch.sh has fetched the sources. The status is
@@ -18,7 +18,14 @@ from typing import NamedTuple
 
 HERE = os.path.dirname(os.path.abspath(__file__))
 sys.path.insert(0, os.path.join(HERE, "..", "studies"))
-from report import BUILT, PROGRAM, study_builds, renew_document, markdown_table  # noqa: E402
+from report import (  # noqa: E402
+    BUILT,
+    PROGRAM,
+    markdown_table,
+    parse_studies,
+    renew_document,
+    study_builds,
+)
 
 BUILD = os.path.join(HERE, "..", "build.sh")
 STUDIES = os.path.join(HERE, "..", "studies")
@@ -177,10 +184,8 @@ class Study:
         ], wrong
 
 
-def main(words):
-    names = [it for it in words if it != "--renew"] or [*OTHERS, *SUITES]
-    if "--renew" in words and len(names) < len(OTHERS) + len(SUITES):
-        sys.exit("advice.py: --renew is for all programs")
+def main():
+    names, renews = parse_studies(__doc__, [*OTHERS, *SUITES])
     others = dict.fromkeys(OTHERS[it].by or it for it in names if it in OTHERS)
     if others:
         build_others(*others)
@@ -195,10 +200,10 @@ def main(words):
     print(text)
     for fault in wrong:
         print(fault)
-    if "--renew" in words:
+    if renews:
         renew_document({"advice": text})
     return 1 if wrong else 0
 
 
 if __name__ == "__main__":
-    sys.exit(main(sys.argv[1:]))
+    sys.exit(main())

@@ -1,6 +1,6 @@
 #!/usr/bin/env python3
 """Builds and runs the studies of code that nobody here wrote, recounts their traces, and prints the tables of
-docs/STUDIES.md: run.py [--renew] [STUDY ..].
+docs/STUDIES.md.
 
 fetch.sh has fetched the sources; build.sh builds them. --renew puts the tables into the page. It ends with 1
 where a program doesn't end with exit 0, or a recount says otherwise than a report, `misses` or `explain`."""
@@ -14,7 +14,7 @@ import tempfile
 HERE = os.path.dirname(os.path.abspath(__file__))
 sys.path.insert(0, os.path.join(HERE, "..", "studies"))
 from costs import Build, program_output  # noqa: E402
-from report import Run, renew_document, address_text, markdown_table  # noqa: E402
+from report import Run, address_text, markdown_table, parse_studies, renew_document  # noqa: E402
 
 OUT = os.path.join(HERE, "out")
 # Of each study its builds: as it is, and after each repair.
@@ -95,10 +95,8 @@ def prediction_row(name, runs):
     return row
 
 
-def main(words):
-    names = [it for it in words if it != "--renew"] or list(STUDIES)
-    if "--renew" in words and names != list(STUDIES):
-        sys.exit("run.py: --renew is for all studies")
+def main():
+    names, renews = parse_studies(__doc__, STUDIES)
     subprocess.run([os.path.join(HERE, "build.sh"), *names], check=True)
     runs, costs, fights, parts, wrong = {}, [], [], {}, []
     for study in names:
@@ -160,10 +158,10 @@ def main(words):
         print(f"\n== {name}\n\n{text}")
     for fault in wrong:
         print(fault)
-    if "--renew" in words:
+    if renews:
         renew_document(parts)
     return 1 if wrong else 0
 
 
 if __name__ == "__main__":
-    sys.exit(main(sys.argv[1:]))
+    sys.exit(main())

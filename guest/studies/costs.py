@@ -1,6 +1,6 @@
 #!/usr/bin/env python3
 """What the sharing of each study costs, before and after its repair, and which lines of its source fight most
-over the first line of its report: costs.py [--renew] [STUDY ..].
+over the first line of its report.
 
 It builds the programs with line tables (clang, lld and picolibc are wanted, and llvm-symbolizer), and runs
 `run`, `misses` and `explain`. --renew puts the tables into docs/STUDIES.md. It ends with 1 where
@@ -19,6 +19,7 @@ from report import (
     TOP,
     Report,
     study_builds,
+    parse_studies,
     renew_document,
     address_text,
     markdown_table,
@@ -113,11 +114,9 @@ class MissLine:
         self.base, self.useful, self.useless = int(words[1], 16), int(words[5]), int(words[7])
 
 
-def main(words):
+def main():
     studies = study_builds()
-    names = [it for it in words if it != "--renew"] or list(studies)
-    if "--renew" in words and names != list(studies):
-        sys.exit("costs.py: --renew is for all studies")
+    names, renews = parse_studies(__doc__, studies)
     costs, fights, wrong = [], [], []
     with tempfile.TemporaryDirectory() as work:
         # (with line tables; the instructions are those of the builds without)
@@ -145,10 +144,10 @@ def main(words):
         print(f"\n== {name}\n\n{text}")
     for fault in wrong:
         print(fault)
-    if "--renew" in words:
+    if renews:
         renew_document(parts)
     return 1 if wrong else 0
 
 
 if __name__ == "__main__":
-    sys.exit(main(sys.argv[1:]))
+    sys.exit(main())

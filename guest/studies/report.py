@@ -1,6 +1,7 @@
 """What the scripts of the studies share: a run of the program, its report, the recount of its trace, and
 tables in a document."""
 
+import argparse
 import os
 import subprocess
 import sys
@@ -17,6 +18,24 @@ SETTINGS = {"bounded_queue": "quantum = 10\n"}
 sys.path.insert(0, os.path.join(TOP, "tools"))
 from recount import recount_lines  # noqa: E402
 from traces import read_accesses  # noqa: E402
+
+
+def parse_studies(description, studies):
+    """The studies that a call names, or all, and whether it renews the document, which is for all."""
+    parser = argparse.ArgumentParser(
+        description=description, formatter_class=argparse.RawDescriptionHelpFormatter
+    )
+    parser.add_argument(
+        "--renew", action="store_true", help="put the tables into the document: of all studies"
+    )
+    parser.add_argument("names", nargs="*", metavar="STUDY", help="the studies (all)")
+    call = parser.parse_args()
+    unknown = [it for it in call.names if it not in studies]
+    if unknown:
+        parser.error(f"{unknown[0]}: the studies are {', '.join(studies)}")
+    if call.renew and call.names:
+        parser.error("--renew is for all studies")
+    return call.names or list(studies), call.renew
 
 
 def study_builds():

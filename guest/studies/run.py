@@ -1,5 +1,5 @@
 #!/usr/bin/env python3
-"""Runs the studies, recounts their traces, and prints their tables: run.py [--renew] [STUDY ..].
+"""Runs the studies, recounts their traces, and prints their tables.
 
 The programs are those that `guest/build.sh studies` built. --renew puts the tables into docs/STUDIES.md, with
 the commit. It ends with 1 where a program doesn't end with exit 0, or a recount says otherwise than a
@@ -17,6 +17,7 @@ from report import (
     renew_document,
     address_text,
     markdown_table,
+    parse_studies,
 )
 
 # The studies that show predictions, and the offset of their build where nothing is observed; and how many
@@ -101,11 +102,9 @@ def prediction_rows(study, place, runs):
     return rows
 
 
-def main(words):
+def main():
     studies = {study: list(found) for study, found in study_builds().items()}
-    names = [it for it in words if it != "--renew"] or list(studies)
-    if "--renew" in words and names != list(studies):
-        sys.exit("run.py: --renew is for all studies")
+    names, renews = parse_studies(__doc__, studies)
     runs, wrong = {}, 0
     for name in (it for study in names for it in studies[study]):
         runs[name] = Run(os.path.join(BUILT, f"{name}.elf"), SETTINGS.get(name.split("-")[0], ""))
@@ -139,9 +138,9 @@ def main(words):
     print(
         f"\n{len(runs)} programs, {wrong} wrong; the slowest, {slowest}, ran for {runs[slowest].seconds:.1f} s"
     )
-    if "--renew" in words:
+    if renews:
         renew_document(parts)
     return 1 if wrong else 0
 
 
-sys.exit(main(sys.argv[1:]))
+sys.exit(main())

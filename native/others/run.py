@@ -1,6 +1,6 @@
 #!/usr/bin/env python3
 """Builds and records programs of this machine, each as it is and with its repair, and prints the table of
-docs/STUDIES.md, and of each program the first three rows of its screen: run.py [--renew] [STUDY ..].
+docs/STUDIES.md, and of each program the first three rows of its screen.
 
 fetch.sh has fetched the sources; build.sh builds them. --renew puts the table into the page, and the rows
 into first_rows.txt. What is counted is what `predator misses` prints, and an object's part of it what
@@ -20,7 +20,7 @@ HERE = os.path.dirname(os.path.abspath(__file__))
 TOP = os.path.join(HERE, "..", "..")
 PREDATOR = os.path.join(TOP, "bin", "predator")
 sys.path.insert(0, os.path.join(TOP, "guest", "studies"))
-from report import renew_document, markdown_table  # noqa: E402
+from report import markdown_table, parse_studies, renew_document  # noqa: E402
 
 OUT = os.path.join(HERE, "out")
 ROWS = os.path.join(HERE, "first_rows.txt")
@@ -309,13 +309,8 @@ def table_row(study: Study, program: str) -> tuple[list[object], str]:
     return cells, f"{cells[0]}{': no change is worth it' if is_clean else ''}\n{rows}"
 
 
-def main(words: Sequence[str]) -> int:
-    names = [it for it in words if it != "--renew"] or list(STUDIES)
-    if "--renew" in words and names != list(STUDIES):
-        sys.exit("run.py: --renew is for all studies")
-    for study in names:
-        if study not in STUDIES:
-            sys.exit(f"run.py: {study}: the studies are {', '.join(STUDIES)}")
+def main() -> int:
+    names, renews = parse_studies(__doc__, STUDIES)
     build_path(names)
     heads = ["Program", "Accesses", "Bytes each", "True", "False", "Of the object", "Named"]
     found = [table_row(STUDIES[name], build) for name in names for build in STUDIES[name].builds]
@@ -323,7 +318,7 @@ def main(words: Sequence[str]) -> int:
         row for _, row in found
     )
     print(text, rows, sep="\n")
-    if "--renew" in words:
+    if renews:
         renew_document({"others of this machine": text})
         with open(ROWS, "w", encoding="utf-8") as file:
             file.write(
@@ -334,4 +329,4 @@ def main(words: Sequence[str]) -> int:
 
 
 if __name__ == "__main__":
-    sys.exit(main(sys.argv[1:]))
+    sys.exit(main())

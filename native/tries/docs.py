@@ -1,11 +1,12 @@
 #!/usr/bin/env python3
 """Runs the commands of docs/NATIVE.md, one after the other in a folder of its own, and compares what they
-print with what stands there: docs.py FOLDER. It prints a line for each, and ends with 1 where one differs.
+print with what stands there. It prints a line for each, and ends with 1 where one differs.
 
 A command is an indented line that begins with `$ `, and what it prints are the lines of its block behind it,
 where `..` stands for any lines. Numbers aren't compared, since they belong to the C library and the compiler
 of a machine. A command that isn't installed here is left out."""
 
+import argparse
 import os
 import re
 import shutil
@@ -50,19 +51,22 @@ def is_printed(wanted, made):
     )
 
 
-def main(words):
-    if len(words) != 1:
-        sys.exit(__doc__)
+def main():
+    parser = argparse.ArgumentParser(
+        description=__doc__, formatter_class=argparse.RawDescriptionHelpFormatter
+    )
+    parser.add_argument("folder", metavar="FOLDER")
+    place = parser.parse_args().folder
     wrong = 0
     for folder in ("bin", "native", "docs"):
-        os.symlink(os.path.join(TOP, folder), os.path.join(words[0], folder))
+        os.symlink(os.path.join(TOP, folder), os.path.join(place, folder))
     for command, wanted in read_commands():
         if not command.startswith("bin/") and not shutil.which(command.split()[0]):
             print(f"{command}: as it stands there, though left out")
             continue
         ran = subprocess.run(
             ["bash", "-c", command],
-            cwd=words[0],
+            cwd=place,
             stdout=subprocess.PIPE,
             stderr=subprocess.STDOUT,
             text=True,
@@ -76,4 +80,4 @@ def main(words):
     return 1 if wrong else 0
 
 
-sys.exit(main(sys.argv[1:]))
+sys.exit(main())

@@ -1,6 +1,6 @@
 #!/usr/bin/env python3
 """Builds examples of guest/ for this machine with -fsanitize=thread, and compares what is listed of each with
-what is listed of its build for RV32: guest.py FOLDER [NAME ..]. FOLDER is for what is built. It prints a line
+what is listed of its build for RV32. It prints a line
 for each example, and ends with 1 where one differs.
 
 Compared are the observed lines, each by the variables and blocks on it, where it begins in them and its
@@ -8,6 +8,7 @@ verdict. Counts aren't: a turn is so many accesses here, and so many steps there
 alone in their lines are put, by the linker, where they are in the build for RV32. as_is (a mutex has 40 bytes
 here and 16 there) and linked, which calls the guest's system itself, can't be compared."""
 
+import argparse
 import os
 import subprocess
 import sys
@@ -165,11 +166,16 @@ def compare_reports(name, folder):
         return Report(ran.stdout), Report(file.read())
 
 
-def main(words):
-    folder, *names = words
+def main():
+    parser = argparse.ArgumentParser(
+        description=__doc__, formatter_class=argparse.RawDescriptionHelpFormatter
+    )
+    parser.add_argument("folder", metavar="FOLDER", help="for what is built")
+    parser.add_argument("names", nargs="*", metavar="NAME", help="the examples (all)")
+    call = parser.parse_args()
     wrong = 0
-    for name in names or NAMES:
-        there, here = (listed_lines(it, NAMES[name]) for it in compare_reports(name, folder))
+    for name in call.names or NAMES:
+        there, here = (listed_lines(it, NAMES[name]) for it in compare_reports(name, call.folder))
         same = there == here
         wrong += not same
         print(f"{name}: {len(there)} lines, {'the same' if same else 'others'}")
@@ -179,4 +185,4 @@ def main(words):
     return 1 if wrong else 0
 
 
-sys.exit(main(sys.argv[1:]))
+sys.exit(main())

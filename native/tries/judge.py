@@ -24,6 +24,7 @@ docs/FORMATS.md alone, and shares no code with the program, with view/ and with 
     judge.py each TRACE           bytes for each access, times 100
 """
 
+import argparse
 import os
 import re
 import struct
@@ -204,27 +205,30 @@ def write_plain(trace, to):
         file.write(b"PRDTRC03" + data[8:18] + bytes(2) + data[20:-8])
 
 
-def main(words):
-    if len(words) < 2:
-        sys.exit(__doc__)
-    what, *names = words[0], *words[2:]
+def main():
+    parser = argparse.ArgumentParser(
+        description=__doc__, formatter_class=argparse.RawDescriptionHelpFormatter
+    )
+    parser.add_argument("what", metavar="WHAT")
+    parser.add_argument("trace", metavar="TRACE")
+    parser.add_argument("names", nargs="*", metavar="NAME")
+    call = parser.parse_args()
+    what, trace, names = call.what, call.trace, call.names
     if what == "plain":
-        write_plain(words[1], *names)
+        write_plain(trace, *names)
     elif what in ("end", "accesses", "whole"):
-        *_, (_, outcome, value, accesses, filtered) = read_records(words[1], False)
+        *_, (_, outcome, value, accesses, filtered) = read_records(trace, False)
         ends = {0: f"exit {value}", 4: "part"}[outcome]
         print({"end": ends, "accesses": accesses, "whole": filtered}[what])
     elif what in ("alike", "sites", "untold"):
         print(
-            {"alike": are_alike, "sites": list_sites, "untold": count_unnamed}[what](
-                words[1], *names
-            )
+            {"alike": are_alike, "sites": list_sites, "untold": count_unnamed}[what](trace, *names)
         )
     elif what == "each":
-        accesses = [*read_records(words[1], False)][-1][3]
-        print(round(100 * os.path.getsize(words[1]) / accesses))
+        accesses = [*read_records(trace, False)][-1][3]
+        print(round(100 * os.path.getsize(trace) / accesses))
     else:
-        all_records = list(read_records(words[1], what not in ("blocks", "place")))
+        all_records = list(read_records(trace, what not in ("blocks", "place")))
         if what == "place":
             print(f"{find_object(all_records, *names):#010x}")
             return
@@ -238,4 +242,4 @@ def main(words):
         )
 
 
-main(sys.argv[1:])
+main()

@@ -1,9 +1,6 @@
 #!/usr/bin/env python3
 """Tries the built program over a system that fails.
 
-usage: tools/edges/main.py PROGRAM [--long] [--planted]
-       tools/edges/main.py PROGRAM --open
-
 Each call of the program is made as it is, and then again for each call of the system that it makes about
 files: that one fails with an errno that it can have, or moves fewer bytes than it was asked to. between.c
 stands between the program and the C library for that; cc builds it. What is wanted after each:
@@ -38,6 +35,7 @@ so.
 A write that the system answers and then loses looks like a good one. It ends with 1 where anything is
 wrong. The last line counts the tries by call and errno."""
 
+import argparse
 import collections
 import errno
 import os
@@ -371,20 +369,22 @@ def build_shim(work: str) -> str:
     return shim
 
 
-def main(words: list[str]) -> int:
-    programs = [it for it in words if not it.startswith("-")]
-    if len(programs) != 1 or any(
-        word.startswith("-") and word not in ("--long", "--planted", "--open") for word in words
-    ):
-        print(__doc__)
-        return 0 if words in (["--help"], ["-h"]) else 1
+def main() -> int:
+    parser = argparse.ArgumentParser(
+        description=__doc__, formatter_class=argparse.RawDescriptionHelpFormatter
+    )
+    parser.add_argument("program", metavar="PROGRAM")
+    parser.add_argument("--long", action="store_true", help="take all errnos and calls")
+    parser.add_argument("--planted", action="store_true", help="then plant mistakes too")
+    parser.add_argument("--open", action="store_true", help="try only what is open")
+    call = parser.parse_args()
     with tempfile.TemporaryDirectory() as work:
-        bench = Bench(os.path.abspath(programs[0]), work, build_shim(work), {})
-        if "--open" in words:
+        bench = Bench(os.path.abspath(call.program), work, build_shim(work), {})
+        if call.open:
             tries.try_open(bench)
         else:
-            try_all(bench, "--long" in words)
-        if "--planted" in words:
+            try_all(bench, call.long)
+        if call.planted:
             try_plants(bench)
         for fault in bench.failed:
             print(fault)
@@ -393,4 +393,4 @@ def main(words: list[str]) -> int:
 
 
 if __name__ == "__main__":
-    sys.exit(main(sys.argv[1:]))
+    sys.exit(main())

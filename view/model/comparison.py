@@ -4,7 +4,7 @@ import json
 import os
 import re
 from collections import Counter
-from typing import Any, Iterator, NamedTuple, Sequence
+from typing import Iterator, NamedTuple, Sequence
 
 from view.repairs.advice import listing
 from view.reading.calls import Call
@@ -66,7 +66,7 @@ def is_number(value: object) -> bool:
     return type(value) is int and value >= 0
 
 
-def is_object_record(record: Any) -> bool:
+def is_object_record(record: Record) -> bool:
     """Whether something has what is compared of an object."""
     places = [*record["sites"], *([] if record["declared"] is None else [record["declared"]])]
     texts = [

@@ -7,13 +7,13 @@ import copy
 import os
 import stat
 import subprocess
-from typing import Any, Callable, Optional, Sequence
+from typing import Callable, Optional, Sequence
 
 from view.faults import Fault
 from view.model.objects import DataObject
 from view.model.view import MIN_ACCESS_SHARE_DIVISOR, View
 from view.reading.calls import Call, option_width
-from view.reading.engine import Predator, setting_value
+from view.reading.engine import Predator, Stream, setting_value
 from view.reading.recording import keep_run_trace, record_again
 from view.reading.reports import Report
 
@@ -33,8 +33,24 @@ FineRun = Optional["concurrent.futures.Future[View | None]"]
 class QuietPredator(Predator):
     """The program, of whose messages nothing is shown: they are those of the first run."""
 
-    def output(self, words: Sequence[str | bytes], good: Sequence[int] = (0,), **how: Any) -> str:
-        return super().output(words, good, **{**how, "stderr": subprocess.DEVNULL})
+    def output(
+        self,
+        words: Sequence[str | bytes],
+        good: Sequence[int] = (0,),
+        *,
+        command: str | None = None,
+        stdin: Stream = subprocess.DEVNULL,
+        stderr: Stream = None,
+        pass_fds: Sequence[int] = (),
+    ) -> str:
+        return super().output(
+            words,
+            good,
+            command=command,
+            stdin=stdin,
+            stderr=subprocess.DEVNULL,
+            pass_fds=pass_fds,
+        )
 
 
 def why_not_again(call: Call, report: Report) -> str:

@@ -3,10 +3,10 @@
 import re
 from typing import Callable, Iterator, Sequence
 
+from view.names.debug_entries import Die
 from view.names.fields import (
     POINTERS,
     RECORDS,
-    Die,
     Program,
     attribute_value,
     bare_type,
@@ -47,13 +47,13 @@ def local_variables(function: Die) -> Iterator[Die]:
             yield from local_variables(child)
 
 
-def pointee(die: Die) -> Die:
+def pointee(die: Die | None) -> Die | None:
     """What a pointer points to, or none where a type is none."""
     kind = bare_type(die)
     return type_of(kind) if kind is not None and kind.tag in POINTERS else None
 
 
-def member_type(die: Die, name: str) -> Die:
+def member_type(die: Die | None, name: str) -> Die | None:
     """The type of a record's field, or none."""
     kind = bare_type(die)
     if kind is None or kind.tag not in RECORDS:
@@ -61,7 +61,7 @@ def member_type(die: Die, name: str) -> Die:
     return next((of for own, _, _, of in record_parts(kind) if own == f".{name}"), None)
 
 
-def follow(die: Die, steps: Sequence[str]) -> Die:
+def follow(die: Die | None, steps: Sequence[str]) -> Die | None:
     """The type of what `->next`, `.field` and `[at]` lead to from a value, or none."""
     for step in steps:
         if step.startswith("["):
@@ -89,7 +89,7 @@ class AllocatedTypes:
     def __init__(self, program: Program, text: Callable[[str], Sequence[str]]) -> None:
         self.program, self.text = program, text
 
-    def type_at(self, frame: SourceLine) -> Die:
+    def type_at(self, frame: SourceLine) -> Die | None:
         """The type of what a line allocates, or none where that isn't known or is `void`."""
         self.program.scan_variables()
         lines = self.text(frame.file)
@@ -100,7 +100,7 @@ class AllocatedTypes:
                 return found
         return self.contained_at(frame) or (self.declared_at(frame) if not lines else None)
 
-    def contained_at(self, frame: SourceLine) -> Die:
+    def contained_at(self, frame: SourceLine) -> Die | None:
         """The type of what a container holds that a line declares, or none."""
         for function in self.program.functions.get(function_name(frame), []):
             for variable in local_variables(function):
@@ -116,7 +116,7 @@ class AllocatedTypes:
         lines = self.text(frame.file)
         return 0 < frame.line <= len(lines) and bool(ADDRESS.search(lines[frame.line - 1]))
 
-    def type_in(self, text: str, frame: SourceLine) -> Die:
+    def type_in(self, text: str, frame: SourceLine) -> Die | None:
         for match in ASSIGNED.finditer(text):
             root = re.match(r"\w+", match[1])
             steps = [it.strip() for it in STEP.findall(match[1])]
@@ -130,7 +130,7 @@ class AllocatedTypes:
                 return self.named(named[1])
         return None
 
-    def named(self, name: str) -> Die:
+    def named(self, name: str) -> Die | None:
         plain = re.sub(r"^(?:struct|union)\s+", "", name).rpartition("::")[2]
         return next(iter(self.program.types.get(plain, [])), None)
 
@@ -140,7 +140,7 @@ class AllocatedTypes:
             yield from (it for it in local_variables(function) if die_name(it) == name)
         yield from self.program.named_variables.get(name, [])
 
-    def declared_at(self, frame: SourceLine) -> Die:
+    def declared_at(self, frame: SourceLine) -> Die | None:
         """The type to which the one pointer points that a line of a function declares."""
         for function in self.program.functions.get(function_name(frame), []):
             own = [

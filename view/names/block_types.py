@@ -3,9 +3,10 @@
 import functools
 import itertools
 import re
-from typing import TYPE_CHECKING, Any, Sequence
+from typing import TYPE_CHECKING, Sequence
 
 from view.reading.reports import Block, Site
+from view.names.debug_entries import Die
 from view.names.source_lines import SourceLine
 
 if TYPE_CHECKING:
@@ -54,7 +55,7 @@ class BlockTypes:
 
     def __init__(self, naming: "Naming") -> None:
         self.naming = naming
-        self.inferred: dict[tuple[Site, ...], Any] = {}
+        self.inferred: dict[tuple[Site, ...], Die | None] = {}
 
     def is_byte_block(self, block: Block) -> bool:
         """Whether the source takes a block for bytes, from which it may cut pieces."""
@@ -75,14 +76,14 @@ class BlockTypes:
             return False
         return AllocatedTypes(program, self.naming.sources.text).is_number_at(frame)
 
-    def size_of_type(self, die: Any) -> int:
+    def size_of_type(self, die: Die | None) -> int:
         if die is None:
             return 0
         from view.names.fields import size_of
 
         return size_of(die)
 
-    def inferred_type(self, sites: tuple[Site, ...]) -> Any:
+    def inferred_type(self, sites: tuple[Site, ...]) -> Die | None:
         """The type to which a pointer points that the source assigns the blocks of a call site to, or none."""
         if sites not in self.inferred:
             from view.names.fields import value_or_default
@@ -99,7 +100,7 @@ class BlockTypes:
             return ""
         return value_or_default(functools.partial(describe_aggregates, program, function), "")
 
-    def infer_type(self, sites: tuple[Site, ...]) -> Any:
+    def infer_type(self, sites: tuple[Site, ...]) -> Die | None:
         from view.names.allocated_types import AllocatedTypes
         from view.names.fields import Program
 

@@ -10,6 +10,7 @@ import subprocess
 from typing import Any, Callable, Iterator, TypeVar
 
 from view.faults import Fault
+from view.names.debug_entries import Die, Unit
 from view.names.source_lines import PACKAGES
 
 try:
@@ -31,8 +32,6 @@ NAMES_FOR = (
     "DW_TAG_restrict_type",
 )
 POINTERS = ("DW_TAG_pointer_type", "DW_TAG_reference_type", "DW_TAG_rvalue_reference_type")
-# A unit's entry, by pyelftools, which has no types; a type is one, or none where it is void or isn't told.
-Die = Any
 A = TypeVar("A")
 B = TypeVar("B")
 # So many fields of one word are named, and records so deep are looked into.
@@ -74,9 +73,10 @@ def qualified(die: Die) -> str:
                 die_name(die)
                 or ("(anonymous namespace)" if die.tag == "DW_TAG_namespace" else "(unnamed)"),
             )
-        die = die.get_parent()
-        if die is None or die.tag in UNITS:
+        parent = die.get_parent()
+        if parent is None or parent.tag in UNITS:
             break
+        die = parent
     return "::".join(parts)
 
 
@@ -90,7 +90,7 @@ def last_name(name: str) -> str:
     return name
 
 
-def type_of(die: Die) -> Die:
+def type_of(die: Die | None) -> Die | None:
     return (
         die.get_DIE_from_attribute("DW_AT_type")
         if die is not None and "DW_AT_type" in die.attributes
@@ -98,7 +98,7 @@ def type_of(die: Die) -> Die:
     )
 
 
-def bare_type(die: Die) -> Die:
+def bare_type(die: Die | None) -> Die | None:
     """A type without the names and qualifiers before it, and the definition of one that is only declared; none where these lead round in a
     ring."""
     for _ in range(DEEPEST):
@@ -114,46 +114,51 @@ def bare_type(die: Die) -> Die:
 
 def definition_of(die: Die) -> Die:
     """The definition of a type that is declared here, by its program, and where it has none the declaration."""
-    program = getattr(die.dwarfinfo, "program", None)
+    program: Program | None = getattr(die.dwarfinfo, "program", None)
     return die if program is None else program.definition(die)
 
 
-def element_counts(die: Die) -> Iterator[Any]:
-    """How many elements each dimension of an array has; 0 where it isn't told."""
+def element_counts(die: Die) -> Iterator[int]:
+    """How many elements each dimension of an array has; 0 where the file doesn't say."""
     for child in die.iter_children():
         if child.tag == "DW_TAG_subrange_type":
             top = attribute_value(child, "upper_bound")
-            yield attribute_value(
-                child, "count", top + 1 if isinstance(top, int) and top < 2**32 - 1 else 0
-            )
+            last = top + 1 if isinstance(top, int) and top < 2**32 - 1 else 0
+            count = attribute_value(child, "count", last)
+            yield count if isinstance(count, int) else 0
 
 
-def size_of(die: Die) -> int:
+def size_of(die: Die | None) -> int:
     die = bare_type(die)
     if die is None:
         return 0
     if die.tag == "DW_TAG_array_type":
         size = size_of(type_of(die))
         for count in element_counts(die):
-            size *= count if isinstance(count, int) else 0
+            size *= count
         return size
     if die.tag in POINTERS and "DW_AT_byte_size" not in die.attributes:
-        return die.cu["address_size"]
+        return int(die.cu["address_size"])
     size = attribute_value(die, "byte_size", 0)
     return size if isinstance(size, int) else 0
 
 
-def alignment_of(die: Die) -> int:
+def declared_alignment(die: Die) -> int:
+    """The alignment that an entry itself asks for, or 1."""
+    return int(attribute_value(die, "alignment", 1))
+
+
+def alignment_of(die: Die | None) -> int:
     """How a type is aligned, as its declaration and the types of its fields say."""
     found, named = 1, die
     for _ in range(DEEPEST):
         if named is not None and named.tag in NAMES_FOR:
-            found = max(found, attribute_value(named, "alignment", 1))
+            found = max(found, declared_alignment(named))
             named = type_of(named)
     die = bare_type(die)
     if die is None:
         return found
-    found = max(found, attribute_value(die, "alignment", 1))
+    found = max(found, declared_alignment(die))
     if die.tag == "DW_TAG_array_type":
         return max(found, alignment_of(type_of(die)))
     if die.tag in RECORDS:
@@ -166,7 +171,7 @@ def alignment_of(die: Die) -> int:
             [
                 found,
                 *(
-                    max(attribute_value(field, "alignment", 1), alignment_of(type_of(field)))
+                    max(declared_alignment(field), alignment_of(type_of(field)))
                     for field in fields
                     if "DW_AT_external" not in field.attributes
                 ),
@@ -175,7 +180,7 @@ def alignment_of(die: Die) -> int:
     return max(found, min(size_of(die) or 1, 16))
 
 
-def type_name(die: Die) -> str:
+def type_name(die: Die | None) -> str:
     """How a declaration names a type."""
     if die is None:
         return "void"
@@ -209,7 +214,7 @@ def member_place(die: Die) -> tuple[int, int | None]:
     return start, None
 
 
-def record_parts(die: Die) -> Iterator[tuple[str, int, int, Die]]:
+def record_parts(die: Die) -> Iterator[tuple[str, int, int, Die | None]]:
     """What a record or an array is made of, as (name, place in bits, size in bits, type); of an array a function of the range."""
     for child in die.iter_children():
         if (
@@ -222,7 +227,7 @@ def record_parts(die: Die) -> Iterator[tuple[str, int, int, Die]]:
             yield name, start, 8 * size_of(type_of(child)) if bits is None else bits, type_of(child)
 
 
-def array_elements(die: Die, low: int, high: int) -> Iterator[tuple[str, int, int, Die]]:
+def array_elements(die: Die, low: int, high: int) -> Iterator[tuple[str, int, int, Die | None]]:
     """The elements of an array that have bits from low up to high, as parts."""
     element = type_of(die)
     wide, dims = 8 * size_of(element), list(element_counts(die))
@@ -240,7 +245,7 @@ def array_elements(die: Die, low: int, high: int) -> Iterator[tuple[str, int, in
         yield "".join(f"[{it}]" for it in [left, *indices]), at * wide, wide, element
 
 
-def field_paths(die: Die, low: int, high: int, depth: int = 0) -> list[str]:
+def field_paths(die: Die | None, low: int, high: int, depth: int = 0) -> list[str]:
     """The names of what lies in a value's bits from low up to high: fields, elements, each member of a union."""
     die = bare_type(die)
     if die is None or depth > DEEPEST:
@@ -261,7 +266,7 @@ def field_paths(die: Die, low: int, high: int, depth: int = 0) -> list[str]:
     return fold_names(found)[:MOST] or [f"+{low // 8}"]
 
 
-def has_several_fields(die: Die, low: int, high: int, depth: int = 0) -> bool:
+def has_several_fields(die: Die | None, low: int, high: int, depth: int = 0) -> bool:
     """Whether several fields or elements lie side by side in a value's bits from low up to high. Members of a union lie in one place."""
     die = bare_type(die)
     if die is None or depth > DEEPEST or die.tag not in (*RECORDS, "DW_TAG_array_type"):
@@ -308,7 +313,7 @@ class Variable:
             lambda: max(
                 [
                     alignment_of(self.type),
-                    *(attribute_value(it, "alignment", 1) for it in self.dies),
+                    *map(declared_alignment, self.dies),
                 ]
             ),
             1,
@@ -322,7 +327,7 @@ class Program:
         self.path, self.scanned = path, False
         self.variables: dict[int, Variable] = {}
         self.types: dict[str, list[Die]] = {}
-        self.pointers: dict[str, Die] = {}
+        self.pointers: dict[str, Die | None] = {}
         self.definitions: dict[str, Die] = {}
         # (functions and variables outside of these, by name)
         self.functions: dict[str, list[Die]] = {}
@@ -395,7 +400,7 @@ class Program:
                 for die in unit.iter_DIEs():
                     self.note(die)
 
-    def units(self) -> Iterator[Any]:
+    def units(self) -> Iterator[Unit]:
         """The units of the debug information that can be read: one that can't ends them."""
         if self.dwarf is not None:
             with contextlib.suppress(Exception):
@@ -428,9 +433,9 @@ class Program:
             return None
         for operation in DWARFExprParser(die.cu.structs).parse_expr(where.value)[:1]:
             if operation.op_name == "DW_OP_addr":
-                return operation.args[0]
+                return int(operation.args[0])
             if operation.op_name in ("DW_OP_addrx", "DW_OP_GNU_addr_index"):
-                return self.dwarf.get_addr(die.cu, operation.args[0])
+                return int(self.dwarf.get_addr(die.cu, operation.args[0]))
         return None
 
     def variable(self, addr: int) -> Variable | None:
@@ -461,7 +466,7 @@ class Program:
             raise Fault(f"{self.path} has no type '{text}', and no pointer variable of that name")
         return found
 
-    def type_like(self, name: str) -> Die:
+    def type_like(self, name: str) -> Die | None:
         """The type of a qualified name as a demangler has it, which may differ in its arguments; or none."""
         self.scan_variables()
         several = self.types.get(last_name(name), [])
@@ -514,7 +519,7 @@ class Program:
         return None
 
 
-def choose_type(several: list[Die], name: str) -> Die:
+def choose_type(several: list[Die], name: str) -> Die | None:
     """The type of some of one plain name that has this qualified one, or ends with it; or the first one, or none."""
     if len(several) < 2 and "::" not in name:
         return next(iter(several), None)
@@ -525,7 +530,7 @@ def choose_type(several: list[Die], name: str) -> Die:
     return next(iter(exact), None)
 
 
-def word_path(die: Die, name: str, offset: int) -> str:
+def word_path(die: Die | None, name: str, offset: int) -> str:
     """The names of what lies in the word at an offset of a value."""
     found = field_paths(die, 8 * offset, 8 * offset + 32)
     front = os.path.commonprefix(found)
@@ -533,7 +538,7 @@ def word_path(die: Die, name: str, offset: int) -> str:
     return name + ", ".join([found[0], *(it.removeprefix(front) for it in found[1:])])
 
 
-def type_at_path(die: Die, path: str) -> Die:
+def type_at_path(die: Die | None, path: str) -> Die | None:
     """The type of what a path as `.slots[2].low` names in a value, or none."""
     for name, _ in re.findall(r"\.(\w+)|\[(\d+)\]", path):
         die = bare_type(die)
@@ -544,7 +549,7 @@ def type_at_path(die: Die, path: str) -> Die:
     return die
 
 
-def element_of(die: Die) -> Die:
+def element_of(die: Die | None) -> Die | None:
     """The type of an array's elements, or none where it is no array."""
     die = bare_type(die)
     return type_of(die) if die is not None and die.tag == "DW_TAG_array_type" else None

@@ -3,11 +3,12 @@
 import itertools
 import os
 import re
-from typing import TYPE_CHECKING, Any, Iterable, NamedTuple, Sequence, Union
+from typing import TYPE_CHECKING, Callable, Iterable, NamedTuple, Sequence, Union
 
 from view.model.object_keys import Key, BlocksKey, FileKey, MemoryKey, PlaceKey, StackKey, SymbolKey
 from view.names.callers import Callers, CodeCall
 from view.names.block_types import BlockTypes
+from view.names.debug_entries import Die
 from view.names.demangling import SymbolNames, short_name
 from view.reading.reports import Block, Report, Site, Symbol
 from view.names.source_lines import SourceLine, Sources
@@ -134,7 +135,7 @@ class Memory:
         return (self.high - 1 - addr) % self.stack_bytes + 1
 
 
-def is_array_of(kind: Any, symbol: Symbol) -> bool:
+def is_array_of(kind: Die, symbol: Symbol) -> bool:
     """Whether a variable is several values of a type: a block that a compiler made a variable has the type of its elements."""
     from view.names.fields import size_of
 
@@ -185,7 +186,7 @@ class Naming:
 
     def library_place(self, addr: int) -> str:
         """Of code without a name the library that it is in and the place there, or an empty text; reports of native programs tell it."""
-        from_file = getattr(self.program, "library_place", None)
+        from_file: Callable[[int], str] | None = getattr(self.program, "library_place", None)
         return from_file(addr) if from_file else ""
 
     def landmark(self, addr: int) -> "NearPanics | Landmarks | None":
@@ -444,7 +445,7 @@ class Naming:
             else f"memory at {address_text(key.page)}"
         )
 
-    def type_of_block(self, block: Block) -> Any:
+    def type_of_block(self, block: Block) -> Die | None:
         """The type of a block's elements, as the call says it or by the pointer that the source assigns it to; or none."""
         if self.program is None or not block.sites:
             return None
@@ -493,7 +494,7 @@ class Naming:
 
         return value_or_default(lambda: self.field_names(obj, name, offset), None)
 
-    def typed_value(self, obj: Holder, addr: int) -> tuple[Any, int] | None:
+    def typed_value(self, obj: Holder, addr: int) -> tuple[Die, int] | None:
         """The type of the value that a word lies in, and the word's place there, or none where that isn't known."""
         if self.program is None or obj is None:
             return None
@@ -548,7 +549,7 @@ class Naming:
         element = self.type_of_block(obj)
         return None if element is None else self.element_names(element, "", offset, obj.size)
 
-    def part_names(self, kind: Any, name: str, offset: int) -> tuple[str, str, str]:
+    def part_names(self, kind: Die | None, name: str, offset: int) -> tuple[str, str, str]:
         if kind is None:
             return f"{name}{offset:+d}" if offset or not name else name, "", f"{offset:+d}"
         from view.names.fields import element_of, size_of, word_path
@@ -564,7 +565,7 @@ class Naming:
             word_path(of, "", offset % size_of(of)) or "itself",
         )
 
-    def element_names(self, kind: Any, name: str, offset: int, size: int) -> tuple[str, str, str]:
+    def element_names(self, kind: Die, name: str, offset: int, size: int) -> tuple[str, str, str]:
         from view.names.fields import size_of, word_path
 
         wide = size_of(kind) or 1

@@ -10,7 +10,8 @@ import subprocess
 from typing import Iterable, Iterator, NamedTuple
 
 from view.faults import Fault
-from view.names.fields import Die, Program, Variable, choose_type, last_name, value_or_default
+from view.names.debug_entries import Die
+from view.names.fields import Program, Variable, choose_type, last_name, value_or_default
 from view.names.go import Table, find_table
 from view.names.x86_image import Image
 from view.model.object_keys import FileKey, MemoryKey, PlaceKey, StackKey
@@ -52,8 +53,16 @@ def known_word(word: str) -> str:
     return "" if word == "-" else word
 
 
+def match_groups(pattern: re.Pattern[str], text: str) -> tuple[str, ...]:
+    """The groups of a pattern that a whole text matches; another one is an error."""
+    found = pattern.fullmatch(text)
+    if found is None:
+        raise ValueError(text)
+    return found.groups()
+
+
 class AddressMap:
-    """A table back."""
+    """What an address of the trace was in the program, which `predator native` writes beside the trace."""
 
     def __init__(self, path: str) -> None:
         self.path, self.program = path, ""
@@ -97,11 +106,11 @@ class AddressMap:
             low, high, name = rest.split(" ", 2)
             self.mapped_files.append((int(low, 16), int(high, 16), name))
         elif kind == "site":
-            addr, was, function, line = SITE.fullmatch(rest).groups()  # type: ignore[union-attr]
+            addr, was, function, line = match_groups(SITE, rest)
             self.sites[int(addr, 16)] = [Site(known_word(function), known_word(line))]
             self.native_pcs[int(addr, 16)] = int(was, 16)
         elif kind == "frame":
-            addr, line, function = FRAME.fullmatch(rest).groups()  # type: ignore[union-attr]
+            addr, line, function = match_groups(FRAME, rest)
             self.frames.setdefault(int(addr, 16), []).append(
                 Site(known_word(function), known_word(line))
             )
@@ -188,7 +197,7 @@ class NativeFile:
                 )
         return self.variables[addr]
 
-    def type_named(self, text: str) -> Die:
+    def type_named(self, text: str) -> Die | None:
         """A type that is defined in this file, by its name, or none."""
         places = [
             at

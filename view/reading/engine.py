@@ -3,15 +3,16 @@
 import concurrent.futures
 import contextlib
 import functools
+import io
 import os
 import re
 import subprocess
 import tempfile
 import threading
-from typing import Any, Callable, NamedTuple, Sequence, Union
+from typing import Callable, NamedTuple, Sequence, Union
 
 from view.faults import Fault
-from view.reading.program import call_program, find_launcher
+from view.reading.program import Stream, call_program, find_launcher
 from view.reading.reports import Blame, Explanation, Misses, Placement, Report
 from view.reading.settings import USUAL
 
@@ -46,9 +47,20 @@ class Predator:
         # (what the run said whose trace was counted)
         self.stderr_text = ""
 
-    def output(self, words: Sequence[str | bytes], good: Sequence[int] = (0,), **how: Any) -> str:
+    def output(
+        self,
+        words: Sequence[str | bytes],
+        good: Sequence[int] = (0,),
+        *,
+        command: str | None = None,
+        stdin: Stream = subprocess.DEVNULL,
+        stderr: Stream = None,
+        pass_fds: Sequence[int] = (),
+    ) -> str:
         """What a call prints, which must end with one of these statuses."""
-        answer = call_program([how.pop("command", self.command)], words, **how)
+        answer = call_program(
+            [command or self.command], words, stdin=stdin, stderr=stderr, pass_fds=pass_fds
+        )
         if answer.message:
             self.stderr_text = answer.message
         if answer.status not in good:
@@ -69,14 +81,17 @@ class Predator:
 
     def program_path(self) -> str:
         found = call_program([self.command], ["--where"], stderr=subprocess.DEVNULL)
-        return found.text.rstrip("\n")
+        return os.fsdecode(found.text.encode("latin-1")).rstrip("\n")
 
     def quiet_output(
-        self, words: Sequence[str | bytes], good: Sequence[int] = (0,), **how: Any
+        self,
+        words: Sequence[str | bytes],
+        good: Sequence[int] = (0,),
+        stdin: Stream = subprocess.DEVNULL,
     ) -> str:
         """What a call prints that reads or writes traces alone, and of whose faults nothing is said."""
         return self.output(
-            words, good, command=self.direct_command(), stderr=subprocess.DEVNULL, **how
+            words, good, command=self.direct_command(), stdin=stdin, stderr=subprocess.DEVNULL
         )
 
     def has_command(self, command: str) -> bool:
@@ -90,8 +105,9 @@ class Predator:
             self.commands = set(re.findall(r"^usage: predator (\w+)", answer.text, re.MULTILINE))
         return command in self.commands
 
-    def read_report(self, words: Sequence[str], **how: Any) -> Report:
-        return Report(self.output(words, REPORT_STATUSES, **how), "the report of " + words[0])
+    def read_report(self, words: Sequence[str], stdin: Stream = subprocess.DEVNULL) -> Report:
+        text = self.output(words, REPORT_STATUSES, stdin=stdin)
+        return Report(text, "the report of " + words[0])
 
     def explain_line(self, words: Sequence[str]) -> Explanation:
         return Explanation(
@@ -165,13 +181,19 @@ class Predator:
         )[1]
 
     def read_output(
-        self, words: Callable[[str], list[str]], readers: "Sequence[TraceReader]", **how: Any
+        self,
+        words: Callable[[str], list[str]],
+        readers: "Sequence[TraceReader]",
+        good: Sequence[int] = (0,),
+        *,
+        command: str | None = None,
+        stderr: Stream = None,
     ) -> tuple[str, list[PassResult]]:
         """What a call prints, and what readers tell of the trace that it writes; its words are made of the trace's name."""
         with concurrent.futures.ThreadPoolExecutor(
             max_workers=len(readers) + 1
         ) as pool, contextlib.ExitStack() as open_ends:
-            mains: list[Any] = []
+            mains: list[io.FileIO] = []
             counts = []
             for reader in readers:
                 take, give = os.pipe()
@@ -181,7 +203,13 @@ class Predator:
             copying = threading.Thread(target=copy_pipe, args=(take, mains))
             copying.start()
             try:
-                text = self.output(words(f"/dev/fd/{give}"), pass_fds=(give,), **how)
+                text = self.output(
+                    words(f"/dev/fd/{give}"),
+                    good,
+                    command=command,
+                    stderr=stderr,
+                    pass_fds=(give,),
+                )
             finally:
                 os.close(give)
                 copying.join()
@@ -227,7 +255,7 @@ def add_trace_option(words: list[str], name: str) -> list[str]:
     return [words[0], "--trace", name, *words[1:]]
 
 
-def copy_pipe(take: int, ends: list[Any]) -> None:
+def copy_pipe(take: int, ends: list[io.FileIO]) -> None:
     """Copies a pipe to others, and closes them; one whose reader is gone is left out."""
     with open(take, "rb", 0) as source:
         while piece := source.read(PIECE_BYTES):

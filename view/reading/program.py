@@ -5,13 +5,15 @@ from __future__ import annotations
 import os
 import subprocess
 from dataclasses import dataclass
-from typing import Any, Sequence, Union
+from typing import IO, Sequence, Union
 
 TOP = os.path.dirname(os.path.dirname(os.path.dirname(os.path.abspath(__file__))))
 # The launcher of a checkout, and that of the folder where this was installed.
 LAUNCHERS = (os.path.join(TOP, "bin", "predator"), os.path.join(TOP, "..", "..", "bin", "predator"))
 PREFIX = "predator: "
 Word = Union[str, bytes]
+# Where a call reads from or writes to, as `subprocess` has it.
+Stream = Union[int, IO[bytes], None]
 
 
 @dataclass(frozen=True)
@@ -40,9 +42,17 @@ def find_launcher() -> str | None:
     return None
 
 
-def call_program(command: Sequence[Word], words: Sequence[Word], **how: Any) -> Answer:
-    """Calls the program with no input, unless `how`, for `subprocess.run`, says otherwise."""
-    settings = {"stdin": subprocess.DEVNULL, "stdout": subprocess.PIPE, **how}
-    ran = subprocess.run([*command, *words], **settings)
+def call_program(
+    command: Sequence[Word],
+    words: Sequence[Word],
+    *,
+    stdin: Stream = subprocess.DEVNULL,
+    stderr: Stream = None,
+    pass_fds: Sequence[int] = (),
+) -> Answer:
+    """Calls the program, whose printed text is read whole."""
+    ran = subprocess.run(
+        [*command, *words], stdout=subprocess.PIPE, stdin=stdin, stderr=stderr, pass_fds=pass_fds
+    )
     message = (ran.stderr or b"").decode("utf-8", "replace")
-    return Answer(ran.returncode, (ran.stdout or b"").decode("latin-1"), message)
+    return Answer(ran.returncode, ran.stdout.decode("latin-1"), message)

@@ -46,7 +46,8 @@ def other_record_size(data: mmap.mmap, place: int) -> int:
     tag = data[place] if place < len(data) else END
     if tag not in SIZES:
         return 0
-    return SIZES[tag] + (struct.unpack_from("<H", data, place + 10)[0] if tag == SYMBOL else 0)
+    name_bytes: int = struct.unpack_from("<H", data, place + 10)[0] if tag == SYMBOL else 0
+    return SIZES[tag] + name_bytes
 
 
 def write_prefix(trace: str, most: int, out: str) -> int:

@@ -4,6 +4,7 @@ import functools
 import re
 from typing import Callable, Iterator, Sequence
 
+from view.names.fields import alignment_of
 from view.repairs.advice import all_of, attribute
 from view.repairs.layouts import (
     Array,
@@ -11,7 +12,6 @@ from view.repairs.layouts import (
     MovedRange,
     Shape,
     Unmovable,
-    alignment_of,
     arrays_in,
     lay_out,
     record_members,
@@ -163,8 +163,9 @@ def arenas_repair(subject: Subject, uses: WordUses, line: int) -> Repair | None:
         how = (
             f"give each thread its own arena, with start and size rounded up to multiples of {line}"
         )
-    elif shape is not None and shape.record() is not None and not subject.is_blocks():
-        if record_members(shape.record()) is None:
+    elif shape is not None and not subject.is_blocks():
+        record = shape.record()
+        if record is not None and record_members(record) is None:
             how = f"give each thread's words their own line: `{attribute(line)}`"
     harts = {min(own.harts) for _, own in words_of([subject], uses) if own.kind == "own"}
     found = separate_words([subject], uses, line, False) if how and len(harts) > 1 else None

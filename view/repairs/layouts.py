@@ -2,17 +2,17 @@
 
 from typing import Iterable, Iterator, NamedTuple, Sequence
 
+from view.names.debug_entries import Die
 from view.names.fields import (
     RECORDS,
-    Die,
     alignment_of,
     bare_type,
-    element_counts,
+    declared_alignment,
     die_name,
+    element_counts,
     member_place,
     size_of,
     type_of,
-    attribute_value,
 )
 
 # So many ranges are moved at most, and so many bytes one by one.
@@ -27,13 +27,13 @@ class Unmovable(Exception):
 class Shape(NamedTuple):
     """A type, or what is left of an array's once its first dimensions are indexed."""
 
-    die: Die
+    die: Die | None
     skip: int = 0
 
     def dims(self) -> list[int]:
         kind = bare_type(self.die)
         return (
-            [it or 0 for it in element_counts(kind)][self.skip :]
+            [*element_counts(kind)][self.skip :]
             if kind is not None and kind.tag == "DW_TAG_array_type"
             else []
         )
@@ -54,7 +54,7 @@ class Shape(NamedTuple):
             size *= count
         return size
 
-    def record(self) -> Die:
+    def record(self) -> Die | None:
         """The record that it is, or none."""
         kind = bare_type(self.die)
         return kind if kind is not None and kind.tag in RECORDS else None
@@ -70,7 +70,7 @@ class Member(NamedTuple):
     die: Die
 
     def alignment(self) -> int:
-        return max(attribute_value(self.die, "alignment", 1), alignment_of(self.shape.die))
+        return max(declared_alignment(self.die), alignment_of(self.shape.die))
 
 
 def record_members(record: Die) -> list[Member] | None:
@@ -160,7 +160,7 @@ def lay_out_record(
     groups = change.grouped_fields.get(record.offset)
     own = [(it, lay_out(it.shape, change, f"{path}.{it.name}")) for it in members]
     by_name = {member.name: inner for member, inner in own}
-    at, parts, most = 0, [], attribute_value(record, "alignment", 1)
+    at, parts, most = 0, [], declared_alignment(record)
     for group in groups or [list(members)]:
         for first, member in enumerate(group):
             inner = by_name[member.name]

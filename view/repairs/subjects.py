@@ -2,12 +2,13 @@
 
 import os
 import re
-from typing import Any, Callable, Iterable, Iterator, Literal, NamedTuple, Sequence
+from typing import Callable, Iterable, Iterator, Literal, NamedTuple, Sequence
 
+from view.names.debug_entries import Die
 from view.names.fields import (
     NAMES_FOR,
     POINTERS,
-    Die,
+    Program,
     Variable,
     die_name,
     size_of,
@@ -82,7 +83,7 @@ class Subject:
         name: str,
         ranges: Sequence[tuple[int, int]],
         shape: Shape | None,
-        die: Die = None,
+        die: Die | None = None,
     ) -> None:
         self.obj, self.name, self.ranges, self.shape, self.die = (
             obj,
@@ -160,10 +161,11 @@ class Subject:
 
 def declaration_place(die: Die) -> Declaration | None:
     """Where a type or a variable is declared, or none."""
-    program: Any = getattr(getattr(die, "dwarfinfo", None), "program", None)
+    program: Program | None = getattr(getattr(die, "dwarfinfo", None), "program", None)
     if program is None:
         return None
-    found = value_or_default(lambda: program.declaration(Variable(die)), None)
+    declaration = program.declaration
+    found = value_or_default(lambda: declaration(Variable(die)), None)
     if not found:
         return None
     # (a file that was named from where the compiler ran)
@@ -178,8 +180,10 @@ def user_declaration(die: Die) -> Declaration | None:
 
 
 def record_name(shape: Shape) -> tuple[str, str]:
-    """The keyword of a record and its name, which is its typedef's where it has none."""
+    """The keyword of a record and its name, which is its typedef's where it has none; of another type neither."""
     record, die = shape.record(), shape.die
+    if record is None:
+        return "", ""
     name = die_name(record)
     while not name and die is not None and die.tag in NAMES_FOR:
         name, die = die_name(die), type_of(die)

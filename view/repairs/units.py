@@ -93,8 +93,9 @@ def size_change_text(old: int, new: int, is_whole: bool) -> str:
 
 def is_rust(shape: Shape) -> bool:
     """Whether a type is one of Rust."""
-    die = shape.die
-    return bool(attribute_value(die.cu.get_top_DIE(), "language", 0) == RUST_LANGUAGE)
+    if shape.die is None:
+        return False
+    return bool(attribute_value(shape.die.cu.get_top_DIE(), "language", 0) == RUST_LANGUAGE)
 
 
 def own_lines_code(shape: Shape, line: int, wrapper: str) -> str:

@@ -2,6 +2,7 @@
 
 import os
 import subprocess
+import unittest
 
 HERE = os.path.dirname(os.path.abspath(__file__))
 TOP = os.path.dirname(os.path.dirname(HERE))
@@ -48,3 +49,11 @@ def view(*words, program=STAND_IN, lacks="", cwd=None, **more):
 def joined(text):
     """A text without its line breaks and their indentation."""
     return " ".join(text.split())
+
+
+class ScreenTest(unittest.TestCase):
+    """A test of what view prints."""
+
+    def shows(self, text, *parts):
+        for part in parts:
+            self.assertIn(part, joined(text))

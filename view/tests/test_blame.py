@@ -7,7 +7,7 @@ import sys
 import tempfile
 import unittest
 
-from calling import PROGRAM, STAND_IN, TOP, TURNS, built, has, joined, view
+from calling import PROGRAM, STAND_IN, TOP, TURNS, ScreenTest, built, has, joined, view
 
 sys.path[:0] = [TOP]
 
@@ -55,7 +55,7 @@ class Read(unittest.TestCase):
                 Blame(text)
 
 
-class Shown(unittest.TestCase):
+class Shown(ScreenTest):
     def setUp(self):
         folder = tempfile.TemporaryDirectory()
         self.addCleanup(folder.cleanup)
@@ -63,10 +63,6 @@ class Shown(unittest.TestCase):
 
     def path(self, name):
         return os.path.join(self.folder, name)
-
-    def shows(self, text, *parts):
-        for part in parts:
-            self.assertIn(part, joined(text))
 
     def calls(self, *words, program=STAND_IN, **more):
         """The status of a call of view, its text, and the commands of the program that it made."""

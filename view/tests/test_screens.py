@@ -7,21 +7,13 @@ import subprocess
 import tempfile
 import unittest
 
-from calling import PROGRAM, STAND_IN, TOP, TURNS, built, has, joined, view
+from calling import PROGRAM, STAND_IN, TOP, TURNS, ScreenTest, built, has, joined, view
 
-# A call that takes so many seconds reads a pipe that nobody writes: a busy machine takes a minute or two.
-HANGS = 900
 # The fix for a contended stack.
 OF_STACK = "other threads use variables on this stack: put __attribute__((aligned(64))) on their types, or move them off the stack"
 
 
-class Shown(unittest.TestCase):
-    def shows(self, text, *parts):
-        for part in parts:
-            self.assertIn(part, joined(text))
-
-
-class Screens(Shown):
+class Screens(ScreenTest):
     def test_ring_with_statistics(self):
         status, text, said = view("run", built("ring.elf"), *TURNS)
         self.assertEqual((status, said), (0, ""))
@@ -426,71 +418,6 @@ class Screens(Shown):
         self.assertNotIn(b"\033", texts[1])
 
 
-class Pipes(Shown):
-    program = STAND_IN
-
-    def call(self, command, trace):
-        """What a command in bash prints, in which $view is view, and $1 the trace."""
-        own = {
-            "PREDATOR_PROGRAM": self.program,
-            "PREDATOR_BUILD": "no",
-            "view": os.path.join(TOP, "bin", "predator") + " view",
-        }
-        env = {**os.environ, **own}
-        ran = subprocess.run(
-            ["bash", "-c", command, "bash", trace],
-            capture_output=True,
-            encoding="utf-8",
-            env=env,
-            timeout=HANGS,
-        )
-        self.assertEqual((ran.returncode, ran.stderr), (0, ""), command)
-        return ran.stdout
-
-    def test_a_trace_from_a_pipe(self):
-        with tempfile.TemporaryDirectory() as folder:
-            trace, fifo = os.path.join(folder, "t"), os.path.join(folder, "fifo")
-            subprocess.run(
-                [self.program, "run", built("ring.elf"), *TURNS, "--trace", trace],
-                check=True,
-                stdout=subprocess.DEVNULL,
-            )
-            os.mkfifo(fifo)
-            # (but for the name of what is read)
-            texts = {
-                self.call(command, trace).partition(": ")[2]
-                for command in (
-                    'cat "$1" | $view replay -',
-                    '$view replay - <"$1"',
-                    f'cat "$1" >{fifo} & $view replay - <{fifo}; wait',
-                    '$view replay <(cat "$1")',
-                    f'cat "$1" >{fifo} & $view replay {fifo}; wait',
-                )
-            }
-            self.assertEqual(len(texts), 1)
-            self.shows(
-                texts.pop(),
-                "note: a pipe can be read only once, so misses and fixes are unknown: write the trace to a file",
-                "1 331 1 ring",
-            )
-            _, whole, _ = view("replay", trace, program=self.program)
-            self.shows(whole, "1 298 0 299 1 stats")
-            # (settings and schedules that are pipes serve each run)
-            text = self.call(
-                f"$view run {built('ring.elf')} --settings <(echo quantum = 3) --explain 1 --latency=0",
-                trace,
-            )
-            self.assertEqual(
-                text,
-                view("run", built("ring.elf"), *TURNS, "--explain", "1", program=self.program)[1],
-            )
-
-
-@unittest.skipUnless(has(PROGRAM, "misses"), "the program isn't built, or has no misses")
-class PipesOfTheProgram(Pipes):
-    program = PROGRAM
-
-
 RECORDER = os.path.join(TOP, "native", "out", "predator-amd64-linux")
 
 
@@ -498,7 +425,7 @@ RECORDER = os.path.join(TOP, "native", "out", "predator-amd64-linux")
     os.path.exists(RECORDER) and has(PROGRAM, "misses"),
     "the recorder of native/ or the program isn't built",
 )
-class OfThisMachine(Shown):
+class OfThisMachine(ScreenTest):
     def test_a_program_is_recorded(self):
         with tempfile.TemporaryDirectory() as folder:
             source = os.path.join(TOP, "native", "tries", "counters.c")
@@ -524,187 +451,6 @@ class OfThisMachine(Shown):
                 "native", "./counters", "--quantum", "0", program=PROGRAM, cwd=folder
             )
             self.assertEqual((status, "'--quantum' is 1 to 100000" in said), (2, True))
-
-
-class Repairs(Shown):
-    def test_shards_and_packed_slots(self):
-        _, text, _ = view("run", built("shards.elf"), *TURNS, "--explain", "0")
-        self.shows(
-            text,
-            "give each element of shards its own line: struct __attribute__((aligned(64))) shard (shards.c:13)",
-            "saves up to 2,147 of 2,147 misses",
-        )
-        _, text, _ = view("run", built("anderson.elf"), *TURNS, "--explain", "0")
-        self.shows(
-            text,
-            "1 478 98 198 1 lock: struct, anderson.c:19",
-            "give each element of lock.slots its own line",
-            "none: all its misses are true sharing; write guarded less often, or give each thread its own copy",
-        )
-        # (a line that the report doesn't list)
-        self.shows(
-            text,
-            "2 0 97 99 1 guarded: uint32_t, anderson.c:21 who used by several threads: guarded (100 writes, 100 reads)",
-        )
-
-    def test_a_byte_for_each_slot(self):
-        _, text, _ = view("run", built("flags.elf"), *TURNS, "--explain", "0")
-        self.shows(
-            text,
-            "1 408 458 297 1 lock: struct, flags.c:21",
-            "used by several threads: .slots[4..7].is_free (97 writes, 648 reads)",
-            "each element of lock.slots (several threads; struct __attribute__((aligned(64))) slot (flags.c:14))",
-        )
-        self.shows(
-            text,
-            "saves up to 408 of 866 misses, or more: several fields or elements lie in one word of lock.slots[4..7].is_free",
-        )
-        _, text, _ = view("run", built("flags.elf"), "--explain", "0")
-        self.shows(
-            text,
-            "1 0 98",
-            "by whole 4-byte words, and several fields or elements lie in one word: "
-            "where threads use different ones, give each its own line and run again",
-        )
-        self.shows(
-            text,
-            "quantum 100 may hide false sharing here: try --set quantum=1 too",
-        )
-
-    def test_pieces_of_one_block(self):
-        _, text, _ = view("run", built("pieces.elf"), *TURNS, "--explain", "1")
-        self.shows(
-            text,
-            "1 872 1 598 1 block made at pieces.c:41 < main",
-            "in an array put __attribute__((aligned(64))) on the element's type and aligned_alloc(64, ..)",
-        )
-        self.shows(
-            text,
-            "in an arena round the start and the size of each piece up to multiples of 64 (--type pieces.c:41=TYPE names its fields)",
-        )
-        # (an instruction that the compiler made of two lines)
-        self.shows(
-            text,
-            "near pieces.c:28 (work) invalidates near pieces.c:28 (work): 380 times, always different words",
-        )
-
-    def test_what_a_guest_says_is_handed_on_once(self):
-        words, says = (
-            "run",
-            built("ring.elf"),
-            *TURNS,
-            "--explain",
-            "1",
-        ), "predator: exit 7\nworker 3 of 4"
-        for lacks in ("", "pipes", "misses"):
-            status, text, _ = view(*words, lacks=lacks)
-            self.assertEqual(view(*words, lacks=lacks, STAND_IN_SAYS=says), (status, text, says))
-        status, _, said = view(*words, "--fail-above", "297", STAND_IN_SAYS=says + "\n")
-        self.assertEqual(
-            (status, said),
-            (1, says + "\npredator view: stats has 298 false-sharing misses, more than 297\n"),
-        )
-
-    def test_what_the_screen_says_mends_it(self):
-        for name, start in (
-            ("ring", "stats"),
-            ("arena", "block"),
-            ("shards", "shards"),
-            ("anderson", "lock"),
-            ("flags", "lock"),
-            ("pieces", "block"),
-        ):
-            with tempfile.TemporaryDirectory() as folder:
-                path = os.path.join(folder, "json")
-                view("run", built(f"{name}-repaired.elf"), *TURNS, "--explain", "0", "--json", path)
-                with open(path, encoding="utf-8") as file:
-                    left = [
-                        obj["false_sharing"]
-                        for obj in json.load(file)["objects"]
-                        if obj["name"].startswith(start)
-                    ]
-                self.assertEqual(sum(left), 0, name)
-
-
-class Against(unittest.TestCase):
-    def test_better_and_worse(self):
-        with tempfile.TemporaryDirectory() as folder:
-            old, former = os.path.join(folder, "old.json"), os.path.join(folder, "former.json")
-            for path, version in ((old, "2"), (former, "1")):
-                words = ("--set", "quantum=7", "--explain", "0", "--json", path)
-                view("run", built("ring.elf"), *words, "--json-version", version)
-            words = ("run", built("ring.elf"), *TURNS, "--explain", "0", "--against")
-            _, text, _ = view(*words, old)
-            self.assertEqual(text.replace(old, former), view(*words, former)[1])
-            with open(old, encoding="utf-8") as file:
-                found = json.load(file)
-            total, objects = found["total"], {it["name"]: it for it in found["objects"]}
-            rows = [it.split() for it in text.partition(f"against {old}:\n")[2].splitlines()]
-            self.assertEqual(rows[0], "false before now true before now object".split())
-            self.assertEqual(
-                rows[1],
-                [str(total["false_sharing"]), "342", str(total["true_sharing"]), "314"]
-                + ["all:", "better"],
-            )
-            ring = objects["ring"]
-            self.assertIn(
-                [str(ring["false_sharing"]), "44", str(ring["true_sharing"]), "314", "ring"], rows
-            )
-            self.assertIn("298 298 0 0 stats".split(), rows)
-            _, text, _ = view(
-                "run", built("shards.elf"), *TURNS, "--explain", "0", "--against", old
-            )
-            told = joined(text.partition(f"against {old}:")[2])
-            self.assertIn(
-                f"{total['false_sharing']} 2,147 {total['true_sharing']} 0 all: worse", told
-            )
-            self.assertIn("- 2,147 - 0 shards (new)", told)
-            self.assertIn(f"{objects['stats']['false_sharing']} - 0 - stats (gone)", told)
-            status, text, _ = view(
-                "run",
-                built("shards.elf"),
-                *TURNS,
-                "--explain",
-                "0",
-                "--against",
-                old,
-                "--json",
-                old,
-            )
-            self.assertEqual((status, "stats (gone)" in text), (0, True))
-            head = '{"format": "predator view 1", "outcome": "exit 0", "total": null, "objects": '
-            bad_objects = (
-                "3",
-                "[3]",
-                '[{"key": "symbol a"}]',
-                '[{"key": [], "name": "a", "useless": 1, "count": 1, "beside": [], "words": []}]',
-            )
-            for bad in (
-                "{}",
-                "[",
-                "{" * 99999,
-                '{"format": "predator view 2"}',
-                '{"format": "predator view 3"}',
-                head.replace("view 1", "view 2") + "3}",
-                '{"a":' * 99999,
-                *(f"{head}{it}}}" for it in bad_objects),
-            ):
-                with open(old, "w", encoding="utf-8") as file:
-                    file.write(bad)
-                status, _, said = view(
-                    "run",
-                    built("shards.elf"),
-                    "--explain",
-                    "0",
-                    "--against",
-                    old,
-                    lacks="misses explain",
-                )
-                self.assertEqual(
-                    (status, said.count("\n"), said.startswith("predator view: ")),
-                    (2, 1, True),
-                    bad[:99],
-                )
 
 
 if __name__ == "__main__":

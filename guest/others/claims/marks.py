@@ -1,11 +1,11 @@
 #!/usr/bin/env python3
-"""What a hart accesses between its marks, as marked.c and cleared.c set them: marks.py PROGRAM TRACE WHAT
-[NUMBER ..].
+"""What a hart accesses between its marks, as marked.c and cleared.c set them.
 
-`quiet`: nothing. `reads ADDRESS ..`: in some call the word at one of these ten times running, but for words
+WHAT is `quiet`: nothing; `reads ADDRESS ..`: in some call the word at one of these ten times running, but for words
 of stacks, and it doesn't write it. `cleared ADDRESS WORDS`: each of so many words from there on is read, and
 every other one written. The status is 0 exactly if it is so, of one call at least."""
 
+import argparse
 import os
 import subprocess
 import sys
@@ -63,11 +63,19 @@ def check_claim(what, seen, numbers):
     return read == {*area} and written == {*area[1::2]}
 
 
-def main(program, trace, what, *numbers):
-    seen = list(marked_calls(program, trace))
+def main():
+    parser = argparse.ArgumentParser(
+        description=__doc__, formatter_class=argparse.RawDescriptionHelpFormatter
+    )
+    parser.add_argument("program", metavar="PROGRAM")
+    parser.add_argument("trace", metavar="TRACE")
+    parser.add_argument("what", metavar="WHAT")
+    parser.add_argument("numbers", nargs="*", type=lambda text: int(text, 0), metavar="NUMBER")
+    call = parser.parse_args()
+    seen = list(marked_calls(call.program, call.trace))
     print(f"{len(seen)} calls, {sum(map(len, seen))} accesses")
-    return 0 if seen and check_claim(what, seen, [int(it, 0) for it in numbers]) else 1
+    return 0 if seen and check_claim(call.what, seen, call.numbers) else 1
 
 
 if __name__ == "__main__":
-    sys.exit(main(*sys.argv[1:]))
+    sys.exit(main())
