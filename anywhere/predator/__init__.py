@@ -21,9 +21,10 @@ from typing import Callable, TypeVar
 
 sys.path.append(os.path.dirname(os.path.dirname(os.path.dirname(os.path.abspath(__file__)))))
 
-from predator.calling import Answer, Path, PredatorError, call  # noqa: E402
+from predator.calling import Path, PredatorError, call  # noqa: E402
 from view.faults import Fault  # noqa: E402
 from view.reading import engine, reports  # noqa: E402
+from view.reading.program import Answer  # noqa: E402
 
 __all__ = [
     "Answer",
