@@ -216,7 +216,7 @@ def program_effects(
     for file in {id(own): own for own, _ in places.values()}.values():
         own = {at: it for it, (of, at) in places.items() if of is file}
         made.update(
-            {own[at]: told for at, told in file_effects(file.path, file.debug, own).items()}
+            {own[at]: effect for at, effect in file_effects(file.path, file.debug, own).items()}
         )
     return made
 

@@ -272,15 +272,15 @@ def strip(view: View, foretold: PredictedLine, observed: dict[int, ObjectLine]) 
     ]
     words = own + [it for it in beside if not line.base <= it.addr < line.base + line.size]
     name = view.name_of(next(iter(foretold.keys))) if len(foretold.keys) == 1 else ""
-    told = counted(line.count, "invalidation")
+    numbers = counted(line.count, "invalidation")
     if foretold.useless is not None:
-        told = f"{counted(foretold.useless, 'false-sharing miss')} instead of {foretold.observed_useless or 0:,}"
+        numbers = f"{counted(foretold.useless, 'false-sharing miss')} instead of {foretold.observed_useless or 0:,}"
     key = next(iter(foretold.keys), None)
     return {
         "name": ", ".join(view.name_of(key) for key in foretold.keys) or "memory",
         "kind": line.kind,
         "base": address_text(line.base),
-        "told": told,
+        "numbers": numbers,
         "words": cells(
             view,
             first,

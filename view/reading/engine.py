@@ -189,10 +189,10 @@ class Predator:
         return self.run_and_read_by_pipes(words, readers)[1]
 
     def run_and_read_by_pipes(
-        self, words: list[str], readers: "Sequence[TraceReader]", is_told: bool = True
+        self, words: list[str], readers: "Sequence[TraceReader]", keeps_errors: bool = True
     ) -> tuple[str, list[PassResult]]:
         """The report of a run, and what readers tell of its trace; what it says on standard error is kept only if that is told."""
-        said = subprocess.PIPE if is_told else subprocess.DEVNULL
+        said = subprocess.PIPE if keeps_errors else subprocess.DEVNULL
         return self.read_output(
             lambda name: add_trace_option(words, name), readers, good=REPORT_STATUSES, stderr=said
         )

@@ -336,12 +336,12 @@ class Words(unittest.TestCase):
         self.assertEqual(visible("a\tb\n\x1b[1m\u202e\x00é"), "a\tb\n\\x1b[1m\\u202e\\x00é")
         self.assertEqual([visible(it) for it in (None, 3, ["\x00"])], [None, 3, ["\x00"]])
         # (a cell says where a word of a stack is without its address)
-        for name, told in (
+        for name, expected in (
             ("0x006479c8, 1,592 bytes below its top", "1,592 bytes below its top"),
             ("0x00001000", "0x00001000"),
             ("a, b", "a, b"),
         ):
-            self.assertEqual(PLACE.sub("", name), told)
+            self.assertEqual(PLACE.sub("", name), expected)
 
 
 if __name__ == "__main__":
