@@ -123,7 +123,7 @@ def x86_effect(row: DisassemblyRow) -> MemoryEffect | None:
 
 
 def parse_effects(text: str, addresses: Iterable[int]) -> dict[int, MemoryEffect]:
-    """What the instructions at some addresses do, as far as a text of llvm-objdump tells it. An address may be the last byte of a call."""
+    """What the instructions at some addresses do, as far as a text of llvm-objdump shows it. An address may be the last byte of a call."""
     rows, found = [
         DisassemblyRow(int(match[1], 16), match[2], match[3])
         for line in text.split("\n")

@@ -29,7 +29,7 @@ from view.output.screen import (
     type_and_place,
 )
 
-# Colours that the colour blind tell apart (Okabe and Ito); each hart has a letter too.
+# Colours that the colour blind can distinguish (Okabe and Ito); each hart has a letter too.
 COLOURS = ("#e69f00", "#56b4e9", "#009e73", "#f0e442", "#8fb8ff", "#ff9f6b", "#e6a9c9", "#bdbdbd")
 MANY = "background:repeating-linear-gradient(45deg,#fff 0 6px,#c9c9c9 6px 9px)"
 # So many lines of an object, pairs of instructions, words in a row, lines of a source, predicted lines and readers of a word are drawn.
