@@ -333,7 +333,7 @@ class Names(unittest.TestCase):
             f"block made in work < fd+0x20 < fd+0x10{near}",
         )
 
-    def test_blocks_that_no_call_site_tells(self):
+    def test_blocks_that_no_call_site_identifies(self):
         naming = Naming(
             None,
             Stripped(

@@ -72,7 +72,7 @@ class Texts(unittest.TestCase):
             [(0x1000, 0, 2, "0"), (0x1008, 1, 1, "many")],
         )
 
-    def test_report_behind_which_sites_are_told(self):
+    def test_report_followed_by_its_sites(self):
         self.assertEqual(
             Report(WHOLE + "where 0x000100b0 /home/me/kinds.c:59\n").site_places,
             {0x100B0: "/home/me/kinds.c:59"},
