@@ -166,8 +166,8 @@ class Stage:
         )
 
     def end(self, name, status):
-        """Whether a crate was built, where the prover ended so; what was built of it is then told from
-        anything else."""
+        """Whether a crate was built, where the prover ended so; what was built of it is then
+        distinguished from anything else."""
         if status == 0 and os.path.exists(self.built(name)):
             with open(f"{self.built(name)}.sum", "wb") as file:
                 file.write(self.sums[name])

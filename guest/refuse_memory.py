@@ -60,9 +60,9 @@ void *realloc(void *old, size_t size)
     return is_refused() ? NULL : real(old, size);
 }
 
-__attribute__((destructor)) static void tell(void)
+__attribute__((destructor)) static void write_count(void)
 {
-    const char *name = getenv("TOLD");
+    const char *name = getenv("COUNT_FILE");
     FILE *out = name ? fopen(name, "w") : NULL;
     if (out) {
         fprintf(out, "%ld", made);
@@ -133,10 +133,10 @@ def run_call(words, refused):
         os.environ,
         LD_PRELOAD=os.path.abspath("shim.so"),
         REFUSED=str(refused),
-        TOLD=os.path.abspath("told"),
+        COUNT_FILE=os.path.abspath("count"),
     )
     ran = subprocess.run([PROGRAM, *words], env=chosen, capture_output=True)
-    with open("told") as made:
+    with open("count") as made:
         return ran.returncode, ran.stdout, list_files(), int(made.read())
 
 

@@ -366,7 +366,7 @@ def show(call: Call) -> int:
         view = look(call)
         outputs(view)
         if all(call.options.get(it) != "-" for it in OUTPUTS):
-            tell(view, old)
+            print_view(view, old)
     sys.stdout.flush()
     return status_of(view)
 
@@ -384,7 +384,7 @@ def show_alone(call: Call) -> int:
     return 0
 
 
-def tell(view: View, old: comparison.Before | None) -> None:
+def print_view(view: View, old: comparison.Before | None) -> None:
     """Prints the screen, and the comparison."""
     for row in screen(view, Paint(), width_of_screen()):
         print(row)

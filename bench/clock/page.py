@@ -240,7 +240,7 @@ def page(studies: Mapping[str, Study]) -> str | None:
             name: [[number_text(cell) for cell in row] for row in band_summary(study.quiet_rows())]
             for name, study in studies.items()
         },
-        "advice": [band.told for band in BANDS],
+        "advice": [band.advice for band in BANDS],
         "bound": {
             name: bound_sentences(study.quiet_rows(), study.latency(), study.step)
             for name, study in studies.items()

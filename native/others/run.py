@@ -273,7 +273,7 @@ def is_named(name: str) -> bool:
 
 
 def object_name(name: str) -> str:
-    """A row's object, without what tells it from others of its name and what lies beside it."""
+    """A row's object, without what distinguishes it from others of its name and without its neighbours."""
     name = re.sub(r" \([\d,]+ blocks\).*", "", " ".join(name.split()))
     return name if len(name) <= 200 else name[:200] + " .."
 

@@ -89,7 +89,7 @@ class Failure(NamedTuple):
 
 
 def call_purpose(case: Case, calls: list[Call], number: int) -> str:
-    """What a call of the system is for: to `read`, to `write`, to `print`, to tell whether a file can be read
+    """What a call of the system is for: to `read`, to `write`, to `print`, to learn whether a file can be read
     again (`again`), or something on which nothing hangs (`aside`)."""
     event = calls[number - 1]
     text = max(

@@ -17,7 +17,7 @@ RESERVED = re.compile(r"__|_[A-Z]")
 
 
 def is_foreign(obj: DataObject, naming: Naming) -> bool:
-    """Whether an object isn't the program's own, as far as its file and its debug information tell."""
+    """Whether an object isn't the program's own, as far as its file and its debug information show."""
     if naming.program is None or naming.program.dwarf is None and file_path(0, naming) is None:
         return False
     if isinstance(obj.key, FileKey):

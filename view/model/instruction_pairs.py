@@ -123,7 +123,7 @@ def x86_effect(row: DisassemblyRow) -> MemoryEffect | None:
 
 
 def parse_effects(text: str, addresses: Iterable[int]) -> dict[int, MemoryEffect]:
-    """What the instructions at some addresses do, as far as a text of llvm-objdump tells it. An address may be the last byte of a call."""
+    """What the instructions at some addresses do, as far as a text of llvm-objdump shows it. An address may be the last byte of a call."""
     rows, found = [
         DisassemblyRow(int(match[1], 16), match[2], match[3])
         for line in text.split("\n")
@@ -216,7 +216,7 @@ def program_effects(
     for file in {id(own): own for own, _ in places.values()}.values():
         own = {at: it for it, (of, at) in places.items() if of is file}
         made.update(
-            {own[at]: told for at, told in file_effects(file.path, file.debug, own).items()}
+            {own[at]: effect for at, effect in file_effects(file.path, file.debug, own).items()}
         )
     return made
 

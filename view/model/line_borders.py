@@ -11,7 +11,7 @@ from view.model.objects import DataObject, group_lines
 from view.reading.engine import REPORT_STATUSES, Predator, every_line_reader
 from view.reading.reports import Block, Line, Report, Symbol
 
-# So many objects on a line are told of.
+# So many objects on a line are named.
 MAX_HELD_OBJECTS = 3
 
 
@@ -87,7 +87,7 @@ def object_place(obj: DataObject) -> str:
 def find_crossings(
     trace: str, size: int, totals: dict[int, int], peak: int, least: int
 ) -> list[BorderCrossing]:
-    """The objects that are taken under some shifts, whose totals the sweep told, those first whose counts differ most between two of the
+    """The objects that are taken under some shifts, whose totals the sweep printed, those first whose counts differ most between two of the
     shifts: that of the peak and that of the least total."""
     predator = Predator()
     with concurrent.futures.ThreadPoolExecutor(max_workers=2) as pool:

@@ -111,7 +111,9 @@ def begin_count(call: Call, predator: Predator | None, layout: Layout) -> Counti
 def read_count(predator: Predator, words: list[str], layout: Layout) -> Alternating | None:
     """A run whose misses are counted, or none where it doesn't end by exit 0, as where it takes all steps of its budget."""
     try:
-        text, found = predator.run_and_read_by_pipes(words, [misses_reader(layout)], is_told=False)
+        text, found = predator.run_and_read_by_pipes(
+            words, [misses_reader(layout)], keeps_errors=False
+        )
         report = Report(text)
     except (Refused, BrokenPipeError):
         return None

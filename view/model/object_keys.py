@@ -1,4 +1,4 @@
-"""What lines are put together by: the key of the object that they are told under. A key says its kind first, so keys of two kinds are never
+"""What lines are grouped by: the key of the object that they are reported under. A key says its kind first, so keys of two kinds are never
 equal."""
 
 from typing import Literal, NamedTuple, Union

@@ -1,7 +1,7 @@
 """Groups the lines of a report by their contended objects, the worst first.
 
-A line's numbers are told once: under the object that most of the line's accesses went to, and where most of its misses are true sharing,
-under the one whose words threads share. The others on it are told beside it."""
+A line's numbers are reported once: under the object that most of its accesses went to, and where most of its misses are true sharing,
+under the one whose words threads share. The others on it are listed beside it."""
 
 import heapq
 import re
@@ -126,7 +126,7 @@ def word_holders(
     blocks = [it for it in found if isinstance(it, Block)]
     if not blocks:
         return [(it, 1 / len(found)) for it in found]
-    # (one that lives on does so beyond all that is told of the others)
+    # (a block that lives on outlives all others)
     end = max(accesses, *(max(it.born, it.died or 0) + 1 for it in blocks))
     shares = [max((end if it.died is None else it.died) - it.born, 1) / it.size for it in blocks]
     return [(it, share / sum(shares)) for it, share in zip(blocks, shares)]
@@ -189,14 +189,14 @@ def contending_objects(
         if is_one or len(objects) < 2 or line is None
         else access_shares(line.accesses(), objects, keys, naming)
     )
-    # The first object, as long as it isn't told how the words were accessed.
+    # The first object, as long as the report doesn't say how the words were accessed.
     for at, key in enumerate(() if found else keys):
         found.setdefault(key, (objects[at], -at))
     return found or {naming.memory.key(max(spot.base, 0)): (None, 0)}
 
 
 def has_accesses(line: Line, objects: Sequence[Symbol | Block]) -> bool:
-    """Whether an access of a line was of one of some objects on it, as far as its words are told."""
+    """Whether an access of a line was of one of some objects on it, as far as the report has its words."""
     base, end = line.base, line.base + line.size
     for obj in objects:
         if obj.addr <= base and end <= obj.addr + obj.size:
@@ -330,7 +330,7 @@ def field_name_at(addr: int, obj: Holder, naming: Naming) -> str:
 
 
 def word_uses(spot: ObjectLine, naming: Naming, by_word: Misses | None = None) -> list[WordUse]:
-    """The words of a line where they are told; `by_word` is the count of misses in lines of a word each."""
+    """The words of a line where the report has them; `by_word` is the count of misses in lines of a word each."""
     line = spot.line_with_words()
     if line is None:
         return []

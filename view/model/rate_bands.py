@@ -8,7 +8,7 @@ class Band(NamedTuple):
 
     least: float
     severity: str
-    told: str
+    advice: str
 
 
 # The numbers are the least and the greatest of the medians of the three studies: how many times faster padding made the programs of a band.

@@ -68,7 +68,7 @@ def last_bytes_of_file(path: str) -> bytes:
 
 
 def last_writes(trace: bytes) -> Iterator[tuple[int, int]]:
-    """The hart and the address of each write at the end of a trace of version 1, the last one first, as far as its records can be told."""
+    """The hart and the address of each write at the end of a trace of version 1, the last one first, as far as its records can be read."""
     at = len(trace) - END_BYTES
     if at < 0 or trace[at] != 6:
         return

@@ -348,7 +348,7 @@ class View:
         ]
 
     def label(self, obj: DataObject) -> str:
-        """An object's name, and what tells it from others of the same one: the line that an inlined function was called from, or an
+        """An object's name, and what distinguishes it from others of that name: the line that an inlined function was called from, or an
         address."""
         if self.label_counts is None:
             self.label_counts = Counter(

@@ -291,7 +291,7 @@ def fold_names(names: list[str]) -> list[str]:
 
 
 def value_or_default(compute: Callable[[], A], usual: B) -> A | B:
-    """What a function tells of debug information, and the usual where that is damaged: pyelftools then ends with any fault."""
+    """What a function finds in debug information, and the usual where that is damaged: pyelftools then ends with any fault."""
     try:
         return compute()
     except Fault:

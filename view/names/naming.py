@@ -172,7 +172,7 @@ class Naming:
         self.callers: Callers | None = None
 
     def learn_symbols(self, text: str) -> None:
-        """Has the names of all symbols in a report told at once."""
+        """Demangles the names of all symbols in a report at once."""
         self.names.learn_symbols(text)
 
     def find_lines(self, addresses: Iterable[int]) -> None:
@@ -185,13 +185,13 @@ class Naming:
         return self.names.readable_name(name)
 
     def library_place(self, addr: int) -> str:
-        """Of code without a name the library that it is in and the place there, or an empty text; reports of native programs tell it."""
+        """Of code without a name the library that it is in and the place there, or an empty text; reports of native programs have it."""
         from_file: Callable[[int], str] | None = getattr(self.program, "library_place", None)
         return from_file(addr) if from_file else ""
 
     def landmark(self, addr: int) -> "NearPanics | Landmarks | None":
-        """What is told of an instruction without a function and a line by what its function refers to, or none; reports of native programs
-        tell it."""
+        """The name of an instruction without a function and a line, by what its function refers to, or none; reports of native programs
+        have it."""
         is_known = self.sources is not None and any(
             frame.function or frame.file for frame in self.sources.frames(addr)
         )
@@ -397,7 +397,7 @@ class Naming:
         return 0, ""
 
     def is_identified(self, sites: Sequence[Site]) -> bool:
-        """Whether a function, a line, or what stripped code refers to tells any of a block's call sites."""
+        """Whether a function, a line, or what stripped code refers to identifies any of a block's call sites."""
         chain = self.own_sites(sites) if sites else []
         return any(it.name != "-" or self.site_line(it) for it in chain) or bool(
             self.landmark_of_sites(chain)[1]

@@ -38,7 +38,7 @@ SITE, FRAME = re.compile(r"(0x\S+) (0x\S+) (\S+) (-|.*?:\d+) .*"), re.compile(
 
 
 class Site(NamedTuple):
-    """A call site as the recorder told it: its function and its line as `FILE:LINE`, each empty where it isn't known."""
+    """A call site as the recorder wrote it: its function and its line as `FILE:LINE`, each empty where it isn't known."""
 
     function: str
     line: str
@@ -263,7 +263,7 @@ class NativeProgram:
 
     @functools.cached_property
     def executed_pcs(self) -> dict[str, list[int]]:
-        """The instructions that the table tells, by files."""
+        """The instructions that the address map lists, by files."""
         found: dict[str, list[int]] = {}
         for file, at in filter(None, map(self.file, self.map.sites)):
             found.setdefault(file.path, []).append(at)
@@ -298,7 +298,7 @@ class NativeProgram:
         return self.landmarks[path]
 
     def landmark(self, addr: int) -> NearPanics | Landmarks | None:
-        """What panics tell of an instruction, or else what its function refers to, or none."""
+        """The panics near an instruction, or else what its function refers to, or none."""
         found = self.file(addr)
         if found is None:
             return None
@@ -310,7 +310,7 @@ class NativeProgram:
         return next(filter(None, answers), None)
 
     def has_panics(self) -> bool:
-        """Whether panics tell of the program's own code, which has no symbols."""
+        """Whether panics name the program's own code, which has no symbols."""
         panics = self.panics_of(self.own.path) if self.own and self.own.is_stripped else None
         return panics is not None and bool(panics.places)
 
@@ -321,7 +321,7 @@ class NativeProgram:
         return self.go_tables[path]
 
     def go_frames(self, file: NativeFile, addr: int) -> list[SourceLine]:
-        """The functions at an address of a file as a table of Go's tells them, the innermost first."""
+        """The functions at an address of a file by a table of Go's, the innermost first."""
         table = self.go_table(file.path)
         return value_or_default(functools.partial(table.frames, addr), []) if table else []
 
@@ -330,7 +330,7 @@ class NativeProgram:
         return self.own is not None and self.go_table(self.own.path) is not None
 
     def has_landmarks(self) -> bool:
-        """Whether what it refers to tells of the program's own code, which has no symbols."""
+        """Whether what it refers to names the program's own code, which has no symbols."""
         image = self.image_of(self.own.path) if self.own and self.own.is_stripped else None
         return image is not None and bool(image.code) and not self.has_panics()
 
@@ -440,7 +440,7 @@ class NativeMemory(Memory):
         )
         own = None if path else self.native.file(page)
         path = own[0].path if own else path
-        # (what Go's runtime keeps lies beside the program's own variables, and nothing tells where which is)
+        # (what Go's runtime keeps lies beside the program's own variables, and nothing says where which is)
         is_mixed = (
             own is not None and own[0].is_stripped and self.native.go_table(own[0].path) is not None
         )
@@ -493,7 +493,7 @@ class NativeSources(Sources):
                 ] or self.places[address]
 
     def symbolize(self, addresses: Iterable[tuple[NativeFile, int]]) -> list[list[SourceLine]]:
-        """What debug information tells of addresses of files."""
+        """What debug information says of addresses of files."""
         rows = "".join(f'"{own.debug}" {addr:#x}\n' for own, addr in addresses)
         words = [self.tool, "--output-style=JSON", "--inlines"]
         ran = (
@@ -534,7 +534,7 @@ def has_line(frames: Iterable[SourceLine]) -> bool:
 
 
 def recorded_frames(site: Site) -> list[SourceLine]:
-    """What the recorder has told of a call site, as frames."""
+    """What the recorder has written of a call site, as frames."""
     file, _, line = site.line.rpartition(":")
     if file and line.isdigit():
         return [SourceLine(site.function, file, int(line))]

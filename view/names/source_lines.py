@@ -25,7 +25,7 @@ class SourceLine(NamedTuple):
 
 
 def parse_frames(answer: dict[str, Any]) -> list[SourceLine]:
-    """The frames of an address as llvm-symbolizer tells them, the innermost first."""
+    """The frames of an address as llvm-symbolizer prints them, the innermost first."""
     frames = [
         (frame.get("FunctionName", ""), frame.get("FileName", ""), frame.get("Line", 0))
         for frame in answer.get("Symbol", [])
@@ -84,7 +84,7 @@ class Sources:
         return next((it for it in self.frames(address) if it.file and it.line), None)
 
     def near(self, address: int) -> SourceLine | None:
-        """Where the compiler has made one instruction of several lines and so told none: the line of the nearest one before it in its
+        """Where the compiler has made one instruction of several lines and so named none: the line of the nearest one before it in its
         function."""
         function = next((it.function for it in reversed(self.frames(address))), "")
         before = (

@@ -1,4 +1,4 @@
-"""Names what has no name of its own by the instructions that fight over it, where the trace tells these."""
+"""Names what has no name of its own by the instructions that conflict on it, where the trace has these."""
 
 from typing import Iterable, Sequence
 

@@ -37,7 +37,7 @@ class Shape(NamedTuple):
     def __str__(self) -> str:
         return f"{self.size}x{self.sets}x{self.ways}"
 
-    def told(self) -> str:
+    def text(self) -> str:
         held = self.size * self.sets * self.ways
         return f"{held / 1024:g} KiB ({self})" if held >= 1024 else f"{held} bytes ({self})"
 
@@ -74,8 +74,8 @@ def shape_of(text: str) -> Shape:
         or ways > 64
         or sets * ways > 4096
     ):
-        told = "a line size of 4 to 1024 and up to 1024 sets, both powers of two; up to 64 ways; up to 4096 lines in all"
-        raise Fault(f"'--shape' takes SIZExSETSxWAYS, such as 64x64x8, not '{text}': {told}")
+        allowed = "a line size of 4 to 1024 and up to 1024 sets, both powers of two; up to 64 ways; up to 4096 lines in all"
+        raise Fault(f"'--shape' takes SIZExSETSxWAYS, such as 64x64x8, not '{text}': {allowed}")
     return Shape(size, sets, ways)
 
 
@@ -129,19 +129,17 @@ class Sized:
                     f"`caches` differs for the shapes {shape.shape} and {first.shape}: the trace changed while it was read"
                 )
 
-    def told(self) -> str:
+    def sentence(self) -> str:
         """The result in a sentence."""
         if not self.count:
             return f"{self.size}-byte lines: no invalidation, even in infinite caches"
-        told = f"{self.size}-byte lines: {counted(self.unbounded, 'invalidation')} on {counted(self.count, 'line')} in infinite caches"
+        whole = f"{self.size}-byte lines: {counted(self.unbounded, 'invalidation')} on {counted(self.count, 'line')} in infinite caches"
         few, many = (of(self.shapes, key=lambda shape: shape.total.bounded) for of in (min, max))
         least, most = few.total.bounded, many.total.bounded
         if least < most:
-            return f"{told}, {least:,} in caches of {few.shape.told()}, {most:,} in caches of {many.shape.told()}"
-        where = f"all {len(self.shapes)} shapes" if len(self.shapes) > 1 else few.shape.told()
-        return (
-            f"{told}, {'as many' if least == self.unbounded else f'{least:,}'} in caches of {where}"
-        )
+            return f"{whole}, {least:,} in caches of {few.shape.text()}, {most:,} in caches of {many.shape.text()}"
+        where = f"all {len(self.shapes)} shapes" if len(self.shapes) > 1 else few.shape.text()
+        return f"{whole}, {'as many' if least == self.unbounded else f'{least:,}'} in caches of {where}"
 
     def is_nowhere(self, base: int) -> bool:
         """Whether no invalidation of a line is left in caches of any of the shapes."""
@@ -170,7 +168,7 @@ def texts(call: Call, calls: Sequence[list[str]]) -> list[str]:
 def texts_of_pipe(predator: Predator, path: str, calls: Sequence[list[str]]) -> list[str]:
     """The same of a trace that can be read once: each call has a copy."""
 
-    def told(words: list[str], take: int) -> str:
+    def read_copy(words: list[str], take: int) -> str:
         with open(take, "rb", 0) as trace:
             return predator.output(
                 [*words, "-"], REPORT_STATUSES, stdin=trace, stderr=subprocess.PIPE
@@ -182,7 +180,7 @@ def texts_of_pipe(predator: Predator, path: str, calls: Sequence[list[str]]) -> 
         asked, ends = [], []
         for words in calls:
             take, give = os.pipe()
-            asked.append(pool.submit(told, words, take))
+            asked.append(pool.submit(read_copy, words, take))
             ends.append(open(give, "wb", 0))  # noqa: SIM115 (`copy` closes it)
         copy_pipe(os.dup(source), ends)
     return [it.result() for it in asked]
@@ -210,10 +208,10 @@ def found(call: Call) -> list[Sized]:
         ["replay", "--set", "tracking=1,report=1", "--size", str(size), "--shift", "0"]
         for size in sizes
     ]
-    told = texts(call, [*(it.words() for it in shapes), *each])
-    own = [Caches(text, shape, most) for text, shape in zip(told, shapes)]
+    printed = texts(call, [*(it.words() for it in shapes), *each])
+    own = [Caches(text, shape, most) for text, shape in zip(printed, shapes)]
     made = []
-    for size, text in zip(sizes, told[len(shapes) :]):
+    for size, text in zip(sizes, printed[len(shapes) :]):
         of = [it for it in own if it.shape.size == size]
         made.append(Sized(of, names_of(Report(text, "the report of replay"), list(of[0].lines))))
     return made
@@ -221,7 +219,7 @@ def found(call: Call) -> list[Sized]:
 
 def rows(sized: Sized) -> Iterator[str]:
     """The screen, for one size of lines."""
-    yield f"{sized.told()} ({counted(sized.accesses, 'access')})"
+    yield f"{sized.sentence()} ({counted(sized.accesses, 'access')})"
     if not sized.count:
         return
     yield ""
@@ -258,13 +256,13 @@ def drawn(sized: Sized) -> Given:
     most = max((own.unbounded for own in sized.shapes[0].lines.values()), default=0)
 
     def cell(own: Counts, greatest: int, of: str, shape: Shape) -> Given:
-        told = (
-            f"{of}: {own.bounded:,} of {own.unbounded:,} invalidations in caches of {shape.told()}"
+        title = (
+            f"{of}: {own.bounded:,} of {own.unbounded:,} invalidations in caches of {shape.text()}"
         )
         return {
             "left": own.bounded,
             "evicted": own.evicted,
-            "told": told,
+            "title": title,
             "bar": bar(own.bounded, own.unbounded, greatest),
         }
 
@@ -272,14 +270,14 @@ def drawn(sized: Sized) -> Given:
     for base in sized.bases:
         name, own = f"{base:#010x}", [(it.lines[base], it.shape) for it in sized.shapes]
         cells = [cell(it, most, name, shape) for it, shape in own]
-        told = {"base": name, "name": sized.names.get(base, ""), "note": sized.note(base)}
-        lines.append({**told, "unbounded": own[0][0].unbounded, "cells": cells})
+        head = {"base": name, "name": sized.names.get(base, ""), "note": sized.note(base)}
+        lines.append({**head, "unbounded": own[0][0].unbounded, "cells": cells})
     return {
-        "told": sized.told(),
+        "sentence": sized.sentence(),
         "accesses": sized.accesses,
         "count": sized.count,
         "unbounded": sized.unbounded,
-        "shapes": [it.shape.told() for it in sized.shapes],
+        "shapes": [it.shape.text() for it in sized.shapes],
         "all": [cell(it.total, sized.unbounded, "all lines", it.shape) for it in sized.shapes],
         "lines": lines,
         "more": sized.count - len(lines),
@@ -288,7 +286,7 @@ def drawn(sized: Sized) -> Given:
 
 def page(sizes: Sequence[Sized], name: str) -> str:
     """The page: of each line a bar for each shape, the worst line first."""
-    title = f"{os.path.basename(name)}: {'; '.join(it.told() for it in sizes)}"
+    title = f"{os.path.basename(name)}: {'; '.join(it.sentence() for it in sizes)}"
     return (
         templates()
         .get_template("caches.html")

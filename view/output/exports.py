@@ -62,7 +62,7 @@ def instruction(view: View, addr: int) -> Record:
 
 
 def panics(view: View, addr: int) -> Record | None:
-    """The places of panics that tell an instruction without debug information, or none."""
+    """The places of panics that identify an instruction without debug information, or none."""
     near = view.naming.landmark(addr)
     places = getattr(near, "places", None)
     return (

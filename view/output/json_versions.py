@@ -8,7 +8,7 @@ Record = dict[str, Any]
 FORMER = "predator view 1"
 # The kinds of invalidations in version 1.
 KINDS = {"atomic": "atomic", "read_write": "load", "write_write": "store", "unknown": "unknown"}
-BANDS_TOLD = {it.severity: it.told for it in BANDS}
+BANDS_ADVICE = {it.severity: it.advice for it in BANDS}
 
 
 def renamed(found: Record, **names: str) -> Record:
@@ -17,7 +17,7 @@ def renamed(found: Record, **names: str) -> Record:
 
 
 def band(severity: str | None) -> str | None:
-    return None if severity is None else BANDS_TOLD[severity]
+    return None if severity is None else BANDS_ADVICE[severity]
 
 
 def misses(found: Record | None) -> Record | None:

@@ -29,7 +29,7 @@ from view.output.screen import (
     type_and_place,
 )
 
-# Colours that the colour blind tell apart (Okabe and Ito); each hart has a letter too.
+# Colours that the colour blind can distinguish (Okabe and Ito); each hart has a letter too.
 COLOURS = ("#e69f00", "#56b4e9", "#009e73", "#f0e442", "#8fb8ff", "#ff9f6b", "#e6a9c9", "#bdbdbd")
 MANY = "background:repeating-linear-gradient(45deg,#fff 0 6px,#c9c9c9 6px 9px)"
 # So many lines of an object, pairs of instructions, words in a row, lines of a source, predicted lines and readers of a word are drawn.
@@ -272,15 +272,15 @@ def strip(view: View, foretold: PredictedLine, observed: dict[int, ObjectLine]) 
     ]
     words = own + [it for it in beside if not line.base <= it.addr < line.base + line.size]
     name = view.name_of(next(iter(foretold.keys))) if len(foretold.keys) == 1 else ""
-    told = counted(line.count, "invalidation")
+    numbers = counted(line.count, "invalidation")
     if foretold.useless is not None:
-        told = f"{counted(foretold.useless, 'false-sharing miss')} instead of {foretold.observed_useless or 0:,}"
+        numbers = f"{counted(foretold.useless, 'false-sharing miss')} instead of {foretold.observed_useless or 0:,}"
     key = next(iter(foretold.keys), None)
     return {
         "name": ", ".join(view.name_of(key) for key in foretold.keys) or "memory",
         "kind": line.kind,
         "base": address_text(line.base),
-        "told": told,
+        "numbers": numbers,
         "words": cells(
             view,
             first,

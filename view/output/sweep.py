@@ -58,16 +58,16 @@ class Sweep:
 
     def title(self) -> str:
         """The result in a sentence."""
-        told = f"{self.size}-byte lines: {counted(self.own.total, 'invalidation')} as placed"
+        text = f"{self.size}-byte lines: {counted(self.own.total, 'invalidation')} as placed"
         if self.least.total == self.most.total:
-            return f"{told}, and under every shift"
-        told += self.extremes()
+            return f"{text}, and under every shift"
+        text += self.extremes()
         if not self.objects:
-            return told
+            return text
         first = self.objects[0]
         differs = first.differs(self.ends().index(self.most), self.ends().index(self.least))
         is_most = 2 * differs >= self.most.total - self.least.total
-        return f"{told}; {'most of the difference is in' if is_most else 'the largest difference is in'} {first.name}"
+        return f"{text}; {'most of the difference is in' if is_most else 'the largest difference is in'} {first.name}"
 
     def extremes(self) -> str:
         """The totals that aren't the trace's own."""
@@ -142,12 +142,12 @@ def marks(sweep: Sweep) -> list[tuple[str, int, str]]:
             )
         ]
     places = {it.shift: at for at, it in enumerate(sweep.shifts)}
-    told: list[tuple[str, int, str]] = []
+    drawn: list[tuple[str, int, str]] = []
     for shape, shift, what in found:
         if shift is not sweep.own or shape == "square":
             where = "" if shape == "square" else f", shift {shift.shift}"
-            told.append((shape, places[shift.shift], f"{what}{where}: {shift.total:,}"))
-    return told
+            drawn.append((shape, places[shift.shift], f"{what}{where}: {shift.total:,}"))
+    return drawn
 
 
 def page(sweep: Sweep, name: str, most: int = OBJECTS) -> str:
@@ -180,5 +180,5 @@ def show(call: Call) -> tuple[list[str], str | None]:
         templates()
     most = call.number_option("top", OBJECTS)
     sweep = sweep_of(call)
-    told: Sequence[str] = [plain(it) for it in rows(sweep, most)]
-    return [*told], page(sweep, call.named, most) if "html" in call.options else None
+    lines: Sequence[str] = [plain(it) for it in rows(sweep, most)]
+    return [*lines], page(sweep, call.named, most) if "html" in call.options else None

@@ -1,6 +1,6 @@
 """Traces of version 1 whose accesses are spelled anew byte by byte: some lines with each byte as a word, or some bytes at other places.
 
-The engine counts what comes of it: words are the smallest that it tells apart."""
+The engine counts what comes of it: words are the smallest that it distinguishes."""
 
 import mmap
 from array import array

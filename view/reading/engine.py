@@ -19,7 +19,7 @@ from view.reading.settings import USUAL
 # What a run or a replay ends with where its report is printed.
 REPORT_STATUSES = (0, 10, 11, 12)
 PIECE_BYTES = 1 << 20
-# What a reader tells of a trace.
+# What a reader prints of a trace.
 PassResult = Union[Misses, Report, Blame]
 
 
@@ -37,7 +37,7 @@ class Refused(Fault):
 
 class Predator:
     """The program. What the first run says on standard error, which has what the guest puts out too, is handed on as it comes; the runs
-    behind it would say the same again, so theirs is lost. Only a status tells that a call has failed.
+    behind it would say the same again, so theirs is lost. Only a status shows that a call has failed.
     """
 
     def __init__(self) -> None:
@@ -123,19 +123,19 @@ class Predator:
         return Placement(text)
 
     def read_trace(self, trace: str, reader: "TraceReader") -> PassResult:
-        """What a reader tells of a trace."""
+        """What a reader prints of a trace."""
         return reader.parse(self.quiet_output([*reader.words, "--", trace], reader.good_statuses))
 
     def read_trace_by_all(self, trace: str, readers: "Sequence[TraceReader]") -> list[PassResult]:
-        """What readers tell of a trace, side by side."""
+        """What readers print of a trace, side by side."""
         with concurrent.futures.ThreadPoolExecutor(max_workers=min(4, os.cpu_count() or 1)) as pool:
             return list(pool.map(functools.partial(self.read_trace, trace), readers))
 
     def read_trace_of_run(
         self, words: list[str], readers: "Sequence[TraceReader]", kept: str | None = None
     ) -> list[PassResult]:
-        """What readers tell of the trace of a run, which is written to a file if one is named. Else it goes through pipes where the program
-        can have it so, and else through a file that is lost."""
+        """What readers print of the trace of a run, which is written to a file if one is named. Else it goes through pipes where the
+        program can write to them, and else through a file that is lost."""
         if kept is not None:
             self.record(words, kept)
             return self.read_trace_by_all(kept, readers)
@@ -160,10 +160,10 @@ class Predator:
         return self.run_and_read_by_pipes(words, readers)[1]
 
     def run_and_read_by_pipes(
-        self, words: list[str], readers: "Sequence[TraceReader]", is_told: bool = True
+        self, words: list[str], readers: "Sequence[TraceReader]", keeps_errors: bool = True
     ) -> tuple[str, list[PassResult]]:
-        """The report of a run, and what readers tell of its trace; what it says on standard error is kept only if that is told."""
-        said = subprocess.PIPE if is_told else subprocess.DEVNULL
+        """The report of a run, and what readers print of its trace; what it says on standard error is kept only if that is asked for."""
+        said = subprocess.PIPE if keeps_errors else subprocess.DEVNULL
         return self.read_output(
             lambda name: add_trace_option(words, name), readers, good=REPORT_STATUSES, stderr=said
         )
@@ -171,7 +171,7 @@ class Predator:
     def read_moved_trace(
         self, trace: str, table: str, readers: "Sequence[TraceReader]"
     ) -> list[PassResult]:
-        """What readers tell of a trace whose words have moved by a table, which is written nowhere."""
+        """What readers print of a trace whose words have moved by a table, which is written nowhere."""
         words = ["move", "--", trace, table]
         return self.read_output(
             lambda name: [*words, name],
@@ -189,7 +189,7 @@ class Predator:
         command: str | None = None,
         stderr: Stream = None,
     ) -> tuple[str, list[PassResult]]:
-        """What a call prints, and what readers tell of the trace that it writes; its words are made of the trace's name."""
+        """What a call prints, and what readers print of the trace that it writes; its words are made of the trace's name."""
         with concurrent.futures.ThreadPoolExecutor(
             max_workers=len(readers) + 1
         ) as pool, contextlib.ExitStack() as open_ends:
@@ -271,7 +271,7 @@ def copy_pipe(take: int, ends: list[io.FileIO]) -> None:
 
 
 def stack_range(predator: Predator, program: str, words: Sequence[str]) -> tuple[int, int] | None:
-    """The lowest and highest address of the stacks, or none where the program can't tell."""
+    """The lowest and highest address of the stacks, or none where the program can't say."""
     with contextlib.suppress(Fault):
         found = re.search(
             r"^stacks (0x[0-9a-f]+) (0x[0-9a-f]+)$",

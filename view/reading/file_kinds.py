@@ -41,7 +41,7 @@ def action_for(path: str) -> Action:
 
 
 def describe_other_text(text: str) -> str:
-    """What a text is that is no report, as far as its beginning tells, and what to do with it."""
+    """What a text is that is no report, as far as its beginning shows, and what to do with it."""
     if text.startswith("PRDTRC"):
         return "a trace: use `predator view replay -` to read one from standard input"
     if text.startswith("PRDSTA"):

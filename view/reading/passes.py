@@ -21,7 +21,7 @@ from view.reading.engine import (
 # The size of a layout's lines, and its offset; that of lines of a word each.
 Layout = tuple[int, int]
 WORD_LAYOUT = (4, 0)
-# A trace of more accesses than so many is long: a first screen has what a pass for lines tells, and of its first part what repairs come to.
+# A trace of more accesses than so many is long: a first screen has what a pass for lines finds, and of its first part what repairs come to.
 LONG_TRACE_ACCESSES = 10_000_000
 
 
@@ -40,7 +40,7 @@ class Passes:
                 self.futures[key] = self.pool.submit(self.predator.read_trace, self.trace, reader)
 
     def results(self, readers: Sequence[TraceReader]) -> list[PassResult]:
-        """What the readers tell of the trace."""
+        """What the readers print of the trace."""
         self.begin(readers)
         return [self.futures[tuple(it.words)].result() for it in readers]
 
@@ -85,7 +85,7 @@ def can_blame(call: Call, predator: Predator) -> bool:
 
 
 def layout_of(call: Call) -> Layout | None:
-    """The layout of the report that a call is about to have, as far as its words tell."""
+    """The layout of the report that a call is about to have, as far as its words say."""
     size, shift = (
         call.option_value("--size") or str(setting_value(call.settings_words(), "line")),
         call.option_value("--shift") or "0",

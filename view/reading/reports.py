@@ -84,7 +84,7 @@ def name_bytes(name: str) -> bytes:
 
 
 class LineRows:
-    """The rows of a listed line in a text: `stands` are those that tell what stands on it, one text for all lines where it is the same, and
+    """The rows of a listed line in a text: `stands` are those that say what stands on it, one text for all lines where it is the same, and
     its words are between two places."""
 
     __slots__ = ("text", "object_rows", "begin", "end")
@@ -133,7 +133,7 @@ def parse_objects(rows: str) -> list[Symbol | Block]:
 
 
 def parse_sites(rows: str) -> tuple[Site, ...]:
-    """The call sites that some rows tell."""
+    """The call sites in some rows."""
     found = LineRows.chains.get(rows)
     if found is None:
         found = LineRows.chains[rows] = tuple(

@@ -30,7 +30,7 @@ class Counted(NamedTuple):
     choice: Choice | None
 
 
-class Found(NamedTuple):
+class SearchResult(NamedTuple):
     """What a search has found: the best repair, and the best of the other kind (another order of elements in place of another layout, or
     the reverse), each none where there is none; the best separation of all words by their threads; how many layouts were counted, and
     what was left out."""
@@ -154,7 +154,7 @@ class Search:
     def best_choice(self) -> Counted | None:
         return choose((it for it in self.found.values() if it.choice), self.before)
 
-    def run(self) -> Found:
+    def run(self) -> SearchResult:
         self.add([*self.others(), *self.build([*self.wholes(), *self.singles()])])
         for _ in range(MAX_ROUNDS):
             best = self.best_choice()
@@ -171,7 +171,7 @@ class Search:
             if best and one.repair.is_in_place != best.repair.is_in_place
         ]
         other = choose(others, self.before)
-        return Found(
+        return SearchResult(
             best.repair if best else None,
             other.repair if other and other.misses < self.before else None,
             self.bound(),

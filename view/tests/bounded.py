@@ -1,7 +1,7 @@
 """What `caches` prints of some accesses, by the definition: each hart has of each set a list of lines, the one used last first."""
 
 
-def told(accesses, size, sets, ways):
+def caches_text(accesses, size, sets, ways):
     """`accesses` has of each the hart, the address and whether it writes."""
     lists, held, written, counts, evicted = {}, {}, set(), {}, {}
     for hart, addr, writes in accesses:

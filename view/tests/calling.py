@@ -23,8 +23,8 @@ def has(program, *commands):
     """Whether a program is there and knows some commands."""
     if not os.access(program, os.X_OK):
         return False
-    told = subprocess.run([program], capture_output=True, text=True).stdout
-    return all(f"usage: predator {it} " in told for it in commands)
+    usage = subprocess.run([program], capture_output=True, text=True).stdout
+    return all(f"usage: predator {it} " in usage for it in commands)
 
 
 def view(*words, program=STAND_IN, lacks="", cwd=None, **more):

@@ -139,7 +139,7 @@ def move(names):
     return f"move {accesses} {count}"
 
 
-def told(names):
+def print_move(names):
     """Prints what the command prints, and gives its status."""
     try:
         print(move(names))

@@ -96,7 +96,7 @@ def read_trace(command, words, options):
     return found.plain, found
 
 
-def told_of(found, lines):
+def whole_lines(found, lines):
     return lines if found is None else list(found.with_whole(lines))
 
 
@@ -259,7 +259,7 @@ def replay(names, options):
 
 def misses(names, options):
     trace, found = read_trace("misses", names, options)
-    return told_of(
+    return whole_lines(
         found,
         recount_misses.misses_text(
             trace, int(options.get("--size", 64)), int(options.get("--shift", 0))
@@ -276,7 +276,7 @@ def blame(names, options):
     )
     if lines[0].startswith("predator: "):
         raise LookupError(lines[0])
-    return told_of(found, lines)
+    return whole_lines(found, lines)
 
 
 def place(names, options):
@@ -307,7 +307,7 @@ def sweep(names, options):
                 taken.setdefault(line, 0)
             held[line] = {hart} if writes else held.get(line, set()) | {hart}
         totals.append((sum(taken.values()), shift, sum(map(bool, taken.values()))))
-    yield from told_of(found, [f"sweep {size}", f"accesses {len(accesses)}"])
+    yield from whole_lines(found, [f"sweep {size}", f"accesses {len(accesses)}"])
     yield from (f"shift {shift} total {total} lines {lines}" for total, shift, lines in totals)
     yield from ("least {1} total {0}".format(*min(totals)), "end")
 
@@ -315,7 +315,7 @@ def sweep(names, options):
 def caches(names, options):
     trace = read_trace("caches", names, options)[0]
     accesses = case_of(trace, settings_of(options), options).accesses
-    return bounded.told(
+    return bounded.caches_text(
         [(it[0], it[2], it[1]) for it in accesses],
         *(int(options[it]) for it in ("--size", "--sets", "--ways")),
     )
@@ -323,8 +323,8 @@ def caches(names, options):
 
 def main(words):
     known = {
-        name: told
-        for name, told in USAGE.items()
+        name: usage
+        for name, usage in USAGE.items()
         if name not in LACKS and (name not in ("move", "convert") or HAS_MOVE)
     }
     works = {
@@ -332,10 +332,10 @@ def main(words):
         for work in (run, replay, check, misses, blame, explain, place, sweep, caches)
     }
     if not words or words[0] not in known:
-        print(*(f"usage: predator {name} {told}" for name, told in known.items()), sep="\n")
+        print(*(f"usage: predator {name} {usage}" for name, usage in known.items()), sep="\n")
         return 1
     if words[0] == "move":
-        return moving.told(words_of(words[1:])[0])
+        return moving.print_move(words_of(words[1:])[0])
     try:
         if words[0] == "convert":
             lines = [convert(words_of(words[1:])[0])]

@@ -49,11 +49,11 @@ class Advised(unittest.TestCase):
         )
         for turns in (1, 3, 100):
             for useless, useful in ((0, 300), (100, 300), (300, 20)):
-                told = self.todo(state, flags, useless=useless, useful=useful, turns=turns)
+                sentence = self.todo(state, flags, useless=useless, useful=useful, turns=turns)
                 self.assertIn(
-                    "several fields or elements lie in one word of lock.ready, .done", told
+                    "several fields or elements lie in one word of lock.ready, .done", sentence
                 )
-                self.assertNotIn("padding", told)
+                self.assertNotIn("padding", sentence)
             self.assertIn(
                 "several fields or elements lie in one word: where", self.todo(flags, turns=turns)
             )
@@ -71,11 +71,11 @@ class Advised(unittest.TestCase):
             used("lock.own", 8, 0, hart="1"),
             used("lock.own+4", 12, 0, hart="1"),
         ]
-        told = self.todo(*words, useless=200, useful=90)
+        sentence = self.todo(*words, useless=200, useful=90)
         self.assertIn(
-            "after the first field of each: lock.sum (several threads); lock.own (hart 1)", told
+            "after the first field of each: lock.sum (several threads); lock.own (hart 1)", sentence
         )
-        self.assertNotIn("+4", told)
+        self.assertNotIn("+4", sentence)
         self.assertIn(
             "lock.sum: true sharing (300 of 300 misses): write less", self.todo(*words[:2])
         )
@@ -94,36 +94,36 @@ class Advised(unittest.TestCase):
         # (without debug information and with it)
         for program in (None, Program(built("odd.elf"))):
             view = view_of(rows, memory=Memory((0xF90000, 0x1010000), 8), program=program)
-            (told,) = view.details(view.objects[0]).words
+            (use,) = view.details(view.objects[0]).words
             self.assertEqual(
-                (told.name, told.kind),
+                (use.name, use.kind),
                 ("0x0100ffc0, 64 bytes below its top", WordKind(False, False)),
             )
             self.assertNotIn("several fields", view.details(view.objects[0]).fix)
 
-    def test_all_groups_are_told(self):
+    def test_all_groups_are_listed(self):
         shared = [used(f"lock.{it}", 4 * at, 90) for at, it in enumerate("abcdefg")]
         read = [
             used(name, at, 0)._replace(reads=900, writes=writes)
             for name, at, writes in (("lock.room", 28, 0), ("lock.size", 32, 3))
         ]
-        told = self.todo(*shared, *read, useless=200, useful=90)
+        sentence = self.todo(*shared, *read, useless=200, useful=90)
         self.assertIn(
             "lock.f (several threads); lock.g (several threads); lock.size and lock.room (read-only)",
-            told,
+            sentence,
         )
-        self.assertNotIn(" more;", told)
+        self.assertNotIn(" more;", sentence)
         # (read-only words conflict with nothing)
         self.assertIn(
             f"start lock on its own line: {ALIGNED} after its name", self.todo(*read, useless=200)
         )
 
-    def test_words_without_names_are_not_all_told(self):
-        told = self.todo(
+    def test_words_without_names_are_not_all_listed(self):
+        sentence = self.todo(
             *[used(f"0x{4096 + 4 * at:08x}", 4 * at, 90) for at in range(9)], useless=200, useful=90
         )
-        self.assertIn("0x0000100c (several threads); and 5 more groups", told)
-        self.assertNotIn("0x00001010", told.partition("separate these groups")[2])
+        self.assertIn("0x0000100c (several threads); and 5 more groups", sentence)
+        self.assertNotIn("0x00001010", sentence.partition("separate these groups")[2])
 
     def test_an_object_that_fights_with_itself_and_others(self):
         words = [
@@ -132,12 +132,12 @@ class Advised(unittest.TestCase):
             used("near", 8, 0, hart="1")._replace(key=SymbolKey("symbol", "near", 8)),
         ]
         obj = self.make_object(200, 90)
-        told = advice.sentence(obj, words, {words[2].key: "near"}, 64, True, lambda _: "")
+        sentence = advice.sentence(obj, words, {words[2].key: "near"}, 64, True, lambda _: "")
         self.assertIn(
             f"lock and near share lines: put {ALIGNED} after each name, and separate these groups",
-            told,
+            sentence,
         )
-        self.assertIn("lock.a (several threads); lock.b (several threads)", told)
+        self.assertIn("lock.a (several threads); lock.b (several threads)", sentence)
         self.assertNotIn(
             "separate these groups",
             advice.sentence(obj, words[1:], {words[2].key: "near"}, 64, True, lambda _: ""),
@@ -153,13 +153,13 @@ class Faults(unittest.TestCase):
                 word(0x1000, 5, 50, "many"),
             ]
         )
-        for cause, told in (
+        for cause, expected in (
             ("load-misaligned", "`memcpy`"),
             ("store-misaligned", "`memcpy`"),
             ("load-outside", "the report covers the run up to that point"),
         ):
             view.report.outcome = f"trap hart 0 pc 0x00010000 {cause}"
-            self.assertIn(told, "\n".join(screen(view, Paint(io.StringIO()))))
+            self.assertIn(expected, "\n".join(screen(view, Paint(io.StringIO()))))
 
     def test_a_trap_where_no_code_is(self):
         view = view_of([])
@@ -169,16 +169,16 @@ class Faults(unittest.TestCase):
             near=lambda _: None,
             frames=lambda _: [],
         )
-        for pc, told in (
+        for pc, expected in (
             (0, "the program jumped to an address without code"),
             (0x10FF0, "the report covers the run up to that point"),
             (0x11000, "`--set stack=1048576`"),
         ):
             view.report.outcome = f"trap hart 0 pc {pc:#010x} illegal"
-            self.assertIn(told, "\n".join(screen(view, Paint(io.StringIO()))))
+            self.assertIn(expected, "\n".join(screen(view, Paint(io.StringIO()))))
 
     def overflow(self, *accesses):
-        """What is told of the stacks of harts that made some accesses."""
+        """The sentence on the stacks of harts that made some accesses."""
         case = Case(
             [Access(*it, 4) for it in accesses],
             [],

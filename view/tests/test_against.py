@@ -36,12 +36,12 @@ class Against(unittest.TestCase):
             _, text, _ = view(
                 "run", built("shards.elf"), *TURNS, "--explain", "0", "--against", old
             )
-            told = joined(text.partition(f"against {old}:")[2])
+            table = joined(text.partition(f"against {old}:")[2])
             self.assertIn(
-                f"{total['false_sharing']} 2,147 {total['true_sharing']} 0 all: worse", told
+                f"{total['false_sharing']} 2,147 {total['true_sharing']} 0 all: worse", table
             )
-            self.assertIn("- 2,147 - 0 shards (new)", told)
-            self.assertIn(f"{objects['stats']['false_sharing']} - 0 - stats (gone)", told)
+            self.assertIn("- 2,147 - 0 shards (new)", table)
+            self.assertIn(f"{objects['stats']['false_sharing']} - 0 - stats (gone)", table)
             status, text, _ = view(
                 "run",
                 built("shards.elf"),

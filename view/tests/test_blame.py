@@ -343,8 +343,8 @@ class WithoutInstructions(Compiled):
         _, _, said = view(
             "native", "--explain", "0", self.compiled("counters", "-s", "-g0"), cwd=self.folder
         )
-        told = "/counters has no debug information, so fields and source lines are unknown: build it with -g, or install its debug package"
-        self.shows(said, f"{told} (Debian: NAME-dbgsym)")
+        note = "/counters has no debug information, so fields and source lines are unknown: build it with -g, or install its debug package"
+        self.shows(said, f"{note} (Debian: NAME-dbgsym)")
 
     def test_what_has_no_name_then(self):
         program = self.compiled("nameless")

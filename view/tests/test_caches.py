@@ -83,10 +83,10 @@ class CachesOfShapes(unittest.TestCase):
         status, text, said = self.call("--shape", "64x16x2", "--shape=64x64x8")
         self.assertEqual((status, said), (0, ""))
         found = text.split("\n")
-        told = "48 in caches of 2 KiB (64x16x2), 58 in caches of 32 KiB (64x64x8)"
+        expected = "48 in caches of 2 KiB (64x16x2), 58 in caches of 32 KiB (64x64x8)"
         self.assertEqual(
             found[0],
-            f"64-byte lines: 58 invalidations on 2 lines in infinite caches, {told} (700 accesses)",
+            f"64-byte lines: 58 invalidations on 2 lines in infinite caches, {expected} (700 accesses)",
         )
         self.assertEqual(found[3].split(), ["39", "39", "39", "0x00001000", "<b>&mine"])
         self.assertEqual(found[4].split(), ["19", "9", "19", "0x00002000", "lost"])
@@ -181,11 +181,11 @@ class CachesOfShapes(unittest.TestCase):
         for accesses in ([], [Access(0, True, 0x1000, 4)]):
             self.write(accesses)
             status, text, said = self.call()
-            told = "64-byte lines: no invalidation, even in infinite caches"
+            expected = "64-byte lines: no invalidation, even in infinite caches"
             much = "0 accesses" if not accesses else "1 access"
-            self.assertEqual((status, text, said), (0, f"{told} ({much})\n", ""))
+            self.assertEqual((status, text, said), (0, f"{expected} ({much})\n", ""))
             status, text, _ = self.call("--html", "-")
-            self.assertIn(f"{told}</h1>", text)
+            self.assertIn(f"{expected}</h1>", text)
             self.assertNotIn("<svg", text)
 
     def test_lines_that_are_too_many(self):
@@ -229,7 +229,7 @@ class CachesOfShapes(unittest.TestCase):
                 (2, True),
                 bad,
             )
-        for words, told in (
+        for words, expected in (
             (["--shape", "64x1x1", "--shape=64x1x1"], "'--shape 64x1x1' is given twice"),
             (["--html", self.trace], "is used twice: outputs must differ"),
             (
@@ -240,7 +240,7 @@ class CachesOfShapes(unittest.TestCase):
             (["--top", "all"], "'--top' takes a number, not 'all'"),
         ):
             status, _, said = self.call(*words)
-            self.assertEqual((status, told in said), (2, True), said)
+            self.assertEqual((status, expected in said), (2, True), said)
         status, _, said = view(
             "sweep", self.trace, "--size", "64", "--shape", "64x1x1", program=self.program
         )
@@ -262,7 +262,7 @@ class Texts(unittest.TestCase):
         # (one time, of one line)
         self.assertIn(
             "64-byte lines: 3 invalidations on 1 line in infinite caches, 1 in caches of 64 bytes",
-            Sized([own], {}).told(),
+            Sized([own], {}).sentence(),
         )
         for bad in (
             "",
@@ -297,8 +297,8 @@ class Texts(unittest.TestCase):
         self.assertEqual(bar(0, 1, 1000), {"width": BAR, "frame": 1, "fill": 0})
 
     def test_how_large_a_cache_is(self):
-        told = [shape_of(it).told().partition(" (")[0] for it in (*USUAL, "64x1x1", "4x128x3")]
-        self.assertEqual(told, ["2 KiB", "8 KiB", "32 KiB", "256 KiB", "64 bytes", "1.5 KiB"])
+        sizes = [shape_of(it).text().partition(" (")[0] for it in (*USUAL, "64x1x1", "4x128x3")]
+        self.assertEqual(sizes, ["2 KiB", "8 KiB", "32 KiB", "256 KiB", "64 bytes", "1.5 KiB"])
 
 
 if __name__ == "__main__":

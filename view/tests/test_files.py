@@ -181,10 +181,10 @@ class Files(unittest.TestCase):
         self.assertIn("<i>&\\x00\"'", text)
         self.assertEqual([places(it) for it in sarif(f"{page}.sarif")["results"]], [[]])
         with open(page, encoding="utf-8") as file:
-            told = file.read()
-        self.assertIn("<h1>r\\udcff&lt;b&gt;&amp;&#39;&#34;: ", told)
-        self.assertIn("&lt;i&gt;&amp;\\x00&#34;&#39;", told)
-        self.assertNotIn("<i>", told)
+            text = file.read()
+        self.assertIn("<h1>r\\udcff&lt;b&gt;&amp;&#39;&#34;: ", text)
+        self.assertIn("&lt;i&gt;&amp;\\x00&#34;&#39;", text)
+        self.assertNotIn("<i>", text)
 
     @unittest.skipUnless(BROWSER, "chromium isn't installed")
     def test_page_in_a_browser(self):
@@ -241,13 +241,13 @@ class Predicted(unittest.TestCase):
             self.assertIn(
                 "with 128-byte lines at 0x00011000, 1,189 false-sharing misses instead of 0", text
             )
-            told = [
+            results = [
                 result
                 for result in sarif(f"{path}.sarif")["results"]
                 if result["ruleId"] == "predicted-sharing"
             ]
-            self.assertTrue(told)
-            for result in told:
+            self.assertTrue(results)
+            for result in results:
                 self.assertEqual([uri for uri, _ in places(result)], ["file://" + built("apart.c")])
 
 
@@ -351,7 +351,7 @@ class Program(unittest.TestCase):
             for name in ("ring", "arena", "shards", "anderson", "flags", "pieces", "odd", "apart"):
                 # (repairs that are tried take the stand-in long; what is counted by bytes wants a trace, as they do)
                 is_tried = name in ("shards", "flags") and has(PROGRAM, "move")
-                (one, text, found), (other, told, wanted) = (
+                (one, text, found), (other, other_text, wanted) = (
                     self.seen(folder, name, **more)
                     for more in ({"STAND_IN_HAS": "move" * is_tried}, {"program": PROGRAM})
                 )
@@ -362,11 +362,11 @@ class Program(unittest.TestCase):
                 ):
                     obj["fix"] = obj["tried"] = obj["who"] = None
                 if is_tried:
-                    self.assertEqual(text, told)
+                    self.assertEqual(text, other_text)
                 if is_tried and name == "shards":
                     self.assertIn(
                         "tried misses 2,153 → 6 (false 2,147 → 0, true 0 → 0, cold 6 → 6)",
-                        " ".join(told.split()),
+                        " ".join(other_text.split()),
                     )
                 by_name = [
                     sorted(record.pop("objects"), key=lambda it: it["key"])

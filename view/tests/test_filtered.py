@@ -119,8 +119,10 @@ class OfGuests(Traces):
                 self.assertEqual(whole["recorded_accesses"], whole["accesses"])
                 self.assertLess(found["recorded_accesses"], found["accesses"])
                 self.assertEqual((whole["filtered"], found["filtered"]), (None, 4096))
-                told = f"it has {found['recorded_accesses']:,} of {found['accesses']:,} accesses"
-                self.assertIn(f"note: the trace is filtered: {told}", found["screen"])
+                expected = (
+                    f"it has {found['recorded_accesses']:,} of {found['accesses']:,} accesses"
+                )
+                self.assertIn(f"note: the trace is filtered: {expected}", found["screen"])
                 self.assertNotIn("filtered", whole["screen"])
 
     def test_a_fix_comes_to_the_same(self):

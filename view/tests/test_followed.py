@@ -67,16 +67,16 @@ class Following(unittest.TestCase):
             self.assertIn(old, text)
             text = text.replace(old, new)
         after = self.look(self.build(f"{name}-followed", text, flags), *words)
-        told = sum(first["tried"]["after"][it] for it in MISSES)
-        saved = self.missed(before) - told
+        predicted = sum(first["tried"]["after"][it] for it in MISSES)
+        saved = self.missed(before) - predicted
         self.assertGreater(saved * 5, self.missed(before) - before["total"]["cold"], name)
         self.assertLessEqual(
-            abs(told - self.missed(after)),
-            max(told, self.missed(after)) / 10 + 2,
-            f"{name}: {self.missed(before)} before, {told} foretold, {self.missed(after)} counted",
+            abs(predicted - self.missed(after)),
+            max(predicted, self.missed(after)) / 10 + 2,
+            f"{name}: {self.missed(before)} before, {predicted} foretold, {self.missed(after)} counted",
         )
         if os.environ.get("PREDATOR_FOLLOWED"):
-            row = (name, self.missed(before), told, self.missed(after))
+            row = (name, self.missed(before), predicted, self.missed(after))
             print("|", " | ".join(map(str, row)), "|", file=sys.stderr)
         return before
 

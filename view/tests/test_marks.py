@@ -21,7 +21,7 @@ from run import is_named  # noqa: E402
 
 class Texts(unittest.TestCase):
     def test_functions_of_assertions(self):
-        for whole, told in (
+        for whole, expected in (
             ("main", "main"),
             ("void check(int)", "check"),
             ("static int lists::find(const char*, std::size_t)", "lists::find"),
@@ -38,10 +38,10 @@ class Texts(unittest.TestCase):
             ("a::get(T) const [with T = b<c>; U = int]::<lambda(int)>", None),
         ):
             found = cpp_assertions.short_function_name(whole)
-            self.assertEqual(found, told or found)
+            self.assertEqual(found, expected or found)
 
     def test_files_from_their_package_on(self):
-        for file, told in (
+        for file, expected in (
             ("src/list.c", "src/list.c"),
             ("./common/common.h", "common/common.h"),
             ("../../lib/a.c", "lib/a.c"),
@@ -49,7 +49,7 @@ class Texts(unittest.TestCase):
             ("/build/reproducible-path/zstd-1.5.4/lib/a.c", "lib/a.c"),
             ("/home/me/own/a.c", "/home/me/own/a.c"),
         ):
-            self.assertEqual(cpp_assertions.path_in_package(file), told)
+            self.assertEqual(cpp_assertions.path_in_package(file), expected)
         header = cpp_assertions.Assertion(
             0, 0, "/usr/include/eigen3/Eigen/src/Core/Block.h", 7, "", ()
         )
@@ -60,7 +60,7 @@ class Texts(unittest.TestCase):
 
     def test_classes(self):
         normal = "__gnu_cxx::__normal_iterator<x::File**,std::vector<x::File*,std::allocator<x::File*> > >"
-        for whole, told in (
+        for whole, expected in (
             ("x::Output<x::Of>", "x::Output<x::Of>"),
             (
                 "tbb::detail::d1::task<x::opened<x::Of>(x::Context<x::Of>&,x::File*)::{lambda()#1}>",
@@ -85,7 +85,7 @@ class Texts(unittest.TestCase):
             ("std::ctype<char>", "std::ctype<char>"),
             ("x::all(int)::Local", "x::all::Local"),
         ):
-            self.assertEqual(cpp_classes.short_class_name(whole), told)
+            self.assertEqual(cpp_classes.short_class_name(whole), expected)
         for whole, is_library in (
             ("std::ctype<char>", True),
             (
@@ -135,7 +135,7 @@ class Texts(unittest.TestCase):
 
 
 class Stripped:
-    """A program without symbols, some instructions of which are told by what they refer to."""
+    """A program without symbols, some instructions of which are named by what they refer to."""
 
     def __init__(self, **near):
         self.found = {int(it[1:], 16): own for it, own in near.items()}
@@ -178,8 +178,8 @@ class Names(unittest.TestCase):
         panic = NearPanics((Panic("src/a.rs", 7),))
         view = type("View", (), {"naming": Naming(None, Stripped(x10=own, x20=panic))})
         found = [exports.instruction(view, it) for it in (0x10, 0x20, 0x30)]
-        told = {"called": False, "texts": ["near an assertion at src/a.c:7 in work"], "more": 3}
-        self.assertEqual([it["landmarks"] for it in found], [told, None, None])
+        expected = {"called": False, "texts": ["near an assertion at src/a.c:7 in work"], "more": 3}
+        self.assertEqual([it["landmarks"] for it in found], [expected, None, None])
         self.assertEqual(
             [it["panics"] and it["panics"]["places"] for it in found],
             [None, [{"file": "src/a.rs", "line": 7}], None],
@@ -187,7 +187,7 @@ class Names(unittest.TestCase):
 
     def test_what_counts_as_named(self):
         made = "block made in x264+0x40 < x264+0x10"
-        for told, wants in (
+        for text, wants in (
             ("near an assertion at src/a.c:7 in work", True),
             ("called near an assertion at src/a.c:7", True),
             ("in a method of x::Output", True),
@@ -197,7 +197,7 @@ class Names(unittest.TestCase):
             ('called near the text "one"', False),
             ('called near the text "one" and in a method of x::Output', True),
         ):
-            self.assertEqual(is_named(f"{made} ({told})"), wants, told)
+            self.assertEqual(is_named(f"{made} ({text})"), wants, text)
 
 
 if __name__ == "__main__":

@@ -23,7 +23,7 @@ from small_reports import report_of, view_of, word  # noqa: E402
 
 
 class Names(unittest.TestCase):
-    def test_objects_of_one_name_are_told_apart(self):
+    def test_objects_of_one_name_have_distinct_labels(self):
         rows = []
         for at in (0x1000, 0x2000):
             rows += [
@@ -37,7 +37,7 @@ class Names(unittest.TestCase):
         )
         self.assertEqual({it.name for it in view.objects}, {"lock"})
 
-    def test_blocks_of_one_name_are_told_apart_by_their_callers_lines(self):
+    def test_blocks_of_one_name_are_labelled_by_their_callers_lines(self):
         names = {0x100: ("give", 3), 0x200: ("stream", 10), 0x300: ("stream", 20)}
         places = {
             at: [SourceLine(function, f"/src/{function}.c", line)]

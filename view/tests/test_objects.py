@@ -46,10 +46,10 @@ class Objects(unittest.TestCase):
         self.assertEqual(
             [it.name for it in view_of(rows).objects], ["near", "memory at 0x00002000"]
         )
-        # (a line whose words aren't told is what it lies on)
+        # (a line without words is what it lies on)
         self.assertEqual([it.name for it in view_of([head, near]).objects], ["near"])
 
-    def test_a_line_of_two_variables_is_told_once(self):
+    def test_a_line_of_two_variables_is_listed_once(self):
         rows = [
             "line observed 0x00001000 64 start 0 count 200 verdict false",
             "object symbol head 0x00001000 4",
@@ -158,8 +158,10 @@ class Objects(unittest.TestCase):
             [(it.name, it.reads, it.writes, it.hart) for it in view.details(obj).words],
             [("a", 9, 1, "0"), ("b", 30, 40, "1")],
         )
-        told = f"b and a share lines: put {ALIGNED} after each name; saves up to 500 of 501 misses"
-        self.assertEqual(view.details(obj).fix, told)
+        expected = (
+            f"b and a share lines: put {ALIGNED} after each name; saves up to 500 of 501 misses"
+        )
+        self.assertEqual(view.details(obj).fix, expected)
         self.assertEqual((view.invalidations(obj), obj.count), (40, 0))
 
     def test_one_row_for_a_call_site_that_makes_and_frees(self):
@@ -197,8 +199,8 @@ class Objects(unittest.TestCase):
         )
         self.assertEqual(len(calls), 1)
 
-    def test_true_sharing_below_the_first_rows_is_told(self):
-        def told(*useful):
+    def test_true_sharing_below_the_first_rows_is_noted(self):
+        def true_sharing_notes(*useful):
             rows, lines = [], []
             for at, needed in zip(range(0x1000, 0x2000, 0x40), useful):
                 own = f"object symbol v{at:x} {at:#010x} 4"
@@ -222,14 +224,14 @@ class Objects(unittest.TestCase):
 
         four = 9000 * 4 - 0x1000 * 4 - 0x40 * 6
         self.assertTrue(
-            told(0, 0, 0, four + 1)[0].startswith(
+            true_sharing_notes(0, 0, 0, four + 1)[0].startswith(
                 f"{four + 1:,} of all {2 * four + 1:,} sharing misses are true sharing of one object"
             )
         )
-        self.assertIn("in row 4: v10c0", told(0, 0, 0, four + 1)[0])
-        self.assertEqual(told(0, 0, 0, four), [])
-        self.assertEqual(told(0, 0, four + 1, 0), [])
-        self.assertEqual(told(), [])
+        self.assertIn("in row 4: v10c0", true_sharing_notes(0, 0, 0, four + 1)[0])
+        self.assertEqual(true_sharing_notes(0, 0, 0, four), [])
+        self.assertEqual(true_sharing_notes(0, 0, four + 1, 0), [])
+        self.assertEqual(true_sharing_notes(), [])
 
     def test_of_a_clean_trace_all_is_to_be_left(self):
         rows = [

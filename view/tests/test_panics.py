@@ -333,7 +333,7 @@ class Names(unittest.TestCase):
             f"block made in work < fd+0x20 < fd+0x10{near}",
         )
 
-    def test_blocks_that_no_call_site_tells(self):
+    def test_blocks_that_no_call_site_identifies(self):
         naming = Naming(
             None,
             Stripped(
@@ -341,7 +341,7 @@ class Names(unittest.TestCase):
                 x30=NearPanics((Panic("library/std/src/a.rs", 9),)),
             ),
         )
-        for sites, is_told in (
+        for sites, has_name in (
             ([(0x40, "-"), (0x10, "-")], True),
             ([(0x40, "-"), (0x50, "work")], True),
             ([(0x40, "-"), (0x30, "-")], False),
@@ -351,13 +351,13 @@ class Names(unittest.TestCase):
             block = Block(0x1000, 64, 0, None, tuple(Site(*it) for it in sites))
             obj = DataObject(BlocksKey("block", ("0x40",)), block)
             obj.name = naming.block_name(block.sites)
-            own = "block used at" if not sites else obj.name if is_told else f"{obj.name}, used at"
+            own = "block used at" if not sites else obj.name if has_name else f"{obj.name}, used at"
             self.assertEqual(
                 (naming.is_identified(block.sites), unnamed_memory.is_unnamed(obj, naming)),
-                (is_told, not is_told),
+                (has_name, not has_name),
             )
             unnamed_memory.name_by_users(obj, [0x70, 0x10], naming)
-            used = "" if is_told else " fd+0x70 and fd+0x10 (near a panic at src/a.rs:7)"
+            used = "" if has_name else " fd+0x70 and fd+0x10 (near a panic at src/a.rs:7)"
             self.assertEqual(obj.name, own + used)
 
     def test_what_counts_as_named(self):

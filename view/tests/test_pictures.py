@@ -66,7 +66,7 @@ class Pictures(unittest.TestCase):
         )
         self.assertTrue(self.is_kept())
 
-    def test_a_picture_is_made_and_its_size_told(self):
+    def test_a_picture_is_made_and_its_size_printed(self):
         browser = self.script("draws", DRAWS.format(100_000))
         self.assertEqual(
             self.made(browser, "sweep"), (0, "docs/pictures/sweep.png: 100000 bytes\n", "")
@@ -78,12 +78,12 @@ class Pictures(unittest.TestCase):
         )
 
     def test_what_fails_leaves_the_old_one(self):
-        for text, told in (
+        for text, expected in (
             (DRAWS.format(100_001), "^sweep: 100001 bytes, and at most 100000 are allowed$"),
             (FAILS, "(?s)fails --headless .*: status 5\nno display\n$"),
             ("#!/bin/sh\n", "fails made no picture of sweep$"),
         ):
-            self.assertRegex(self.made(self.script("fails", text), "sweep")[0], told)
+            self.assertRegex(self.made(self.script("fails", text), "sweep")[0], expected)
             self.assertTrue(self.is_kept())
         self.script("bin/predator", FAILS)
         self.assertRegex(

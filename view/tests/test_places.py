@@ -48,37 +48,37 @@ class Places(unittest.TestCase):
                 )
             status, text, said = view("replay", trace, *options, program=self.program)
         self.assertEqual((status, said), (0, ""))
-        told = [joined(it) for it in text.partition("predicted")[0].split("   fix     ")[1:]]
-        return [re.split(r" \d+ [\d,]+ \d+ | \d+ predicted", it)[0] for it in told][:shows]
+        fixes = [joined(it) for it in text.partition("predicted")[0].split("   fix     ")[1:]]
+        return [re.split(r" \d+ [\d,]+ \d+ | \d+ predicted", it)[0] for it in fixes][:shows]
 
     def test_apart_by_harts(self):
-        (told,) = self.todo(fight(0x1000, 0x1004), named(b"queue", 0x1000, 8))
+        (fix,) = self.todo(fight(0x1000, 0x1004), named(b"queue", 0x1000, 8))
         self.assertIn(
             "saves up to 238 of 238 misses; grouped by thread (queue (hart 0); queue+4 (hart 1)), invalidations ",
-            told,
+            fix,
         )
-        self.assertIn("), invalidations 239 → 0 (place)", told)
+        self.assertIn("), invalidations 239 → 0 (place)", fix)
 
     def test_words_of_many_harts(self):
-        (told,) = self.todo(fight(0x1000, 0x1000), named(b"lock", 0x1000, 4))
+        (fix,) = self.todo(fight(0x1000, 0x1000), named(b"lock", 0x1000, 4))
         # (one word has no other place)
-        self.assertIn("none: all its misses are true sharing", told)
-        self.assertNotIn("(place)", told)
-        (told,) = self.todo(
+        self.assertIn("none: all its misses are true sharing", fix)
+        self.assertNotIn("(place)", fix)
+        (fix,) = self.todo(
             [*fight(0x1000, 0x1004), *fight(0x1008, 0x1008)], named(b"both", 0x1000, 12)
         )
         self.assertIn(
             "(both (hart 0); both+4 (hart 1); both+8 (several threads)), invalidations 479 → 239 (place)",
-            told,
+            fix,
         )
 
     def test_lines_of_another_size(self):
-        (told,) = self.todo(
+        (fix,) = self.todo(
             fight(0x1000, 0x1044), named(b"wide", 0x1000, 72), options=("--size", "128")
         )
         self.assertIn(
             "(wide (hart 0); wide+68 (hart 1)), invalidations 239 → 0 (place)",
-            told,
+            fix,
         )
 
     def test_names_as_they_are_spelled(self):
@@ -87,20 +87,20 @@ class Places(unittest.TestCase):
             (b"two words\\", "two\\x20words\\x5c"),
             (b"\xc3\xa9\x1b[31m", "\\xc3\\xa9\\x1b[31m"),
         ):
-            (told,) = self.todo(fight(0x1000, 0x1004), named(name, 0x1000, 8))
-            self.assertIn(f"({printed} (hart 0); {printed}+4 (hart 1)), invalidations ", told)
+            (fix,) = self.todo(fight(0x1000, 0x1004), named(name, 0x1000, 8))
+            self.assertIn(f"({printed} (hart 0); {printed}+4 (hart 1)), invalidations ", fix)
         # (no word of a call may be so)
-        (told,) = self.todo(fight(0x1000, 0x1004), named(b"\xff", 0x1000, 8))
-        self.assertNotIn("(place)", told)
+        (fix,) = self.todo(fight(0x1000, 0x1004), named(b"\xff", 0x1000, 8))
+        self.assertNotIn("(place)", fix)
 
     def test_too_large_and_no_room(self):
         for symbol, words in (
             (named(b"table", 0x1000, 2**24 + 4), (0x1000, 0x1004)),
             (named(b"last", 0xFFFFFFC0, 64), (0xFFFFFFC0, 0xFFFFFFFC)),
         ):
-            (told,) = self.todo(fight(*words), symbol)
+            (fix,) = self.todo(fight(*words), symbol)
             self.assertRegex(
-                told,
+                fix,
                 "^(give each thread|separate these groups|start) .*saves up to 238 of 238 misses( offset .*)?$",
             )
 
@@ -116,15 +116,15 @@ class Places(unittest.TestCase):
 
     def test_a_block_by_its_address(self):
         made = (0, Alloc(0x2000, 16, (0x104, 0, 0, 0)))
-        (told,) = self.todo(fight(0x2000, 0x2004), made)
+        (fix,) = self.todo(fight(0x2000, 0x2004), made)
         self.assertIn(
             "; grouped by thread (+0 (hart 0); +4 (hart 1)), invalidations 239 → 0 (place)",
-            told,
+            fix,
         )
         # (of several that were made there none is meant)
         earlier = [(0, Alloc(0x2000, 16, (0x200, 0, 0, 0))), (0, Free(0x2000))]
-        (told,) = self.todo(fight(0x2000, 0x2004), *earlier, made)
-        self.assertNotIn("(place)", told)
+        (fix,) = self.todo(fight(0x2000, 0x2004), *earlier, made)
+        self.assertNotIn("(place)", fix)
 
 
 @unittest.skipUnless(has(PROGRAM, "misses", "place"), "the program isn't built, or has no place")
@@ -132,8 +132,8 @@ class PlacesOfTheProgram(Places):
     program = PROGRAM
 
     def test_the_largest(self):
-        (told,) = self.todo(fight(0x1000, 0x1004), named(b"table", 0x1000, 2**24))
-        self.assertIn("), invalidations 239 → 0 (place)", told)
+        (fix,) = self.todo(fight(0x1000, 0x1004), named(b"table", 0x1000, 2**24))
+        self.assertIn("), invalidations 239 → 0 (place)", fix)
 
 
 if __name__ == "__main__":

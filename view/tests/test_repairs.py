@@ -74,8 +74,8 @@ class Following(unittest.TestCase):
             (trial,) = self.trials(found)
             self.assertEqual(sum(trial["before"][it] for it in MISSES), self.missed(found))
             return sum(trial["after"][it] for it in MISSES)
-        (told,) = COUNTED.findall(together[0])
-        before, after = (int(it.replace(",", "")) for it in told)
+        (numbers,) = COUNTED.findall(together[0])
+        before, after = (int(it.replace(",", "")) for it in numbers)
         self.assertEqual(before, self.missed(found))
         return after
 
@@ -110,7 +110,7 @@ class Following(unittest.TestCase):
         self.assertEqual(ran.returncode, 0, ran.stdout)
         self.comes_to(name, found, self.missed(self.look(self.build(name), turns=turns)))
 
-    def told(self, name, *parts):
+    def make_fixes(self, name, *parts):
         """Makes the fixes, as the source has them under -DREPAIRED."""
         found = self.start(name)
         for part in parts:
@@ -121,7 +121,7 @@ class Following(unittest.TestCase):
 
     def rows(self):
         """Makes both fixes for the rows of a grid."""
-        found = self.told(
+        found = self.make_fixes(
             "grid",
             "wrap it in `struct __attribute__((aligned(64))) grid_line { volatile int32_t value[21]; };`",
         )
@@ -179,19 +179,19 @@ class Known(Following):
         )
 
     def test_a_slab(self):
-        self.told(
+        self.make_fixes(
             "slab",
             "give each element of slab its own line: wrap it in",
             "`struct __attribute__((aligned(64))) list` (slab.c:15)",
         )
 
     def test_striped_mutexes(self):
-        self.told(
+        self.make_fixes(
             "table", "`struct __attribute__((aligned(64))) locks_line { pthread_mutex_t value; };`"
         )
 
     def test_an_array_of_mutexes(self):
-        self.told(
+        self.make_fixes(
             "mutexes",
             "`struct __attribute__((aligned(64))) locks_line { pthread_mutex_t value; };`",
         )
@@ -200,7 +200,7 @@ class Known(Following):
         self.rows()
 
     def test_several_arrays_of_one_struct(self):
-        self.told(
+        self.make_fixes(
             "sums",
             "join table.counts and table.sums to one array of 4 elements of ",
             "`struct __attribute__((aligned(64))) counts_sums { own_count_t counts; own_sum_t sums; };`",
@@ -262,12 +262,12 @@ class OfThisMachine(Following):
         )
 
     def test_sentences(self):
-        self.told(
+        self.make_fixes(
             "mutexes",
             "locks_line { pthread_mutex_t value; };`, 40 → 64 bytes each",
         )
         for name in ("slab", "table", "sums"):
-            self.told(name)
+            self.make_fixes(name)
 
     def test_rows_of_a_grid(self):
         self.rows()

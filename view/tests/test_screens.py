@@ -319,9 +319,9 @@ class Screens(ScreenTest):
                 "is used twice: outputs must differ from each other and from inputs",
             ),
         ):
-            status, _, told = view(*words, *(TURNS if words[0] == "run" else ()))
+            status, _, printed = view(*words, *(TURNS if words[0] == "run" else ()))
             self.assertEqual(status, 2)
-            self.assertIn(said, told)
+            self.assertIn(said, printed)
 
     def test_no_room_for_the_screen(self):
         env = {**os.environ, "PREDATOR_BUILD": "no"}

@@ -63,7 +63,7 @@ class Sweeps(unittest.TestCase):
                 )
             )
 
-    def told(self, *words):
+    def sweep_text(self, *words):
         status, text, said = view("sweep", self.trace, "--size", "8", *words, program=self.program)
         self.assertEqual((status, said), (0, ""))
         return text
@@ -95,8 +95,8 @@ class Sweeps(unittest.TestCase):
         for pattern in (r"<script", r"https?:", r"""(src|href)=""", "<i>"):
             self.assertNotRegex(text, pattern)
         self.assertIn(f"<h1>&lt;i&gt;t: {TITLE}</h1>", text)
-        told = re.findall(r"<rect .*?</svg> (.*?); <svg .*?<circle .*?</svg> (.*?)</p>", text)
-        self.assertEqual(told, [("as placed: 39", "fewest, shift 4: 0")])
+        labels = re.findall(r"<rect .*?</svg> (.*?); <svg .*?<circle .*?</svg> (.*?)</p>", text)
+        self.assertEqual(labels, [("as placed: 39", "fewest, shift 4: 0")])
         # Each mark is beside its text, and in the picture on the line.
         self.assertEqual(re.findall(r'<rect x="(\S+)" y="(\S+)"', text), [("-5", "-5"), ("7", "7")])
         self.assertEqual(
@@ -114,10 +114,12 @@ class Sweeps(unittest.TestCase):
             [("12", "0"), ("628", "4")],
         )
         words = [self.program, "sweep", self.trace, "--size", "8"]
-        told = subprocess.run(words, capture_output=True, text=True).stdout
+        printed = subprocess.run(words, capture_output=True, text=True).stdout
         wanted = [
             list(numbers)
-            for numbers in re.findall(r"^shift (\d+) total (\d+) lines (\d+)$", told, re.MULTILINE)
+            for numbers in re.findall(
+                r"^shift (\d+) total (\d+) lines (\d+)$", printed, re.MULTILINE
+            )
         ]
         rows = [
             re.findall(r"<td[^>]*>(.*?)</td>", row) for row in re.findall(r"<tr>(.*?)</tr>", text)
@@ -145,7 +147,7 @@ class Sweeps(unittest.TestCase):
             in_turn(0x1004, 0x1008) + in_turn(0x2000, 0x2000),
             [("<b>near", 0x1000, 12), ("far", 0x2000, 4), ("next&", 0x100C, 4)],
         )
-        rows = self.told().split("\n")
+        rows = self.sweep_text().split("\n")
         self.assertTrue(
             rows[0].endswith(
                 "39 invalidations as placed, the fewest; 78 at worst (shift 4); most of the difference is in <b>near (80 accesses)"
@@ -156,7 +158,7 @@ class Sweeps(unittest.TestCase):
             [it.split()[:3] for it in rows[7:9]], [["0", "39", "<b>near"], ["39", "39", "far"]]
         )
         self.assertIn("<b>near (0x00001004: bytes 4 to 11 of <b>near)", rows[7])
-        page = self.told("--html", "-")
+        page = self.sweep_text("--html", "-")
         near = ["&lt;b&gt;near", "0", "39", "0x00001004: bytes 4 to 11 of &lt;b&gt;near"]
         self.assertEqual(
             cells_of(page), [near, ["far", "39", "39", "0x00001ffc: bytes 0 to 3 of far"]]
@@ -183,22 +185,22 @@ class Sweeps(unittest.TestCase):
                 sorted(counts),
                 sorted(int(it[1 + at]) for it in cells_of(page) if it[1 + at] != "0"),
             )
-        self.assertIn("1 more object (--top 2 shows all)", self.told("--top", "1"))
+        self.assertIn("1 more object (--top 2 shows all)", self.sweep_text("--top", "1"))
         self.assertIn(
             "1 more object isn&#39;t shown: --top 2 shows all",
-            self.told("--top", "1", "--html", "-"),
+            self.sweep_text("--top", "1", "--html", "-"),
         )
 
     def test_nothing_is_taken(self):
         self.write(in_turn(0x1000))
-        told = "8-byte lines: 0 invalidations as placed, and under every shift (20 accesses)\n"
-        self.assertTrue(self.told().startswith(told))
-        page = self.told("--html", "-")
+        expected = "8-byte lines: 0 invalidations as placed, and under every shift (20 accesses)\n"
+        self.assertTrue(self.sweep_text().startswith(expected))
+        page = self.sweep_text("--html", "-")
         self.assertEqual((page.count("<h2>"), cells_of(page)), (0, []))
 
     def test_names_with_control_characters(self):
         self.write(in_turn(0x1000, 0x1004), [("a\x1b[31m\x07\"'&<b>", 0x1000, 8)])
-        page = self.told("--html", "-")
+        page = self.sweep_text("--html", "-")
         self.assertEqual(re.findall("[\x00-\x08\x0b-\x1f]", page), [])
         self.assertEqual(cells_of(page)[0][0], "a\\x1b[31m\\x07&#34;&#39;&amp;&lt;b&gt;")
 
@@ -207,8 +209,8 @@ class Sweeps(unittest.TestCase):
             in_turn(*(0x1000 + 16 * (it // 2) + 4 * (it % 2) for it in range(8))) * 3,
             [(f"many{it}", 0x1000 + 16 * it, 8) for it in range(4)],
         )
-        self.assertEqual(len(cells_of(self.told("--html", "-"))), 4)
-        self.assertIn("2 more objects (--top 4 shows all)", self.told("--top=2"))
+        self.assertEqual(len(cells_of(self.sweep_text("--html", "-"))), 4)
+        self.assertIn("2 more objects (--top 4 shows all)", self.sweep_text("--top=2"))
 
     def test_refused(self):
         status, _, said = view(
@@ -234,12 +236,12 @@ class SweepsOfTheProgram(Sweeps):
 
 class Texts(unittest.TestCase):
     def test_what_is_the_least(self):
-        told = Sweep(TEXT.format(7, 9, 0, 7)).title()
+        title = Sweep(TEXT.format(7, 9, 0, 7)).title()
         self.assertTrue(
-            told.endswith(
+            title.endswith(
                 "8-byte lines: 7 invalidations as placed, the fewest; 9 at worst (shift 4)"
             ),
-            told,
+            title,
         )
         own = page(Sweep(TEXT.format(7, 9, 0, 7)), "t")
         self.assertEqual(
@@ -264,15 +266,15 @@ class Texts(unittest.TestCase):
         one, two = ShiftedLines({1: 5, 2: 90}, {1: "a", 2: "b"}, {1: "x"}), ShiftedLines(
             {1: 1, 2: 89, 3: 4}, {1: "a", 2: "b", 3: "c"}, {}
         )
-        told = [(it.name, it.counts, it.border) for it in order_crossings([one, two], 0, 1)]
-        self.assertEqual(told, [("a", [5, 1], "x"), ("b", [90, 89], ""), ("c", [0, 4], "")])
+        rows = [(it.name, it.counts, it.border) for it in order_crossings([one, two], 0, 1)]
+        self.assertEqual(rows, [("a", [5, 1], "x"), ("b", [90, 89], ""), ("c", [0, 4], "")])
 
     def test_a_curve_is_drawn_from_zero_up(self):
-        told = curve([0, 50, 100, 25], [(2, "most")], [0, 4, 8, 12])
-        self.assertEqual(told["points"], "12,188 217,100 422,12 628,144")
-        self.assertEqual(told["marks"], [{"x": 422, "y": 12, "text": "most"}])
+        drawn = curve([0, 50, 100, 25], [(2, "most")], [0, 4, 8, 12])
+        self.assertEqual(drawn["points"], "12,188 217,100 422,12 628,144")
+        self.assertEqual(drawn["marks"], [{"x": 422, "y": 12, "text": "most"}])
         self.assertEqual(
-            [(it["x"], it["text"]) for it in told["ticks"]],
+            [(it["x"], it["text"]) for it in drawn["ticks"]],
             [(12, 0), (217, 4), (422, 8), (628, 12)],
         )
         self.assertEqual(curve([0], [], [0])["points"], "12,188")

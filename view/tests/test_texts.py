@@ -72,7 +72,7 @@ class Texts(unittest.TestCase):
             [(0x1000, 0, 2, "0"), (0x1008, 1, 1, "many")],
         )
 
-    def test_report_behind_which_sites_are_told(self):
+    def test_report_followed_by_its_sites(self):
         self.assertEqual(
             Report(WHOLE + "where 0x000100b0 /home/me/kinds.c:59\n").site_places,
             {0x100B0: "/home/me/kinds.c:59"},
@@ -336,12 +336,12 @@ class Words(unittest.TestCase):
         self.assertEqual(visible("a\tb\n\x1b[1m\u202e\x00é"), "a\tb\n\\x1b[1m\\u202e\\x00é")
         self.assertEqual([visible(it) for it in (None, 3, ["\x00"])], [None, 3, ["\x00"]])
         # (a cell says where a word of a stack is without its address)
-        for name, told in (
+        for name, expected in (
             ("0x006479c8, 1,592 bytes below its top", "1,592 bytes below its top"),
             ("0x00001000", "0x00001000"),
             ("a, b", "a, b"),
         ):
-            self.assertEqual(PLACE.sub("", name), told)
+            self.assertEqual(PLACE.sub("", name), expected)
 
 
 if __name__ == "__main__":

@@ -174,9 +174,9 @@ class Cut(Folder):
                 self.assertTrue(min(most, 5000) <= found <= min(most + 1024, 5000))
                 with open(out, "rb") as file:
                     own = file.read()
-                told, whole = list(located_records(own)), list(located_records(trace))
-                self.assertEqual(told, whole[: len(told)])
-                self.assertEqual(sum(isinstance(it, Accessed) for *_, it in told), found)
+                moved, whole = list(located_records(own)), list(located_records(trace))
+                self.assertEqual(moved, whole[: len(moved)])
+                self.assertEqual(sum(isinstance(it, Accessed) for *_, it in moved), found)
                 self.assertEqual(own[-25:-8], b"\6\4" + bytes(15))
                 self.assertEqual(trace_accesses(out), found)
         self.assertEqual(trace_accesses(self.path("none", b"PRDTRC01")), 0)
@@ -351,31 +351,31 @@ class Sentences(unittest.TestCase):
         return (found.fix([], quantum), found.outcome(False)) if found.is_decisive() else None
 
     def test_what_was_counted(self):
-        told = (
+        expected = (
             "misses 4,654 → 2,490 (false 2,188 → 23, true 2,457 → 2,458, cold 9 → 9), 16 → 64 bytes"
         )
-        self.assertEqual(self.tried(2188, 2457, 90000, (23, 2458)), ("do it", told))
+        self.assertEqual(self.tried(2188, 2457, 90000, (23, 2458)), ("do it", expected))
         apart = "; separating all words by thread would leave 19 of 4,654 misses"
         self.assertEqual(
-            self.tried(2188, 2457, 90000, (23, 2458), apart=(0, 10)), ("do it", told + apart)
+            self.tried(2188, 2457, 90000, (23, 2458), apart=(0, 10)), ("do it", expected + apart)
         )
 
     def test_what_was_counted_of_a_part(self):
-        told = "misses 4,654 → 2,490 (false 2,188 → 23, true 2,457 → 2,458, cold 9 → 9), 16 → 64 bytes (first 90,000 accesses)"
-        self.assertEqual(self.tried(2188, 2457, 90000, (23, 2458), own=4645), ("do it", told))
+        expected = "misses 4,654 → 2,490 (false 2,188 → 23, true 2,457 → 2,458, cold 9 → 9), 16 → 64 bytes (first 90,000 accesses)"
+        self.assertEqual(self.tried(2188, 2457, 90000, (23, 2458), own=4645), ("do it", expected))
         none = "none: no layout change helps on this trace; write shared data less often"
-        told = (
+        expected = (
             "1 layout, which saves 3 of 4,000 misses; separating all words by thread would leave"
             " 3,990 of 4,000 misses (first 90,000 accesses)"
         )
         found = self.tried(2188, 2457, 90000, (2185, 2457), own=4000, apart=(2178, 2457))
-        self.assertEqual(found, (none, told))
+        self.assertEqual(found, (none, expected))
 
     def test_cold_misses_that_a_repair_adds(self):
         none = "none: no layout change helps on this trace"
         found = self.tried(500, 100, 9000, (0, 100, 609), apart=(0, 100, 800))
-        told = "1 layout, which saves 0 of 600 misses; separating all words by thread would leave all 600 misses"
-        self.assertEqual(found, (none, told))
+        expected = "1 layout, which saves 0 of 600 misses; separating all words by thread would leave all 600 misses"
+        self.assertEqual(found, (none, expected))
         self.assertIsNot(self.tried(500, 100, 9000, (0, 100, 100))[0], none)
 
     def test_words_that_no_repair_separates(self):
@@ -460,22 +460,22 @@ class Sentences(unittest.TestCase):
         found = Trial(SimpleNamespace(useless=900, useful=10), before, 9000)
         found.repair = Repair(["do it"], [], 64, None, (16, 1024))
         found.after = TrialCount({"useless": 0, "useful": 10, "cold": 4}, 2)
-        told = "misses 914 → 14 (false 900 → 0, true 10 → 10, cold 4 → 4), 16 → 1,024 bytes"
-        self.assertEqual((found.fix([]), found.outcome(False)), ("do it", told))
+        expected = "misses 914 → 14 (false 900 → 0, true 10 → 10, cold 4 → 4), 16 → 1,024 bytes"
+        self.assertEqual((found.fix([]), found.outcome(False)), ("do it", expected))
         found.other_repair = Repair(["do that"], [], 0, None, (16, 16), True)
         found.other = TrialCount({"useless": 3, "useful": 10, "cold": 4}, 2)
         other = "misses 914 → 17 (false 900 → 3, true 10 → 10, cold 4 → 4)"
-        self.assertEqual(found.outcome(False), f"{told}; or do that: {other}")
+        self.assertEqual(found.outcome(False), f"{expected}; or do that: {other}")
 
     def test_bytes_of_words(self):
         before = TrialCount({"useless": 0, "useful": 900, "cold": 4}, 9)
         found = Trial(SimpleNamespace(useless=0, useful=900), before, 9000)
         found.instead = "pad it"
-        told = "pad it, then run again, because threads use different bytes of a, b and misses are counted per 4-byte word"
-        self.assertEqual((found.fix(["a", "b"]), found.outcome(True)), (told, ""))
+        expected = "pad it, then run again, because threads use different bytes of a, b and misses are counted per 4-byte word"
+        self.assertEqual((found.fix(["a", "b"]), found.outcome(True)), (expected, ""))
         found.repair = Repair(["do it"], [], 64, None)
         found.after = TrialCount({"useless": 0, "useful": 10, "cold": 4}, 2)
-        self.assertEqual(found.fix(["a", "b"]), f"do it; for the rest {told}")
+        self.assertEqual(found.fix(["a", "b"]), f"do it; for the rest {expected}")
 
     def test_nothing_to_do(self):
         self.assertEqual(

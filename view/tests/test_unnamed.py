@@ -145,7 +145,7 @@ class Unnamed(unittest.TestCase):
 
     def test_lines_near_an_instruction(self):
         def place(*found):
-            """What is told of an instruction of `f` at 0x1040, whose number says nothing, by what lies 4, 8 .. before it."""
+            """The line of an instruction of `f` at 0x1040, whose number says nothing, by what lies 4, 8 .. before it."""
             asked = []
 
             def symbolized(addresses):
@@ -158,11 +158,11 @@ class Unnamed(unittest.TestCase):
                 SimpleNamespace(file=lambda _: (file, 0x1040)),
                 symbolized,
             )
-            told = NativeSources.near(sources, 0xFFFFFF00)
+            nearest = NativeSources.near(sources, 0xFFFFFF00)
             self.assertEqual(
                 asked, [] if file.is_stripped else [(file, at) for at in range(0x103C, 0xF3F, -4)]
             )
-            return told
+            return nearest
 
         own, other = SourceLine("f", "a.c", 7), SourceLine("f", "a.c", 8)
         for is_stripped, found, wanted in (

@@ -161,7 +161,7 @@ class InTime(unittest.TestCase):
         )
         self.assertEqual(BANDS[0].least, 0)
         self.assertEqual([it.severity for it in BANDS], ["low", "moderate", "high", "severe"])
-        self.assertEqual(len({it.told for it in BANDS}), len(BANDS))
+        self.assertEqual(len({it.advice for it in BANDS}), len(BANDS))
 
     def test_the_numbers_of_the_bands_are_those_of_the_studies(self):
         with open(os.path.join(TOP, "docs", "STUDIES.md"), encoding="utf-8") as file:
@@ -170,8 +170,8 @@ class InTime(unittest.TestCase):
         medians_at = [at for at, it in enumerate(rows[0]) if it == "median"]
         for band, row in zip(BANDS[1:], rows[3:], strict=True):
             medians = [float(row[at]) for at in medians_at]
-            told = f"{min(medians):.1f} to {max(medians):.1f} times faster"
-            self.assertTrue(band.told.endswith(told), (band.told, told))
+            gain = f"{min(medians):.1f} to {max(medians):.1f} times faster"
+            self.assertTrue(band.advice.endswith(gain), (band.advice, gain))
             self.assertIn(f"{band.least:g}", row[0])
         self.assertTrue(all(float(rows[2][at]) <= 1 for at in medians_at))
 

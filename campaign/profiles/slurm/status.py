@@ -28,7 +28,7 @@ def job_state(job):
     status, text = call("scontrol", "--oneliner", "show", "job", job)
     state = re.search(r"\bJobState=(\w+)", text)
     if state is None:
-        # Slurm forgets a job minutes after its end. Whether it succeeded, its result tells, which Snakemake
+        # Slurm forgets a job minutes after its end. Whether it succeeded is in its result, which Snakemake
         # looks for; a controller that doesn't answer is asked again.
         return "success" if status and "Invalid job id" in text else "running"
     if state[1] == "COMPLETED":
