@@ -121,7 +121,7 @@ hart_entry:
 #ifdef PREDATOR_THREADS
     .section .text.predator_spawn_thread, "ax"
 
-# int predator_spawn_thread(void *(*run)(void *), void *argument), of pthread.c
+# int predator_spawn_thread(void *(*run)(void *), void *argument), of pthread/pthread_create.c
     .globl  predator_spawn_thread
     .type   predator_spawn_thread, @function
 predator_spawn_thread:
