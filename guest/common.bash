@@ -179,7 +179,7 @@ reason_of() {
     [ -z "$kind" ] || sed -nE "s/^#define $kind PREDATOR_MISSING\([a-z]+, \"(.*)\"\)\$/\1/p" "$here/include/predator_missing.h"
 }
 
-# Runs a command that links. What the linker doesn't find is told with the reason, where there is one.
+# Runs a command that links. What the linker doesn't find is reported with the reason, where there is one.
 run_link() {
     local said status=0 line why
     { said=$("$@" 2>&1 1>&3 3>&-) || status=$?; } 3>&1

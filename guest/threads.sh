@@ -54,7 +54,7 @@ run() {
     fi
 }
 
-# How many of the seeds are wrong; the first one is told.
+# How many of the seeds are wrong; the first one is printed.
 count_wrong() {
     local elf=$1 source=$2 seed wrong=0 status
     sed -n 's|^//> ||p' "$source" >"$work/wanted"

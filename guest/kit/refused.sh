@@ -12,7 +12,7 @@ pthread_cancel(pthread_self())|a hart can't be ended by another one
 pthread_kill(pthread_self(), 2)|there are no signals
 pthread_timedjoin_np(pthread_self(), 0, 0)|a thread has no clock of its own
 pthread_attr_setstack(0, 0, 0)|each hart has the stack
-pthread_mutex_consistent(0)|a mutex isn't told
+pthread_mutex_consistent(0)|a mutex can't detect
 pthread_setschedprio(0, 1)|harts have no priorities
 pthread_atfork(0, 0, 0)|there is one process
 sem_open("a", 0)|there is one process
@@ -53,7 +53,7 @@ done
 builds "the same where nobody calls it, by build.sh" "$build" can.elf can.c -- -w
 builds "the same where nobody calls it, in C++" "$cxx" -w -x c++ -fpermissive can.c -o can.elf
 
-# Constants that stand beside such calls: one that tells that there is something to be had is no macro.
+# Constants that belong to such calls: none by which a program tests for the feature is a macro.
 cat >constants.c <<'C'
 #include <pthread.h>
 #if defined PTHREAD_MUTEX_ROBUST || defined PTHREAD_PRIO_INHERIT || defined PTHREAD_PRIO_PROTECT

@@ -45,19 +45,19 @@ runs() {
     fi
 }
 if [ -x "$predator" ]; then
-    told="pthread_create: each of the 8 harts is in use, so there is none for another thread: the settings may have more, as harts = 16"
-    runs "many threads" many.elf 134 "$told"
-    runs "many threads, by the driver" many2.elf 134 "$told"
+    message="pthread_create: each of the 8 harts is in use, so there is none for another thread: the settings may have more, as harts = 16"
+    runs "many threads" many.elf 134 "$message"
+    runs "many threads, by the driver" many2.elf 134 "$message"
     echo "harts = 21" >settings
     : >put
     expect_success "enough harts" "$predator" run many.elf --settings settings --output put
-    expect_success "nothing is told then" test ! -s put
+    expect_success "no message then" test ! -s put
     echo "harts = 200" >settings
     sed 's/20/250/' many.c >more.c
     "$cc" more.c -o more.elf
     echo "memory = 67108864" >>settings
-    told=${told/8 harts/200 harts}
-    runs "200 harts" more.elf 134 "${told/= 16/= 256}" --settings settings
+    message=${message/8 harts/200 harts}
+    runs "200 harts" more.elf 134 "${message/= 16/= 256}" --settings settings
     runs "threads.h without a C library" threads.elf 0 ""
     runs "the driver's program" one.elf 0 "3 1.000"
     runs "words of main" words.elf 0 "[in the.txt]"

@@ -29,8 +29,8 @@ static void free_detached(void)
         }
 }
 
-#ifdef PREDATOR_TELLS
-int predator_spawn_or_tell(void *(*run)(void *), void *argument);
+#ifdef PREDATOR_EXTRAS
+int predator_spawn_or_warn(void *(*run)(void *), void *argument);
 
 #define SMALL __attribute__((minsize, noinline))
 
@@ -49,17 +49,17 @@ SMALL static char *put_number(char *to, uint32_t number)
     return to;
 }
 
-// predator_spawn_thread, and where there is no hart it says so, once a run and under the lock, and what helps. Each hart is in use then, so
-// the highest that was ever started is the last one. (The compiler takes it for any function, so that a thread that has a hart makes the
-// same steps with it and without.)
-__attribute__((weak)) SMALL int predator_spawn_or_tell(void *(*run)(void *), void *argument)
+// Calls predator_spawn_thread. Where no hart is free it prints the setting that helps, once a run and under the lock. Each hart is in use
+// then, so the highest that was ever started is the last one. (The compiler takes it for any function, so that a thread that has a hart
+// makes the same steps with it and without.)
+__attribute__((weak)) SMALL int predator_spawn_or_warn(void *(*run)(void *), void *argument)
 {
     char line[160], *end;
     uint32_t harts = HARTS;
     int hart = predator_spawn_thread(run, argument);
-    if (hart >= 0 || pthread_harts.told)
+    if (hart >= 0 || pthread_harts.has_warned)
         return hart;
-    pthread_harts.told = 1;
+    pthread_harts.has_warned = 1;
     while (harts - 1 > (uint32_t)predator_hart_id() && pthread_harts.states[harts - 1] == NONE)
         harts--;
     end = put_text(line, "pthread_create: each of the ");
@@ -74,7 +74,7 @@ __attribute__((weak)) SMALL int predator_spawn_or_tell(void *(*run)(void *), voi
     return hart;
 }
 #else
-#define predator_spawn_or_tell predator_spawn_thread
+#define predator_spawn_or_warn predator_spawn_thread
 #endif
 
 int pthread_create(pthread_t *thread, const pthread_attr_t *attr, void *(*run)(void *), void *argument)
@@ -83,7 +83,7 @@ int pthread_create(pthread_t *thread, const pthread_attr_t *attr, void *(*run)(v
     int hart = predator_spawn_thread(run, argument);
     if (hart < 0) {
         free_detached();
-        hart = predator_spawn_or_tell(run, argument);
+        hart = predator_spawn_or_warn(run, argument);
     }
     if (hart > 0) {
         pthread_harts.states[hart] = attr != NULL && attr->detached ? DETACHED : RUNS;

@@ -53,8 +53,8 @@ ALONE static struct {
     uint32_t lock, threads, main_ended, harts;
     void *main_result;
     unsigned char states[HARTS];
-#ifdef PREDATOR_TELLS
-    unsigned char told;
+#ifdef PREDATOR_EXTRAS
+    unsigned char has_warned;
 #endif
 } pthread_harts = {.threads = 1, .states = {RUNS}};
 
