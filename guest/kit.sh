@@ -3,7 +3,8 @@
 # examples are built as they stand in built/, and, where the built program is there, what programs do that were built so. It builds no
 # program of the repository, and is no part of the gate.
 #
-#     kit.sh        PREDATOR names another program than crates/predator/out/predator
+#     kit.sh        PREDATOR names another program than crates/predator/out/predator, and OTHER_LIBCXX folders with the headers of other
+#                   versions of LLVM's C++ library, which are tried too
 #
 # Its last line is `N passed, M failed, K skipped`, and it ends with 0 exactly where M is 0.
 set -u

@@ -8,6 +8,7 @@
 #include <vector>
 
 #include <pthread.h>
+#include <time.h>
 #include <unistd.h>
 
 #include "ends.h"
@@ -182,7 +183,8 @@ void condition_variable::__do_timed_wait(
 {
     if (!guard.owns_lock())
         __throw_system_error(EPERM, "condition_variable::timed wait: mutex not locked");
-    auto time = __convert_to_timespec<__libcpp_timespec_t>(max(until.time_since_epoch(), chrono::nanoseconds(0)));
+    auto since = max(until.time_since_epoch(), chrono::nanoseconds(0)).count();
+    struct timespec time = {(time_t)(since / 1000000000), (long)(since % 1000000000)};
     int error = pthread_cond_timedwait(&__cv_, guard.mutex()->native_handle(), &time);
     check(error == ETIMEDOUT ? 0 : error, "condition_variable timed wait failed");
 }

@@ -44,7 +44,6 @@ refuses "an exception that is insisted on" "can't be had: C++ has no exceptions 
 printf 'struct a { virtual ~a() {} }; struct b : a {};\nint main() { a *it = new b; return dynamic_cast<b *>(it) == nullptr; }\n' >casts.cc
 refuses "type information" "-frtti" "$cxx" casts.cc -o x.elf
 refuses "type information without LLVM's library" "can't be had: type information needs" env LIBCXX=none "$cxx" -frtti casts.cc -o x.elf
-[ -z "$(bash -c '. "$0" && cxx_headers' "$here/common.bash")" ] || builds "type information that is asked for" "$cxx" -frtti casts.cc -o casts.elf
 cat >place.cc <<'C'
 #include <new>
 struct a { int x; a(int x) : x(x) {} };
@@ -55,18 +54,73 @@ for it in c++98 c++11 c++17; do
     sed "s/$([ $it = c++98 ] && echo 'alignas(a) ' || echo '^$')//" place.cc >place2.cc
     builds "new at a place, $it" "$cxx" -std=$it -Wall -Wextra -Werror place2.cc -o place.elf
 done
+
+# ---- C++ without the headers of LLVM's library, and which of them are taken
+
 echo '#include <vector>' >vector.cc
 refuses "C++'s library, where it isn't installed" "Debian: libc++-14-dev" env LIBCXX=none "$cxx" -c vector.cc
+refuses "C++'s library, where it isn't installed, by build.sh" "Debian: libc++-14-dev" env LIBCXX=none "$build" x.elf vector.cc
 builds "C++ without its library" env LIBCXX=none "$cxx" -std=c++17 -Wall -Wextra -Werror plus.cc -o bare.elf
-printf '#include <iostream>\nint main() { std::cout << 1; }\n' >streams.cc
-refuses "streams" "use printf" "$cxx" -c streams.cc
-echo 'int main() { try { return 1; } catch (...) { return 2; } }' >tries.cc
-refuses "a handler of exceptions" "exceptions disabled" "$cxx" -c tries.cc
-printf '#include <vector>\nint main() { return std::vector<int>(3).size() - 3; }\n' >sized.cpp
-builds "C++ by build.sh" "$build" sized.elf sized.cpp
-echo 'int twice(int x) { return 2 * x; }' >half.c
-printf 'extern "C" int twice(int);\nint main() { return twice(2) - 4; }\n' >other.cpp
-builds "C and C++ together" "$build" mixed.elf other.cpp half.c
+builds "C++ without its library, by build.sh" env LIBCXX=none "$build" bare2.elf plus.cc
+builds "C where C++'s library isn't installed" env LIBCXX=none "$cc" main.c add.c -o c.elf
+
+# headers_are WHAT [VERSION]: what a compiler of version 14 takes of the folders in llvm/.
+headers_are() {
+    local what=$1 wanted=${2:+llvm/llvm-$2/include/c++/v1}
+    expect_equal "$what" "$wanted" "$(bash -c 'unset LIBCXX; self=kit.sh here=$1; . "$here/common.bash"; clang() { echo 14.0.6; }; cxx_headers llvm' all "$here")"
+}
+add_headers() {
+    mkdir -p "llvm/llvm-$1/include/c++/v1"
+    : >"llvm/llvm-$1/include/c++/v1/__config"
+}
+headers_are "no headers"
+add_headers 19
+headers_are "headers of a version that is too new"
+add_headers 15
+headers_are "headers of another version" 15
+add_headers 16
+headers_are "headers of two other versions" 16
+add_headers 14
+headers_are "headers of the compiler's version" 14
+
+# ---- C++ with them
+
+library=$(bash -c 'self=kit.sh here=$1; . "$here/common.bash"; cxx_headers /usr/lib' all "$here")
+if [ -n "$library" ]; then
+    builds "type information that is asked for" "$cxx" -frtti casts.cc -o casts.elf
+    printf '#include <iostream>\nint main() { std::cout << 1; }\n' >streams.cc
+    refuses "streams" "use printf" "$cxx" -c streams.cc
+    refuses "streams, by build.sh" "use printf" "$build" x.elf streams.cc
+    echo 'int main() { try { return 1; } catch (...) { return 2; } }' >tries.cc
+    refuses "a handler of exceptions" "cannot use 'try' with exceptions disabled" "$cxx" -c tries.cc
+    refuses "an exception, by build.sh" "cannot use 'throw' with exceptions disabled" "$build" x.elf throws.cc
+    printf '#include <vector>\nint main() { return std::vector<int>(3).size() - 3; }\n' >sized.cpp
+    builds "C++ by build.sh" "$build" sized.elf sized.cpp
+    echo 'int twice(int class) { return 2 * class; }' >half.c
+    printf 'extern "C" int twice(int);\nint main() { return twice(2) - 4; }\n' >other.cpp
+    builds "C and C++ together" "$build" mixed.elf other.cpp half.c
+    refuses "an error in C among C++" "wrong.c:1:25: error: use of undeclared identifier 'one'" "$build" x.elf other.cpp wrong.c
+    cat >crowd.cpp <<'C'
+#include <mutex>
+#include <thread>
+#include <vector>
+int main()
+{
+    std::mutex gate;
+    std::vector<std::thread> threads;
+    gate.lock();
+    for (int i = 0; i < 300; i++)
+        threads.emplace_back([&] { std::lock_guard<std::mutex> guard(gate); });
+}
+C
+    builds "300 threads of C++" "$build" crowd.elf crowd.cpp
+    for it in /usr/lib/llvm-1[4-6]/include/c++/v1 ${OTHER_LIBCXX:-}; do
+        [ -e "$it" ] && [ "$it" != "$library" ] || continue
+        builds "C++ with the headers of $it" env LIBCXX="$it" "$cxx" -Wall -Wextra -Werror sized.cpp -o "sized-$(basename "${it%/include/*}").elf"
+    done
+else
+    skip_checks 9 "what has C++'s library wants its headers (Debian: libc++-14-dev)"
+fi
 
 # ---- CMake
 

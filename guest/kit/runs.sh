@@ -58,6 +58,14 @@ if [ -x "$predator" ]; then
     echo "memory = 67108864" >>settings
     message=${message/8 harts/200 harts}
     runs "200 harts" more.elf 134 "${message/= 16/= 256}" --settings settings
+    if [ -n "$library" ]; then
+        sed -i 's/200/256/' settings
+        few="pthread_create: each of the 256 harts is in use, so there is none for another thread"
+        runs "300 threads of C++" crowd.elf 134 "$few" --settings settings
+        expect_in_file "300 threads of C++: the error" put "thread constructor failed: "
+        runs "C and C++ together" mixed.elf 0 ""
+        for it in sized*.elf casts.elf; do runs "$it" "$it" 0 ""; done
+    fi
     runs "threads.h without a C library" threads.elf 0 ""
     runs "the driver's program" one.elf 0 "3 1.000"
     runs "words of main" words.elf 0 "[in the.txt]"
