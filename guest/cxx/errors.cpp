@@ -123,7 +123,8 @@ string error_condition::message() const { return category().message(value()); }
 namespace {
 
 struct Category : error_category {
-    const char *own_name, *(*text_of)(int);
+    const char *own_name;
+    const char *(*text_of)(int);
     constexpr Category(const char *name, const char *(*text_of)(int)) : own_name(name), text_of(text_of) {}
     const char *name() const noexcept override { return own_name; }
     string message(int code) const override { return text_of(code); }
@@ -158,6 +159,7 @@ const char *future_text(int code)
 CATEGORY(generic, errno_text)
 CATEGORY(system, errno_text)
 CATEGORY(future, future_text)
+
 string system_error::__init(const error_code &code, string text)
 {
     return code ? (text.empty() ? code.message() : text + ": " + code.message()) : text;
