@@ -10,18 +10,18 @@
 # A program that includes a header of the C library or pthread.h is linked with Debian's picolibc, where that is installed, and any other
 # with the small kit alone; KIT=small and KIT=c say so for themselves. ARGUMENTS='4 in.txt "a b"' are the words that such a program's main
 # gets, quoted as in a shell. STEP_TIME=1000 is how many nanoseconds a step takes by its clock, which is else 1. PAGE=4096 makes files that
-# Linux can run too; without it they are as small as can be. PLAIN=yes leaves out what the kit tells beside the program, and the room for
-# other words of main, as for the studies, whose addresses stand in the documents.
+# Linux can run too; without it they are as small as can be. PLAIN=yes leaves out the kit's extras: its notes for the report, its messages,
+# and the room for other words of main. The studies are built so, since their addresses stand in the documents.
 set -eu
 here=$(cd "$(dirname "$(readlink -f "$0")")" && pwd)
 self=build.sh
 # shellcheck source=common.bash
 . "$here/common.bash"
 page=${PAGE:-16}
-# How much is kept for debuggers, and what the kit's parts are compiled with beside it.
+# How much is kept for debuggers, and whether the kit's parts have its extras.
 debug=(-g)
-tells=(-DPREDATOR_TELLS)
-[ -z "${PLAIN:-}" ] || tells=()
+extras=(-DPREDATOR_EXTRAS)
+[ -z "${PLAIN:-}" ] || extras=()
 work=
 
 usage() {
@@ -34,7 +34,7 @@ flags_of_all() {
 }
 
 # Which kit a program wants: `small`, `threads` for the small one and pthread.h, or `c`. The small one's headers are tried, and those
-# that it lacks are what tells.
+# that it lacks decide.
 kit_of() {
     local seen lacks it
     if [ -n "${KIT:-}" ]; then
@@ -73,7 +73,7 @@ compile() {
 # Makes the kit for programs with a C library, once a call.
 want_kit() {
     want_library
-    [ -d "$work/kit" ] || make_kit "$work/kit" "${debug[@]}" "${tells[@]}"
+    [ -d "$work/kit" ] || make_kit "$work/kit" "${debug[@]}" "${extras[@]}"
 }
 
 # OUT: a program that has C++ among its `sources`, with its `flags`: C by cc, C++ and the whole by c++.
@@ -117,7 +117,7 @@ build() {
         part_words "${ARGUMENTS:-}"
         if ((${#words[@]} > 0)); then
             system=$made/system.o
-            make_part "$here/clib/system.c" "$system" "${debug[@]}" "${tells[@]}"
+            make_part "$here/clib/system.c" "$system" "${debug[@]}" "${extras[@]}"
         fi
         compile "${sources[@]}" -- -std=gnu11 "${over_c[@]}" "${flags[@]}"
         behind "$work/kit" "$system"
@@ -125,7 +125,7 @@ build() {
     else
         if [ "$kit" = threads ]; then
             parts+=("$here/pthread.c" "$here/clib/c11.c" "$here/clib/missing.c")
-            kept=(-DPREDATOR_THREADS "${tells[@]}")
+            kept=(-DPREDATOR_THREADS "${extras[@]}")
         fi
         compile "${parts[@]}" -- "${small[@]}" "${careful[@]}" "${kept[@]}"
         own=("${objects[@]}")
@@ -169,7 +169,7 @@ build_studies() {
     into=$(readlink -e "$into")
     cd "$here/.."
     here=guest
-    tells=()
+    extras=()
     want_kit
     while read -r name source flags; do
         [[ -n $name && $name != "#" ]] || continue
@@ -203,12 +203,12 @@ work=$(mktemp -d)
 trap 'rm -rf "$work"' EXIT
 if (($# == 1)) && [ "$1" = examples ]; then
     mkdir -p "$here/built"
-    # Line tables name files from the folder above guest/ on, wherever that is. The documents tell the examples' addresses, so they have
-    # the kit without what it tells.
+    # Line tables name files from the folder above guest/ on, wherever that is. The documents name the examples' addresses, so they have
+    # the kit without its extras.
     cd "$here/.."
     here=guest
     debug=(-gline-tables-only)
-    tells=()
+    extras=()
     for name in counters apart tallies waits checksum queue words; do
         KIT=small build "$here/built/$name.elf" "$here/examples/$name.c"
     done

@@ -118,22 +118,22 @@ make_kit() {
     done
 }
 
-# The headers of LLVM's C++ library: those of the compiler's own version, else the newest that is installed; none where there is none.
-# LIBCXX names another folder, or `none`.
+# FOLDER: the headers of LLVM's C++ library below a folder, as /usr/lib: those of the compiler's own version, else the newest that is installed
+# of the versions that cxx/ completes; none where there is none. LIBCXX names another folder, or `none`.
 cxx_headers() {
-    local version it found=""
+    local version headers
     if [ -n "${LIBCXX:-}" ]; then
         [ "$LIBCXX" = none ] || echo "$LIBCXX"
         return
     fi
-    version=$(clang -dumpversion 2>/dev/null)
-    for it in "/usr/lib/llvm-${version%%.*}" $(printf '%s\n' /usr/lib/llvm-* | sort -V -r); do
-        if [ -e "$it/include/c++/v1/__config" ]; then
-            found=$it/include/c++/v1
-            break
+    for version in "$(clang -dumpversion 2>/dev/null)" 16 15 14; do
+        version=${version%%.*}
+        headers=$1/llvm-$version/include/c++/v1
+        if [[ $version == 1[4-6] && -e $headers/__config ]]; then
+            echo "$headers"
+            return
         fi
     done
-    echo "$found"
 }
 
 # FOLDER HEADERS FLAG ..: compiles what LLVM's headers leave to a library, into the folder of a kit.
@@ -179,7 +179,7 @@ reason_of() {
     [ -z "$kind" ] || sed -nE "s/^#define $kind PREDATOR_MISSING\([a-z]+, \"(.*)\"\)\$/\1/p" "$here/include/predator_missing.h"
 }
 
-# Runs a command that links. What the linker doesn't find is told with the reason, where there is one.
+# Runs a command that links. What the linker doesn't find is reported with the reason, where there is one.
 run_link() {
     local said status=0 line why
     { said=$("$@" 2>&1 1>&3 3>&-) || status=$?; } 3>&1

@@ -73,7 +73,7 @@ void print_number(uint32_t number);
 // (as in errno.h)
 #define ENOMEM 12
 
-// Tells the report of a block that is handed out: 0. One that lived at this address dies. It takes no room of the heap, and
+// Notes a block that is handed out, for the report: 0. One that lived at this address dies. It takes no room of the heap, and
 // predator_free knows nothing of it. -EINVAL where it has no bytes or they aren't all in memory, -ENOMEM after 2^20 of these.
 static inline int predator_block(const void *block, size_t size)
 {
@@ -84,7 +84,7 @@ static inline int predator_block(const void *block, size_t size)
     return (int)a0;
 }
 
-// Tells it that such a block is given back: 0, or -EINVAL where none lives at the address.
+// Notes that such a block is given back: 0, or -EINVAL where none lives at the address.
 static inline int predator_unblock(const void *block)
 {
     register uintptr_t a0 __asm__("a0") = (uintptr_t)block;

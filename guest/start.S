@@ -19,7 +19,7 @@
     andi    tp, tp, -256            # (as aligned as any of them may be)
     mv      sp, tp
     jal     t0, make_own            # (by t0, which the call list takes for a call as well)
-#ifdef PREDATOR_TELLS
+#ifdef PREDATOR_EXTRAS
     jal     t0, thread_locals
 #endif
 #endif
@@ -69,7 +69,7 @@ make_own:
     jr      t0
     .size   make_own, . - make_own
 
-#ifdef PREDATOR_TELLS
+#ifdef PREDATOR_EXTRAS
 # Notes them as a block, whose first call site is in here, so that a report names it by this function.
     .type   thread_locals, @function
 thread_locals:
@@ -121,7 +121,7 @@ hart_entry:
 #ifdef PREDATOR_THREADS
     .section .text.predator_spawn_thread, "ax"
 
-# int predator_spawn_thread(void *(*run)(void *), void *argument), of pthread.c
+# int predator_spawn_thread(void *(*run)(void *), void *argument), of pthread/pthread_create.c
     .globl  predator_spawn_thread
     .type   predator_spawn_thread, @function
 predator_spawn_thread:

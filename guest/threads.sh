@@ -2,7 +2,7 @@
 # Tries what pthread.h has: each program of threads/ under random schedules of its eight harts.
 #
 #     threads.sh [--seeds N] [NAME ..]     those that are named, or all; under the seeds 1 to N, or 20 of them
-#     threads.sh --broken [NAME ..]        the same with a fault of each kind in pthread.c or clib/barriers.c: a seed that shows it is wanted
+#     threads.sh --broken [NAME ..]        the same with a fault of each kind in pthread/ or clib/barriers.c: a seed that shows it is wanted
 #
 # A program puts out the lines that stand at its head behind `//>` (sorted, where it says so) and ends with 0, or a seed is wrong. PREDATOR names another program
 # than bin/predator. bin/try calls it.
@@ -54,7 +54,7 @@ run() {
     fi
 }
 
-# How many of the seeds are wrong; the first one is told.
+# How many of the seeds are wrong; the first one is printed.
 count_wrong() {
     local elf=$1 source=$2 seed wrong=0 status
     sed -n 's|^//> ||p' "$source" >"$work/wanted"
@@ -83,8 +83,11 @@ if [ -n "$broken" ]; then
         [[ " ${names[*]} " == *" $name "* ]] || continue
         mkdir "$work/guest"
         tar -C "$here" -c --exclude=fetched --exclude=out . | tar -C "$work/guest" -x
-        sed -i -E "$edit" "$work/guest/pthread.c" "$work/guest/clib/barriers.c"
-        cmp -s "$here/pthread.c" "$work/guest/pthread.c" && cmp -s "$here/clib/barriers.c" "$work/guest/clib/barriers.c" && { echo "$what: the edit changes nothing"; failed=$((failed + 1)); }
+        sed -i -E "$edit" "$work"/guest/pthread/* "$work/guest/clib/barriers.c"
+        if diff -q -r "$here/pthread" "$work/guest/pthread" >/dev/null && cmp -s "$here/clib/barriers.c" "$work/guest/clib/barriers.c"; then
+            echo "$what: the edit changes nothing"
+            failed=$((failed + 1))
+        fi
         "$work/guest/build.sh" "$work/it.elf" "$work/guest/threads/$name.c"
         if [ "$(count_wrong "$work/it.elf" "$here/threads/$name.c" 2>"$work/said")" = 0 ]; then
             echo "$name: not shown: $what"

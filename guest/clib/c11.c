@@ -3,7 +3,7 @@
 #include <pthread.h>
 #include <threads.h>
 
-static int told(int error)
+static int status(int error)
 {
     return error == 0 ? thrd_success : error == EBUSY ? thrd_busy : error == EAGAIN || error == ENOMEM ? thrd_nomem : thrd_error;
 }
@@ -11,7 +11,7 @@ static int told(int error)
 // (a result that is an int comes in the same register as one that is a pointer)
 int thrd_create(thrd_t *thread, thrd_start_t run, void *argument)
 {
-    return told(pthread_create(thread, NULL, (void *(*)(void *))(void *)run, argument));
+    return status(pthread_create(thread, NULL, (void *(*)(void *))(void *)run, argument));
 }
 
 int thrd_join(thrd_t thread, int *result)
@@ -20,12 +20,12 @@ int thrd_join(thrd_t thread, int *result)
     int error = pthread_join(thread, &got);
     if (error == 0 && result != NULL)
         *result = (int)(intptr_t)got;
-    return told(error);
+    return status(error);
 }
 
 int thrd_detach(thrd_t thread)
 {
-    return told(pthread_detach(thread));
+    return status(pthread_detach(thread));
 }
 
 _Noreturn void thrd_exit(int result)
@@ -51,7 +51,7 @@ void thrd_yield(void)
 int mtx_init(mtx_t *mutex, int kind)
 {
     pthread_mutexattr_t attr = {.kind = kind & mtx_recursive ? PTHREAD_MUTEX_RECURSIVE : PTHREAD_MUTEX_NORMAL};
-    return told(pthread_mutex_init(mutex, &attr));
+    return status(pthread_mutex_init(mutex, &attr));
 }
 
 void mtx_destroy(mtx_t *mutex)
@@ -61,22 +61,22 @@ void mtx_destroy(mtx_t *mutex)
 
 int mtx_lock(mtx_t *mutex)
 {
-    return told(pthread_mutex_lock(mutex));
+    return status(pthread_mutex_lock(mutex));
 }
 
 int mtx_trylock(mtx_t *mutex)
 {
-    return told(pthread_mutex_trylock(mutex));
+    return status(pthread_mutex_trylock(mutex));
 }
 
 int mtx_unlock(mtx_t *mutex)
 {
-    return told(pthread_mutex_unlock(mutex));
+    return status(pthread_mutex_unlock(mutex));
 }
 
 int cnd_init(cnd_t *cond)
 {
-    return told(pthread_cond_init(cond, NULL));
+    return status(pthread_cond_init(cond, NULL));
 }
 
 void cnd_destroy(cnd_t *cond)
@@ -86,22 +86,22 @@ void cnd_destroy(cnd_t *cond)
 
 int cnd_wait(cnd_t *cond, mtx_t *mutex)
 {
-    return told(pthread_cond_wait(cond, mutex));
+    return status(pthread_cond_wait(cond, mutex));
 }
 
 int cnd_signal(cnd_t *cond)
 {
-    return told(pthread_cond_signal(cond));
+    return status(pthread_cond_signal(cond));
 }
 
 int cnd_broadcast(cnd_t *cond)
 {
-    return told(pthread_cond_broadcast(cond));
+    return status(pthread_cond_broadcast(cond));
 }
 
 int tss_create(tss_t *key, tss_dtor_t destructor)
 {
-    return told(pthread_key_create(key, destructor));
+    return status(pthread_key_create(key, destructor));
 }
 
 void tss_delete(tss_t key)
@@ -111,7 +111,7 @@ void tss_delete(tss_t key)
 
 int tss_set(tss_t key, void *value)
 {
-    return told(pthread_setspecific(key, value));
+    return status(pthread_setspecific(key, value));
 }
 
 void *tss_get(tss_t key)

@@ -5,4 +5,4 @@
 uint64_t predator_clock(void);
 
 // 0, or EINVAL where it is none.
-int predator_time(const struct timespec *time, uint64_t *told);
+int predator_time(const struct timespec *time, uint64_t *nanoseconds);

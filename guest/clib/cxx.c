@@ -25,6 +25,8 @@ void *cxx_new_aligned(size_t size, size_t align) NAMED("_ZnwjSt11align_val_t");
 void *cxx_new_array_aligned(size_t size, size_t align) NAMED("_ZnajSt11align_val_t");
 void *cxx_new_nothrow(size_t size, const void *unused) NAMED("_ZnwjRKSt9nothrow_t");
 void *cxx_new_array_nothrow(size_t size, const void *unused) NAMED("_ZnajRKSt9nothrow_t");
+void *cxx_new_aligned_nothrow(size_t size, size_t align, const void *unused) NAMED("_ZnwjSt11align_val_tRKSt9nothrow_t");
+void *cxx_new_array_aligned_nothrow(size_t size, size_t align, const void *unused) NAMED("_ZnajSt11align_val_tRKSt9nothrow_t");
 void cxx_delete(void *block) NAMED("_ZdlPv");
 void cxx_delete_array(void *block) NAMED("_ZdaPv");
 void cxx_delete_sized(void *block, size_t size) NAMED("_ZdlPvj");
@@ -33,6 +35,10 @@ void cxx_delete_aligned(void *block, size_t align) NAMED("_ZdlPvSt11align_val_t"
 void cxx_delete_array_aligned(void *block, size_t align) NAMED("_ZdaPvSt11align_val_t");
 void cxx_delete_aligned_sized(void *block, size_t size, size_t align) NAMED("_ZdlPvjSt11align_val_t");
 void cxx_delete_array_aligned_sized(void *block, size_t size, size_t align) NAMED("_ZdaPvjSt11align_val_t");
+void cxx_delete_nothrow(void *block, const void *unused) NAMED("_ZdlPvRKSt9nothrow_t");
+void cxx_delete_array_nothrow(void *block, const void *unused) NAMED("_ZdaPvRKSt9nothrow_t");
+void cxx_delete_aligned_nothrow(void *block, size_t align, const void *unused) NAMED("_ZdlPvSt11align_val_tRKSt9nothrow_t");
+void cxx_delete_array_aligned_nothrow(void *block, size_t align, const void *unused) NAMED("_ZdaPvSt11align_val_tRKSt9nothrow_t");
 
 static void *had(void *block)
 {
@@ -71,6 +77,18 @@ void *cxx_new_array_nothrow(size_t size, const void *unused)
 {
     (void)unused;
     return malloc(size);
+}
+
+void *cxx_new_aligned_nothrow(size_t size, size_t align, const void *unused)
+{
+    (void)unused;
+    return aligned_alloc(align, size);
+}
+
+void *cxx_new_array_aligned_nothrow(size_t size, size_t align, const void *unused)
+{
+    (void)unused;
+    return aligned_alloc(align, size);
 }
 
 void cxx_delete(void *block)
@@ -116,6 +134,30 @@ void cxx_delete_aligned_sized(void *block, size_t size, size_t align)
 void cxx_delete_array_aligned_sized(void *block, size_t size, size_t align)
 {
     (void)size, (void)align;
+    free(block);
+}
+
+void cxx_delete_nothrow(void *block, const void *unused)
+{
+    (void)unused;
+    free(block);
+}
+
+void cxx_delete_array_nothrow(void *block, const void *unused)
+{
+    (void)unused;
+    free(block);
+}
+
+void cxx_delete_aligned_nothrow(void *block, size_t align, const void *unused)
+{
+    (void)align, (void)unused;
+    free(block);
+}
+
+void cxx_delete_array_aligned_nothrow(void *block, size_t align, const void *unused)
+{
+    (void)align, (void)unused;
     free(block);
 }
 

@@ -54,13 +54,13 @@ int fdatasync(int file)
     return close(file);
 }
 
-int fstat(int file, struct stat *told)
+int fstat(int file, struct stat *status)
 {
     if (!is_open(file))
         return refused(EBADF);
-    memset(told, 0, sizeof *told);
-    told->st_mode = S_IFCHR | (file == 0 ? S_IRUSR : S_IWUSR);
-    told->st_nlink = 1;
+    memset(status, 0, sizeof *status);
+    status->st_mode = S_IFCHR | (file == 0 ? S_IRUSR : S_IWUSR);
+    status->st_nlink = 1;
     return 0;
 }
 

@@ -38,9 +38,9 @@ struct front {
 
 // Of a block of the heap the report has the part that a program is given, and not what stands before and behind it: a block that is noted at
 // the address of a living one ends its life, and then ends itself. (The studies' programs are as they were without it.)
-static inline __attribute__((always_inline)) void tell_part(const void *block, const void *part, size_t size)
+static inline __attribute__((always_inline)) void note_part(const void *block, const void *part, size_t size)
 {
-#ifdef PREDATOR_TELLS
+#ifdef PREDATOR_EXTRAS
     if (predator_block(block, 1) == 0)
         predator_unblock(block);
     predator_block(part, size);
@@ -48,9 +48,9 @@ static inline __attribute__((always_inline)) void tell_part(const void *block, c
     (void)block, (void)part, (void)size;
 }
 
-static inline __attribute__((always_inline)) void tell_end(const void *part)
+static inline __attribute__((always_inline)) void note_end(const void *part)
 {
-#ifdef PREDATOR_TELLS
+#ifdef PREDATOR_EXTRAS
     predator_unblock(part);
 #endif
     (void)part;
@@ -72,7 +72,7 @@ static inline __attribute__((always_inline)) void *fronted(size_t align, size_t 
     if (block == NULL)
         return NULL;
     char *address = (char *)(((uintptr_t)block + sizeof(struct front) + align - 1) & ~(uintptr_t)(align - 1));
-    tell_part(block, address, size);
+    note_part(block, address, size);
     struct front *front = (struct front *)address - 1;
     front->block = block;
     front->size = size;

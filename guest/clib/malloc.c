@@ -27,7 +27,7 @@ void free(void *address)
     if (front->mark != mark_of(address, front))
         refuse();
     front->mark = 0;
-    tell_end(address);
+    note_end(address);
     if (heap_free(front->block) != 0)
         refuse();
 }

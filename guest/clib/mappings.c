@@ -49,7 +49,7 @@ void *mmap(void *wish, size_t length, int protection, int flags, int file, off_t
     if (block == NULL)
         return refused(ENOMEM);
     char *first = (char *)(((uintptr_t)block + PAGE - 1) & ~(uintptr_t)(PAGE - 1));
-    tell_part(block, first, pages);
+    note_part(block, first, pages);
     clear_words(first, pages);
     struct mapping *it = (struct mapping *)(first + pages);
     pthread_mutex_lock(&mappings.lock);
@@ -68,7 +68,7 @@ int munmap(void *address, size_t length)
     for (struct mapping **at = &mappings.first, *it; (it = *at) != NULL;) {
         if (it->first >= from && (size_t)(it->end - from) <= (length + PAGE - 1) / PAGE * PAGE) {
             *at = it->next;
-            tell_end(it->first);
+            note_end(it->first);
             predator_free(it->block);
         } else {
             at = &it->next;

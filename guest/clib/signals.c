@@ -36,7 +36,7 @@ static int is_ignored(int number)
     return number == SIGCHLD || number == SIGCONT || number == SIGURG || number == SIGWINCH;
 }
 
-// A signal that isn't handled ends the run as a shell tells of such a program.
+// A signal that isn't handled ends the run with 128 and its number, as a shell reports such a program.
 int raise(int number)
 {
     if (number < 0 || number >= NSIG)

@@ -13,7 +13,7 @@
 int main(int count, char **words, char **names);
 void __libc_init_array(void);
 
-#ifdef PREDATOR_TELLS
+#ifdef PREDATOR_EXTRAS
 // What main gets, in 4 KiB of which words.py makes others in a copy of the program: how many words, where they are, a null, and their bytes.
 struct room {
     int count;
@@ -27,7 +27,7 @@ struct room {
 // Run by start.S in place of main.
 _Noreturn void predator_start(void)
 {
-#ifdef PREDATOR_TELLS
+#ifdef PREDATOR_EXTRAS
     __libc_init_array();
     exit(main(predator_arguments.count, predator_arguments.words, environ));
 #else
@@ -50,7 +50,7 @@ _Noreturn void _exit(int code)
     predator_exit_group(code);
 }
 
-// As a shell tells of a program that aborts.
+// With the code that a shell reports for a program that aborts.
 _Noreturn void abort(void)
 {
     predator_exit_group(134);

@@ -1,5 +1,5 @@
 // Time made of steps: each step of any hart takes a nanosecond, or as many as STEP_TIME said when the program was linked, and the run begins
-// at 0. So a clock tells the same on every run. Who waits for a time goes round until the clock is there, without an access to what others have.
+// at 0. So a clock reads the same on every run. Who waits for a time goes round until the clock is there, without an access to what others have.
 #include <errno.h>
 #include <sched.h>
 #include <sys/time.h>
@@ -22,24 +22,24 @@ uint64_t predator_clock(void)
     return predator_steps() * step_time();
 }
 
-int predator_time(const struct timespec *time, uint64_t *told)
+int predator_time(const struct timespec *time, uint64_t *nanoseconds)
 {
     if (time->tv_sec < 0 || time->tv_nsec < 0 || time->tv_nsec >= (long)SECOND)
         return EINVAL;
-    *told = (uint64_t)time->tv_sec >= UINT64_MAX / SECOND ? UINT64_MAX : (uint64_t)time->tv_sec * SECOND + (uint64_t)time->tv_nsec;
+    *nanoseconds = (uint64_t)time->tv_sec >= UINT64_MAX / SECOND ? UINT64_MAX : (uint64_t)time->tv_sec * SECOND + (uint64_t)time->tv_nsec;
     return 0;
 }
 
-static void tell(uint64_t now, struct timespec *told)
+static void set_time(uint64_t now, struct timespec *time)
 {
-    told->tv_sec = (time_t)(now / SECOND);
-    told->tv_nsec = (long)(now % SECOND);
+    time->tv_sec = (time_t)(now / SECOND);
+    time->tv_nsec = (long)(now % SECOND);
 }
 
 int clock_gettime(clockid_t clock, struct timespec *now)
 {
     (void)clock;
-    tell(predator_clock(), now);
+    set_time(predator_clock(), now);
     return 0;
 }
 
@@ -47,16 +47,16 @@ int clock_getres(clockid_t clock, struct timespec *least)
 {
     (void)clock;
     if (least != NULL)
-        tell(step_time(), least);
+        set_time(step_time(), least);
     return 0;
 }
 
 time_t time(time_t *now)
 {
-    time_t told = (time_t)(predator_clock() / SECOND);
+    time_t seconds = (time_t)(predator_clock() / SECOND);
     if (now != NULL)
-        *now = told;
-    return told;
+        *now = seconds;
+    return seconds;
 }
 
 clock_t clock(void)
@@ -67,9 +67,9 @@ clock_t clock(void)
 int gettimeofday(struct timeval *restrict now, void *restrict zone)
 {
     (void)zone;
-    uint64_t told = predator_clock() / 1000;
-    now->tv_sec = (time_t)(told / 1000000);
-    now->tv_usec = (suseconds_t)(told % 1000000);
+    uint64_t microseconds = predator_clock() / 1000;
+    now->tv_sec = (time_t)(microseconds / 1000000);
+    now->tv_usec = (suseconds_t)(microseconds % 1000000);
     return 0;
 }
 
@@ -99,7 +99,7 @@ int clock_nanosleep(clockid_t clock, int flags, const struct timespec *time, str
     }
     wait_for(wanted);
     if (rest != NULL)
-        tell(0, rest);
+        set_time(0, rest);
     return 0;
 }
 

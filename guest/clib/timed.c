@@ -85,19 +85,19 @@ int pthread_condattr_getclock(const pthread_condattr_t *attr, clockid_t *clock)
 
 // ---- threads.h
 
-static int told(int error)
+static int status(int error)
 {
     return error == 0 ? thrd_success : error == ETIMEDOUT ? thrd_timedout : thrd_error;
 }
 
 int mtx_timedlock(mtx_t *mutex, const struct timespec *until)
 {
-    return told(pthread_mutex_timedlock(mutex, until));
+    return status(pthread_mutex_timedlock(mutex, until));
 }
 
 int cnd_timedwait(cnd_t *cond, mtx_t *mutex, const struct timespec *until)
 {
-    return told(pthread_cond_timedwait(cond, mutex, until));
+    return status(pthread_cond_timedwait(cond, mutex, until));
 }
 
 int thrd_sleep(const struct timespec *time, struct timespec *rest)

@@ -43,18 +43,16 @@ bad_cast::bad_cast() noexcept {}
 bad_typeid::bad_typeid() noexcept {}
 const char *bad_variant_access::what() const noexcept { return "bad_variant_access"; }
 
-logic_error::logic_error(const string &text) : __imp_(text.c_str()) {}
-logic_error::logic_error(const char *text) : __imp_(text) {}
-logic_error::logic_error(const logic_error &other) noexcept = default;
-logic_error &logic_error::operator=(const logic_error &other) noexcept = default;
-logic_error::~logic_error() noexcept {}
-const char *logic_error::what() const noexcept { return __imp_.c_str(); }
-runtime_error::runtime_error(const string &text) : __imp_(text.c_str()) {}
-runtime_error::runtime_error(const char *text) : __imp_(text) {}
-runtime_error::runtime_error(const runtime_error &other) noexcept = default;
-runtime_error &runtime_error::operator=(const runtime_error &other) noexcept = default;
-runtime_error::~runtime_error() noexcept {}
-const char *runtime_error::what() const noexcept { return __imp_.c_str(); }
+#define ERROR_WITH_TEXT(name)                                                                                                            \
+    name::name(const string &text) : __imp_(text.c_str()) {}                                                                             \
+    name::name(const char *text) : __imp_(text) {}                                                                                       \
+    name::name(const name &other) noexcept = default;                                                                                    \
+    name &name::operator=(const name &other) noexcept = default;                                                                         \
+    name::~name() noexcept {}                                                                                                            \
+    const char *name::what() const noexcept { return __imp_.c_str(); }
+
+ERROR_WITH_TEXT(logic_error)
+ERROR_WITH_TEXT(runtime_error)
 
 #define ERROR_KIND(name) name::~name() noexcept {}
 ERROR_KIND(domain_error)
@@ -124,48 +122,44 @@ string error_condition::message() const { return category().message(value()); }
 
 namespace {
 
-struct NumberedErrors : error_category {
+struct Category : error_category {
     const char *own_name;
-    constexpr explicit NumberedErrors(const char *name) : own_name(name) {}
+    const char *(*text_of)(int);
+    constexpr Category(const char *name, const char *(*text_of)(int)) : own_name(name), text_of(text_of) {}
     const char *name() const noexcept override { return own_name; }
-    string message(int code) const override { return strerror(code); }
+    string message(int code) const override { return text_of(code); }
 };
 
-struct FutureErrors : error_category {
-    const char *name() const noexcept override { return "future"; }
-    string message(int code) const override
-    {
-        switch (static_cast<future_errc>(code)) {
-        case future_errc::broken_promise:
-            return "the promise ended without a value";
-        case future_errc::future_already_retrieved:
-            return "the future was retrieved before";
-        case future_errc::promise_already_satisfied:
-            return "the promise has a value already";
-        case future_errc::no_state:
-            return "there is no state: the promise or future was moved from";
-        }
-        return "unknown error of a future";
+const char *errno_text(int code) { return strerror(code); }
+
+const char *future_text(int code)
+{
+    switch (static_cast<future_errc>(code)) {
+    case future_errc::broken_promise:
+        return "the promise ended without a value";
+    case future_errc::future_already_retrieved:
+        return "the future was retrieved before";
+    case future_errc::promise_already_satisfied:
+        return "the promise has a value already";
+    case future_errc::no_state:
+        return "there is no state: the promise or future was moved from";
     }
-};
-
+    return "unknown error of a future";
 }
 
-const error_category &generic_category() noexcept
-{
-    static const NumberedErrors generic("generic");
-    return generic;
 }
-const error_category &system_category() noexcept
-{
-    static const NumberedErrors system("system");
-    return system;
-}
-const error_category &future_category() noexcept
-{
-    static const FutureErrors future;
-    return future;
-}
+
+#define CATEGORY(name, text_of)                                                                                                          \
+    const error_category &name##_category() noexcept                                                                                     \
+    {                                                                                                                                    \
+        static const Category category(#name, text_of);                                                                                  \
+        return category;                                                                                                                 \
+    }
+
+CATEGORY(generic, errno_text)
+CATEGORY(system, errno_text)
+CATEGORY(future, future_text)
+
 string system_error::__init(const error_code &code, string text)
 {
     return code ? (text.empty() ? code.message() : text + ": " + code.message()) : text;

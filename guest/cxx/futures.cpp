@@ -7,6 +7,11 @@ _LIBCPP_BEGIN_NAMESPACE_STD
 
 void __assoc_sub_state::__on_zero_shared() noexcept { delete this; }
 
+static void release(__shared_count *state)
+{
+    if (state)
+        state->__release_shared();
+}
 static void need_unset(bool has_value)
 {
     if (has_value)
@@ -57,27 +62,19 @@ void __assoc_sub_state::__sub_wait(unique_lock<mutex> &guard)
 void __assoc_sub_state::__execute() { __throw_future_error(future_errc::no_state); }
 
 future<void>::future(__assoc_sub_state *state) : __state_(state) { __state_->__attach_future(); }
-future<void>::~future()
-{
-    if (__state_)
-        __state_->__release_shared();
-}
+future<void>::~future() { release(__state_); }
 void future<void>::get()
 {
-    __assoc_sub_state *state = __state_;
-    __state_ = nullptr;
+    unique_ptr<__assoc_sub_state, __release_shared_count> state(exchange(__state_, nullptr));
     state->copy();
-    state->__release_shared();
 }
 
 promise<void>::promise() : __state_(new __assoc_sub_state) {}
 promise<void>::~promise()
 {
-    if (!__state_)
-        return;
-    if (!__state_->__has_value() && __state_->use_count() > 1)
+    if (__state_ && !__state_->__has_value() && __state_->use_count() > 1)
         predator_ends("broken promise: it ended without a value while a future waits for it");
-    __state_->__release_shared();
+    release(__state_);
 }
 static __assoc_sub_state &state_of(__assoc_sub_state *state)
 {
@@ -91,15 +88,10 @@ void promise<void>::set_exception(exception_ptr error) { state_of(__state_).set_
 void promise<void>::set_value_at_thread_exit() { state_of(__state_).set_value_at_thread_exit(); }
 void promise<void>::set_exception_at_thread_exit(exception_ptr error) { set_exception(error); }
 
-shared_future<void>::~shared_future()
-{
-    if (__state_)
-        __state_->__release_shared();
-}
+shared_future<void>::~shared_future() { release(__state_); }
 shared_future<void> &shared_future<void>::operator=(const shared_future &other)
 {
-    shared_future copy(other);
-    swap(copy);
+    shared_future(other).swap(*this);
     return *this;
 }
 

@@ -29,14 +29,7 @@ void mutex::lock() { check(pthread_mutex_lock(&__m_), "mutex lock failed"); }
 bool mutex::try_lock() noexcept { return pthread_mutex_trylock(&__m_) == 0; }
 void mutex::unlock() noexcept { pthread_mutex_unlock(&__m_); }
 
-recursive_mutex::recursive_mutex()
-{
-    pthread_mutexattr_t kind;
-    pthread_mutexattr_init(&kind);
-    pthread_mutexattr_settype(&kind, PTHREAD_MUTEX_RECURSIVE);
-    check(pthread_mutex_init(&__m_, &kind), "recursive_mutex constructor failed");
-    pthread_mutexattr_destroy(&kind);
-}
+recursive_mutex::recursive_mutex() { check(__libcpp_recursive_mutex_init(&__m_), "recursive_mutex constructor failed"); }
 recursive_mutex::~recursive_mutex() { pthread_mutex_destroy(&__m_); }
 void recursive_mutex::lock() { check(pthread_mutex_lock(&__m_), "recursive_mutex lock failed"); }
 bool recursive_mutex::try_lock() noexcept { return pthread_mutex_trylock(&__m_) == 0; }
@@ -54,9 +47,7 @@ void timed_mutex::lock()
 bool timed_mutex::try_lock() noexcept
 {
     unique_lock<mutex> guard(__m_, try_to_lock);
-    if (!guard.owns_lock() || __locked_)
-        return false;
-    return __locked_ = true;
+    return guard.owns_lock() && !exchange(__locked_, true);
 }
 void timed_mutex::unlock() noexcept
 {
@@ -136,15 +127,12 @@ bool __shared_mutex_base::try_lock_shared()
 void __shared_mutex_base::unlock_shared()
 {
     lock_guard<mutex> guard(__mut_);
-    unsigned left = (__state_ & __n_readers_) - 1;
-    bool was_full = left + 1 == __n_readers_;
-    __state_ = (__state_ & __write_entered_) | left;
-    if (__state_ & __write_entered_) {
-        if (left == 0)
-            __gate2_.notify_one();
-    } else if (was_full) {
+    bool was_full = __state_ == __n_readers_;
+    __state_--;
+    if (__state_ == __write_entered_)
+        __gate2_.notify_one();
+    else if (was_full)
         __gate1_.notify_one();
-    }
 }
 
 // (the member's name has changed with version 16)
@@ -223,11 +211,8 @@ unsigned thread::hardware_concurrency() noexcept { return sysconf(_SC_NPROCESSOR
 namespace this_thread {
 void sleep_for(const chrono::nanoseconds &span)
 {
-    if (span <= chrono::nanoseconds::zero())
-        return;
-    struct timespec time = {(time_t)(span.count() / 1000000000), (long)(span.count() % 1000000000)};
-    while (nanosleep(&time, &time) != 0 && errno == EINTR) {
-    }
+    if (span > chrono::nanoseconds::zero())
+        __libcpp_thread_sleep_for(span);
 }
 }
 

@@ -16,7 +16,7 @@ for it in clang ld.lld llvm-readelf llvm-objcopy; do
 done
 # shellcheck source=../common.bash
 here=$top/guest self=try.sh . "$top/guest/common.bash"
-[ -n "$(cxx_headers)" ] || { echo "libc++ isn't installed (Debian: libc++-14-dev)" && exit 77; }
+[ -n "$(cxx_headers /usr/lib)" ] || { echo "libc++ isn't installed (Debian: libc++-14-dev)" && exit 77; }
 work=$(mktemp -d)
 trap 'rm -rf "$work"' EXIT
 cd "$work" || exit 1

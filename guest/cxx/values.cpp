@@ -63,24 +63,19 @@ static void notify(const volatile void *variable)
     of.fetch_add(1);
     predator_wake(reinterpret_cast<const volatile uint32_t *>(&of), 0xffffffff);
 }
+
 // (variables share counters, so all that wait are woken)
-void __cxx_atomic_notify_one(const volatile void *variable) { notify(variable); }
-void __cxx_atomic_notify_all(const volatile void *variable) { notify(variable); }
-__cxx_contention_t __libcpp_atomic_monitor(const volatile void *variable) { return changes_of(variable).count.load(); }
-void __libcpp_atomic_wait(const volatile void *variable, __cxx_contention_t seen)
-{
-    predator_wait(reinterpret_cast<const volatile uint32_t *>(&changes_of(variable).count), (uint32_t)seen);
-}
-void __cxx_atomic_notify_one(const volatile __cxx_atomic_contention_t *variable) { notify(variable); }
-void __cxx_atomic_notify_all(const volatile __cxx_atomic_contention_t *variable) { notify(variable); }
-__cxx_contention_t __libcpp_atomic_monitor(const volatile __cxx_atomic_contention_t *variable)
-{
-    return __libcpp_atomic_monitor((const volatile void *)variable);
-}
-void __libcpp_atomic_wait(const volatile __cxx_atomic_contention_t *variable, __cxx_contention_t seen)
-{
-    __libcpp_atomic_wait((const volatile void *)variable, seen);
-}
+#define ATOMIC_WAITS(type)                                                                                                               \
+    void __cxx_atomic_notify_one(const volatile type *variable) { notify(variable); }                                                    \
+    void __cxx_atomic_notify_all(const volatile type *variable) { notify(variable); }                                                    \
+    __cxx_contention_t __libcpp_atomic_monitor(const volatile type *variable) { return changes_of(variable).count.load(); }             \
+    void __libcpp_atomic_wait(const volatile type *variable, __cxx_contention_t seen)                                                    \
+    {                                                                                                                                    \
+        predator_wait(reinterpret_cast<const volatile uint32_t *>(&changes_of(variable).count), (uint32_t)seen);                         \
+    }
+
+ATOMIC_WAITS(void)
+ATOMIC_WAITS(__cxx_atomic_contention_t)
 
 // ---- Clocks
 

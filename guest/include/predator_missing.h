@@ -17,7 +17,7 @@
 #define PREDATOR_NO_CLOCK PREDATOR_MISSING(clock, "a thread has no clock of its own, and is joined without a time")
 #define PREDATOR_NO_TIME PREDATOR_MISSING(time, "nothing comes by itself after a time: let a thread look at the clock")
 #define PREDATOR_NO_STACK PREDATOR_MISSING(stack, "each hart has the stack of the settings (`stack`), and no other")
-#define PREDATOR_NO_ROBUST PREDATOR_MISSING(robust, "a mutex isn't told that its holder has ended")
+#define PREDATOR_NO_ROBUST PREDATOR_MISSING(robust, "a mutex can't detect that its holder has ended")
 #define PREDATOR_NO_PRIORITY PREDATOR_MISSING(priority, "harts have no priorities: a schedule says who runs")
 #define PREDATOR_NO_FORK PREDATOR_MISSING(fork, "there is one process, and no fork")
 #define PREDATOR_NO_PROCESS PREDATOR_MISSING(process, "there is one process, and no other")

@@ -107,8 +107,8 @@ said() {
     record_status "$1" $?
 }
 
-# told_apart WHAT PROGRAM LINE [WORD ..]: without --output, what it puts out goes to standard error, and the report is that of the run before.
-told_apart() {
+# run_to_stderr WHAT PROGRAM LINE [WORD ..]: without --output, what it puts out goes to standard error, and the report is that of the run before.
+run_to_stderr() {
     local what=$1 elf=$2 line=$3
     shift 3
     sed '/^end$/q' said >report

@@ -1,4 +1,4 @@
-// Barriers that the one who is told destroys and sets up anew, each time: whoever hasn't left yet does so, and misses nothing.
+// Barriers that the serial thread destroys and sets up anew, each time: whoever hasn't left yet does so, and misses nothing.
 //
 //> rounds 50
 #include "check.h"
@@ -7,7 +7,7 @@
 
 static pthread_barrier_t barriers[2];
 static volatile uint32_t at[HARTS];
-static uint32_t told;
+static uint32_t serial;
 
 static void *run(void *argument)
 {
@@ -18,7 +18,7 @@ static void *run(void *argument)
         if (pthread_barrier_wait(barrier) == PTHREAD_BARRIER_SERIAL_THREAD) {
             CHECK(pthread_barrier_destroy(barrier) == 0);
             CHECK(pthread_barrier_init(barrier, NULL, HARTS) == 0);
-            told++;
+            serial++;
         }
         for (int j = 0; j < HARTS; j++)
             CHECK(at[j] == i || at[j] == i + 1);
@@ -34,6 +34,6 @@ int main(void)
     on_all(run);
     for (int i = 0; i < 2; i++)
         CHECK(pthread_barrier_destroy(&barriers[i]) == 0);
-    show("rounds", told);
+    show("rounds", serial);
     return 0;
 }

@@ -23,9 +23,9 @@ static int is_there;
 
 static uint64_t now(void)
 {
-    struct timespec told;
-    clock_gettime(CLOCK_MONOTONIC, &told);
-    return (uint64_t)told.tv_sec * 1000000000 + (uint64_t)told.tv_nsec;
+    struct timespec time;
+    clock_gettime(CLOCK_MONOTONIC, &time);
+    return (uint64_t)time.tv_sec * 1000000000 + (uint64_t)time.tv_nsec;
 }
 
 static struct timespec in(uint64_t more)
@@ -48,7 +48,7 @@ static void *hold(void *unused)
     return NULL;
 }
 
-static void *tell(void *unused)
+static void *signal_late(void *unused)
 {
     (void)unused;
     usleep(20);
@@ -107,7 +107,7 @@ static void try_in_time(void)
     pthread_t thread;
     struct timespec until = in(1000000000);
     pthread_mutex_lock(&lock);
-    pthread_create(&thread, NULL, tell, NULL);
+    pthread_create(&thread, NULL, signal_late, NULL);
     int answer = 0;
     while (is_there != 3 && answer == 0)
         answer = pthread_cond_timedwait(&cond, &lock, &until);

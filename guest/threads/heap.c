@@ -1,5 +1,5 @@
 // The C library's heap: harts ask for blocks and give them to each other to free, and no block is given twice. Each block has a pattern
-// that tells whose it is.
+// that shows whose it is.
 //
 //> blocks 960
 //> moved 96

@@ -1,7 +1,7 @@
 // What there is of files, signals and users, asked by all harts at once.
 //
 //> asked 80
-//> told 8
+//> raised 8
 //> handled 3
 //> held 4
 #include "check.h"
@@ -18,7 +18,7 @@
 
 static _Atomic uint32_t asked;
 static volatile uint32_t handled;
-static _Atomic uint32_t told;
+static _Atomic uint32_t raised;
 
 static void handle(int number)
 {
@@ -30,7 +30,7 @@ static void handle(int number)
 static void note(int number)
 {
     CHECK(number == SIGUSR1);
-    told++;
+    raised++;
 }
 
 static void *run(void *argument)
@@ -39,14 +39,14 @@ static void *run(void *argument)
     CHECK(pthread_sigmask(SIG_SETMASK, &mine, NULL) == 0);
     for (int i = 0; i < 10; i++) {
         char byte = 1;
-        struct stat told;
+        struct stat status;
         struct pollfd files[] = {{0, POLLIN | POLLOUT, 0}, {1, POLLIN | POLLOUT, 0}, {-1, POLLIN, 0}, {3, POLLIN, 0}};
         CHECK(read(0, &byte, 1) == 0 && byte == 1 && read(1, &byte, 1) == -1 && errno == EBADF && read(3, &byte, 1) == -1);
         CHECK(close(2) == 0 && close(3) == -1 && errno == EBADF);
         CHECK(lseek(1, 0, SEEK_CUR) == -1 && errno == ESPIPE && lseek(-1, 0, SEEK_CUR) == -1 && errno == EBADF);
         CHECK(isatty(1) == 0 && errno == ENOTTY && isatty(9) == 0 && errno == EBADF);
         CHECK(fileno(stdin) == 0 && fileno(stdout) == 1 && fileno(stderr) == 2);
-        CHECK(fstat(1, &told) == 0 && S_ISCHR(told.st_mode) && told.st_size == 0 && fstat(4, &told) == -1);
+        CHECK(fstat(1, &status) == 0 && S_ISCHR(status.st_mode) && status.st_size == 0 && fstat(4, &status) == -1);
         CHECK(fcntl(0, F_GETFL) == O_RDONLY && fcntl(1, F_GETFL) == O_WRONLY && fcntl(1, F_SETFL, 0) == 0 && fcntl(5, F_GETFL) == -1);
         CHECK(fcntl(1, F_DUPFD, 3) == -1 && errno == EINVAL && fsync(1) == 0 && fdatasync(3) == -1);
         CHECK(ioctl(1, TIOCGWINSZ, NULL) == -1 && errno == ENOTTY && ioctl(3, FIONREAD) == -1 && errno == EBADF);
@@ -67,7 +67,7 @@ int main(void)
     CHECK(signal(SIGUSR1, note) == SIG_DFL);
     on_all(run);
     show("asked", asked);
-    show("told", told);
+    show("raised", raised);
     CHECK(getrusage(RUSAGE_SELF, &used) == -1 && errno == ENOSYS && sizeof used.ru_maxrss == sizeof(long));
     CHECK(getuid() == 0 && geteuid() == 0 && getgid() == 0 && getegid() == 0 && umask(022) == 0 && FILENAME_MAX >= 255);
     CHECK(sigaction(SIGTERM, &action, NULL) == 0 && sigaction(SIGTERM, NULL, &old) == 0 && old.sa_handler == handle);

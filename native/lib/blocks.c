@@ -1,5 +1,5 @@
-/* The functions that make and free blocks: the C library's own run, and what they have made is
- * told. */
+/* The functions that make and free blocks: the C library's own run, and the blocks that they
+ * make are recorded. */
 #include "runtime.h"
 
 extern void *__libc_malloc(size_t), *__libc_calloc(size_t, size_t), *__libc_realloc(void *, size_t),

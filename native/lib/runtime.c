@@ -5,7 +5,7 @@
 
    The environment says what is done: PREDATOR_TRACE is the trace, PREDATOR_TABLE the table back,
    PREDATOR_QUANTUM the length of a turn, PREDATOR_ALL=1 records while one thread lives too,
-   PREDATOR_PCS=1 tells each access's instruction, PREDATOR_NEAR=K filters the trace by regions of
+   PREDATOR_PCS=1 records each access's instruction, PREDATOR_NEAR=K filters the trace by regions of
    2^K bytes (6 to 16), PREDATOR_MOST ends the trace after so many accesses, PREDATOR_MAX_BYTES
    after so many bytes. native/predator-native sets them. */
 #include "runtime.h"

@@ -208,8 +208,8 @@ static Bool is_follower(const HChar *format)
 /* Says it once of each call, and whether there was something to say. */
 static Bool fold_warning(const HChar *format, va_list words)
 {
-    static HChar told[32][24];
-    static UInt told_count;
+    static HChar reported[32][24];
+    static UInt reported_count;
     UInt it;
     if (is_follower(format))
         return True;
@@ -219,11 +219,11 @@ static Bool fold_warning(const HChar *format, va_list words)
                begins_with(format, "   See README_MISSING_SYSCALL_OR_IOCTL");
     (void)va_arg(words, const HChar *); /* the machine */
     const HChar *number = va_arg(words, const HChar *);
-    for (it = 0; it < told_count; it++)
-        if (VG_(strcmp)(told[it], number) == 0)
+    for (it = 0; it < reported_count; it++)
+        if (VG_(strcmp)(reported[it], number) == 0)
             return True;
-    if (told_count < 32)
-        VG_(strncpy)(told[told_count++], number, 23);
+    if (reported_count < 32)
+        VG_(strncpy)(reported[reported_count++], number, 23);
     VG_(printf)
     ("predator native: valgrind doesn't know the system call %s, which fails as on an older kernel "
      "(ENOSYS)\n",

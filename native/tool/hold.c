@@ -1,16 +1,16 @@
 /* What the launcher is in the end: it starts the program, hands signals on to it, waits for it and
    for what runs beside it, and ends as it did.
 
-       hold TOKEN FEED TOLD REPLAYED COMMAND [WORDS ..]
+       hold TOKEN FEED TABLE REPLAYED COMMAND [WORDS ..]
 
-   FEED and TOLD are the descriptors that the trace and the table go to, and from REPLAYED comes the
-   status of what counts them; -1 where there is none. The processes beside the program are this
+   FEED and TABLE are the descriptors that the trace and the table go to, and from REPLAYED comes
+   the status of what counts them; -1 where there is none. The processes beside the program are this
    one's children from before.
 
    TOKEN is -1, or with `--child` a pipe with one byte, which the process that is recorded takes.
    Then a guard stands between this process and the program: what outlives the program becomes a
    child of the guard's, gets the signals that come, and is waited for too. Where this process is
-   killed, the program is killed with it; or the guard is told, and kills all of them.
+   killed, the program is killed with it; or the guard gets a signal, and kills all of them.
 
    Where one of the words is `--switch=?`, SIGUSR2 is counted in a file of memory, whose descriptor
    takes the place of the `?`. */
@@ -40,8 +40,7 @@ static int status_of(int status)
     return WIFSIGNALED(status) ? 128 + WTERMSIG(status) : WEXITSTATUS(status);
 }
 
-/* A child that ends with this process where that is killed, or with `number` is told so; in the
- * child 0. */
+/* A child, which gets the signal `number` where this process is killed; in the child 0. */
 static pid_t start(int number)
 {
     pid_t own = getpid(), child = fork();
@@ -175,13 +174,13 @@ static void flip_switch(void)
 
 int main(int argc, char **argv)
 {
-    int token, feed, told, replayed, status = 0, number, how;
+    int token, feed, table, replayed, status = 0, number, how;
     pid_t program, child;
     if (argc < 6)
-        return fputs("usage: hold TOKEN FEED TOLD REPLAYED COMMAND [WORDS ..]\n", stderr), 125;
+        return fputs("usage: hold TOKEN FEED TABLE REPLAYED COMMAND [WORDS ..]\n", stderr), 125;
     token = atoi(argv[1]);
     feed = atoi(argv[2]);
-    told = atoi(argv[3]);
+    table = atoi(argv[3]);
     replayed = atoi(argv[4]);
     fcntl(replayed, F_SETFD, FD_CLOEXEC); /* the program must not inherit it */
     sigemptyset(&taken);
@@ -195,7 +194,7 @@ int main(int argc, char **argv)
         guard(argv + 5);
     if (token < 0) {
         close(feed);
-        close(told);
+        close(table);
     }
     for (;;) {
         while ((child = waitpid(-1, &how, WNOHANG)) > 0) {
@@ -206,7 +205,7 @@ int main(int argc, char **argv)
             if (token >= 0) {
                 tell_none(token, feed);
                 close(feed);
-                close(told);
+                close(table);
             }
         }
         if (child < 0)

@@ -27,7 +27,7 @@ static int say(const char *path, const char *what)
     return 1;
 }
 
-/* Of a number in groups of seven bits: its size, or 0 where that isn't told yet. */
+/* Of a number in groups of seven bits: its size, or 0 where more bytes are needed. */
 static size_t number_size(const unsigned char *it, size_t count)
 {
     size_t size;
@@ -54,7 +54,7 @@ static size_t access_size(const unsigned char *it, size_t count)
 
 static size_t end_size(void) { return version == '4' ? FILTERED_END_BYTES : END_BYTES; }
 
-/* The size of the record that begins here, or 0 where that isn't told yet or it is no record. */
+/* The size of the record that begins here, or 0 where more bytes are needed or it is no record. */
 static size_t size_of(const unsigned char *it, size_t count)
 {
     switch (*it) {

@@ -12,11 +12,11 @@ void trace_stack(UInt hart, Addr from, Addr to)
 {
     static struct {
         Addr from, to;
-    } told[MOST_HARTS];
-    if (hart >= MOST_HARTS || from >= to || (told[hart].from == from && told[hart].to == to))
+    } written[MOST_HARTS];
+    if (hart >= MOST_HARTS || from >= to || (written[hart].from == from && written[hart].to == to))
         return;
-    told[hart].from = from;
-    told[hart].to = to;
+    written[hart].from = from;
+    written[hart].to = to;
     table_text("stack 0x%lx 0x%lx %u\n", from, to, hart);
 }
 
@@ -44,7 +44,7 @@ void stack_begins(ThreadId tid)
 }
 #endif
 
-static OSet *files; /* where the mappings begin that were told */
+static OSet *files; /* where the mappings begin that the table has */
 
 static const HChar *name_in(const HChar *path)
 {

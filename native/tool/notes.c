@@ -22,7 +22,7 @@ static ULong *buffer, *noted, *limit,
 
 typedef struct {
     Addr addr;
-    UInt place; /* in the trace, once it was told */
+    UInt place; /* in the trace, once it was written */
 } Instruction;
 
 typedef struct {

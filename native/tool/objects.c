@@ -1,6 +1,7 @@
 /* What has a name in a trace: symbols of data, and blocks with their call sites (sites.c). They are
-   told for the regions that have a place: where a region gets one, those that lie in it, and from
-   then on each block that is made in it. What reaches over several regions is told in pieces. */
+   written for the regions that have a place: where a region gets one, those that lie in it, and
+   from then on each block that is made in it. What reaches over several regions is written in
+   pieces. */
 #include "parts.h"
 
 /* ---- Symbols ---- */
@@ -127,7 +128,7 @@ typedef struct {
     Addr addr;
     SizeT size;
     Addr sites[4];
-    Bool told; /* in the regions that have a place */
+    Bool in_trace; /* in the regions that have a place */
 } Block;
 
 static OSet *blocks;
@@ -174,7 +175,7 @@ static void tell_block(Block *it)
 {
     Addr from = it->addr & ~(REGION - 1);
     Int index;
-    it->told = True;
+    it->in_trace = True;
     while ((index = next_region(it, &from)) >= 0)
         put_block(it, index);
 }
@@ -183,7 +184,7 @@ static void tell_end(const Block *it)
 {
     Addr from = it->addr & ~(REGION - 1), first;
     Int index;
-    while (it->told && (index = next_region(it, &from)) >= 0) {
+    while (it->in_trace && (index = next_region(it, &from)) >= 0) {
         UChar bytes[FREE_BYTES] = {TAG_FREE};
         part_of(regions[index].region, it->addr, it->size, &first);
         spell(bytes + 1, folded(index, first), 4);
@@ -199,16 +200,16 @@ void blocks_of(const Region *region)
     Block *found[256];
     UInt count;
     for (large_one = 0; large_one < large_count; large_one++)
-        if (large[large_one]->told)
+        if (large[large_one]->in_trace)
             put_block(large[large_one], region - regions);
-    /* Telling a block may give a place to the region of a call site, whose blocks are told then: so
-     * the search begins anew. */
+    /* Writing a block may give a place to the region of a call site, whose blocks are written then:
+     * so the search begins anew. */
     do {
         count = 0;
         VG_(OSetGen_ResetIterAt)(blocks, &from);
         while (count < 256 && (it = VG_(OSetGen_Next)(blocks)) &&
                it->addr < region->region + REGION) {
-            if (it->told && it->size <= REGION)
+            if (it->in_trace && it->size <= REGION)
                 found[count++] = it;
             from = it->addr + 1;
         }
@@ -230,7 +231,7 @@ static void make_block(Addr addr, SizeT size, const Addr *own)
     Block *it = VG_(OSetGen_AllocNode)(blocks, sizeof *it);
     it->addr = addr;
     it->size = size;
-    it->told = False;
+    it->in_trace = False;
     VG_(memcpy)(it->sites, own, sizeof it->sites);
     VG_(OSetGen_Insert)(blocks, it);
     if (size > REGION) {
@@ -289,7 +290,7 @@ void tell_untold(void)
     UInt it;
     for (it = 0; it < untold_count; it++) {
         Block *block = VG_(OSetGen_Lookup)(blocks, &untold[it]);
-        if (block && !block->told)
+        if (block && !block->in_trace)
             tell_block(block);
     }
     untold_count = 0;

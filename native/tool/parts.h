@@ -86,7 +86,7 @@ void symbols_left_out(const HChar *path, Addr bias);
 
 void sites_begin(void);
 void sites_read(const DebugInfo *, UInt library); /* the functions of a library */
-UInt site_of(Addr addr); /* what a call site is in the trace, which is told of it once */
+UInt site_of(Addr addr); /* the place of a call site, whose row is written once */
 
 Bool sites_are_made(void); /* some instruction lies in no file */
 void sites_made(Addr from, SizeT size, const HChar *file,
@@ -98,12 +98,12 @@ void tell_made_code(void);
 #endif
 
 void nameless_begin(void);
-void tell_file(Addr addr); /* the file that is mapped at an address, if it wasn't told */
+void tell_file(Addr addr); /* the file that is mapped at an address, unless the table has it */
 
 extern Bool libraries_came;
 void objects_begin(void);
 void read_libraries(void);       /* the symbols of the files that were mapped since */
-void symbols_of(const Region *); /* tells those that lie in a region */
+void symbols_of(const Region *); /* writes those that lie in a region */
 void blocks_of(const Region *);
 void tell_untold(void); /* the blocks that were made while nothing was recorded */
 

@@ -2,9 +2,9 @@
 
    Addresses of 64 bits become 32 while the program runs. Regions of 1 MiB get places of 1 MiB and 4
    KiB in the order of their first touch, so what lies side by side in a region stays so, and no two
-   regions become neighbours. Instructions that are told with accesses get numbers from the other
-   end on, so that data lies where it does without; one behind the other, so that the next one is
-   mostly near. */
+   regions become neighbours. Instructions that are recorded with accesses get numbers from the
+   other end on, so that data lies where it does without; one behind the other, so that the next one
+   is mostly near. */
 #include "parts.h"
 
 #define FIRST        0x10000UL

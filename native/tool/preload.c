@@ -1,6 +1,6 @@
 /* Runs within the program: a wrapper around each function that makes or frees blocks. The function
-   itself runs as it is, since where it puts the blocks is what is looked at. A block is told once
-   it is there, and its end before it is freed: between the two no other thread can have its
+   itself runs as it is, since where it puts the blocks is what is looked at. A block is reported
+   once it is there, and its end before it is freed: between the two no other thread can have its
    address. */
 #include <stddef.h>
 

@@ -15,8 +15,7 @@ Bool trace_is_open(void);
 Int trace_fd(Bool of_table); /* the descriptor of its file or of the table's, or -1 */
 Bool trace_has(Int fd);      /* one of its files */
 void trace_access(UInt hart, Bool writes, Addr addr, UInt size, UInt pc);
-UInt trace_pc(
-    Addr addr); /* what an instruction's address is in the trace, which is told of it once */
+UInt trace_pc(Addr addr); /* the number of an instruction in the trace, whose row is written once */
 void trace_thread(UInt hart, Addr stack, Addr own); /* a thread has begun, with these pointers to
                                                        its stack and to what it has for itself */
 void trace_stack(UInt hart, Addr from, Addr to);    /* where a stack lies */

@@ -100,7 +100,7 @@ GO_RUNTIME = re.compile(r"(?:runtime|(?:runtime/)?internal/[\w/]+)\.")
 # Sources of the kit for guests.
 # So many lines of the program are named that call a function of the kit.
 MAX_CALLERS = 3
-KIT = re.compile(r"(?:^|/)guest/(?:(?:calls|library|pthread)\.c|start\.S|clib/[^/]*)$")
+KIT = re.compile(r"(?:^|/)guest/(?:(?:calls|library|pthread)\.c|start\.S|(?:pthread|clib)/[^/]*)$")
 # What Rust's compiler puts behind a function's name.
 RUST_HASH = re.compile(r"::h[0-9a-f]{16}$")
 # Functions without a name of their own, of C++ and Rust.

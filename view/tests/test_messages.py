@@ -218,16 +218,18 @@ class Messages(unittest.TestCase):
         status, text, _ = self.view("run", "waits.elf", "--explain", "0", "--no-predicted")
         self.assertEqual(status, 0)
         said = re.sub(
-            r"pthread\.c:\d+",
-            "pthread.c:N",
+            r"pthread_internal\.h:\d+",
+            "pthread_internal.h:N",
             joined(text).partition("note: ")[2].partition(" no line is contended")[0],
         )
         wanted = (
-            "waiting at the end: hart 0 at pthread.c:N (unlock < claim), after waits.c:13 (main); "
+            "waiting at the end: hart 0 at pthread_internal.h:N (unlock < claim), "
+            "after waits.c:13 (main); "
         )
         self.assertEqual(
             said,
-            f"{wanted}hart 1 at pthread.c:N (lock < pthread_mutex_lock), after waits.c:4 (work)",
+            f"{wanted}hart 1 at pthread_internal.h:N (lock < pthread_mutex_lock), "
+            "after waits.c:4 (work)",
         )
 
 

@@ -126,6 +126,7 @@ class Objects(unittest.TestCase):
         for path in ("/usr/lib/libcap.so.2", "/home/me/libc/queue", "/usr/lib/libstdc++.so.6"):
             self.assertFalse(foreign_objects.LIBRARIES.search(path), path)
         self.assertTrue(foreign_objects.KIT.search("/opt/predator/guest/clib/heap.c"))
+        self.assertTrue(foreign_objects.KIT.search("guest/pthread/pthread_mutex.c"))
         self.assertFalse(foreign_objects.KIT.search("guest/examples/queue.c"))
 
     def test_the_pair_that_takes_most_for_nothing_is_first(self):

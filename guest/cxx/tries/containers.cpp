@@ -31,6 +31,12 @@ int main()
     auto *large = new (std::align_val_t(256)) char[300];
     std::printf("%d\n", reinterpret_cast<std::uintptr_t>(large) % 256 == 0);
     ::operator delete[](large, std::align_val_t(256));
+    auto *one = new (std::nothrow) Line;
+    auto *many_lines = new (std::nothrow) Line[3];
+    std::printf("%d %d\n", reinterpret_cast<std::uintptr_t>(one) % 64 == 0, reinterpret_cast<std::uintptr_t>(many_lines) % 64 == 0);
+    ::operator delete(one, std::align_val_t(64), std::nothrow);
+    delete[] many_lines;
+    ::operator delete(::operator new(8, std::nothrow), std::nothrow);
     std::vector<int> numbers(20);
     std::iota(numbers.begin(), numbers.end(), 1);
     std::reverse(numbers.begin(), numbers.end());

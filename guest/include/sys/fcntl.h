@@ -1,4 +1,4 @@
-// The C library's sys/fcntl.h. No file can be opened; fcntl tells of the files 0 to 2 how they are open, and hears what it is to set.
+// The C library's sys/fcntl.h. No file can be opened; fcntl reports how the files 0 to 2 are open, and accepts new flags without an effect.
 #ifndef PREDATOR_SYS_FCNTL_H
 #define PREDATOR_SYS_FCNTL_H
 

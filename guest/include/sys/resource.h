@@ -1,4 +1,4 @@
-// What a run has used is told by its report, and not to the program: getrusage answers -1 with ENOSYS.
+// A run's report shows what it has used, and the program can't ask: getrusage answers -1 with ENOSYS.
 #ifndef PREDATOR_SYS_RESOURCE_H
 #define PREDATOR_SYS_RESOURCE_H
 

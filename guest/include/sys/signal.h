@@ -1,5 +1,5 @@
 // The C library's sys/signal.h. A signal comes by `raise` or `kill` from the program itself, and runs what `signal` or `sigaction` set,
-// whichever thread did, or ends the run. A mask is kept for each thread, empty at first, and told again; it holds nothing back.
+// whichever thread did, or ends the run. A mask is kept for each thread, empty at first, and can be read back; it blocks nothing.
 #ifndef PREDATOR_SYS_SIGNAL_H
 #define PREDATOR_SYS_SIGNAL_H
 

@@ -7,9 +7,9 @@ static int now(sqlite3 *db)
     sqlite3_stmt *seconds;
     if (sqlite3_prepare_v2(db, "SELECT strftime('%s', 'now')", -1, &seconds, NULL) != SQLITE_OK || sqlite3_step(seconds) != SQLITE_ROW)
         return -1;
-    int told = sqlite3_column_int(seconds, 0);
+    int answer = sqlite3_column_int(seconds, 0);
     sqlite3_finalize(seconds);
-    return told;
+    return answer;
 }
 
 int main(void)

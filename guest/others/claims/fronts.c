@@ -4,7 +4,7 @@
 #include <stdio.h>
 #include <stdlib.h>
 
-// (a block is told by two calls, one without bytes by one, and a thread that starts by one too)
+// (a block is noted by two calls, one without bytes by one, and a thread that starts by one too)
 #define CALLS (1u << 20)
 #define NEAR 200u
 

@@ -1,4 +1,4 @@
-// How many blocks does a program get that the linker gives this malloc (--wrap), and what is it told where there are no more?
+// How many blocks does a program get that the linker gives this malloc (--wrap), and which errno where there are no more?
 #include <errno.h>
 #include <stdio.h>
 #include <stdlib.h>

@@ -243,9 +243,9 @@ claim_listed() {
     built "listed: valgrind's tls_threads is built" "$cc" $lines -w -DHAVE_TLS -I . "$valgrind/helgrind/tests/tls_threads.c" -o tls_threads.elf
     missed "listed: valgrind's variables of each thread" "^object block " "^thread_locals$" tls_threads.elf -- 1
     ran "output: liburcu's benchmark" "$studies/urcu_qsbr.elf" 0 "nr_readers   3" -- 3 1 1
-    told_apart "output: to standard error, where no file is named" "$studies/urcu_qsbr.elf" "nr_readers   3" -- 3 1 1
+    run_to_stderr "output: to standard error, where no file is named" "$studies/urcu_qsbr.elf" "nr_readers   3" -- 3 1 1
     ran "output: kt_for" "$studies/kt_for.elf" 0 ""
-    told_apart "output: of kt_for" "$studies/kt_for.elf" "$(head -n 1 put)"
+    run_to_stderr "output: of kt_for" "$studies/kt_for.elf" "$(head -n 1 put)"
 }
 
 # A run that is longer than its budget.
