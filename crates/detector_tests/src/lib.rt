@@ -1,5 +1,5 @@
-//! Tests of the detector and its parts, and of saved states, on lists worked by hand. The detector
-//! is tried over its own index and over a plain one, [`MapIndex`].
+//! Tests of the detector and its parts on lists worked by hand. The detector is tried over its own
+//! index and over a plain one, [`MapIndex`].
 #![tactic(auto)]
 
 #[cfg(test)]
@@ -10,28 +10,16 @@ mod histories;
 mod indexes;
 mod map_index;
 #[cfg(test)]
-mod observed_trace;
-#[cfg(test)]
 mod pairs;
 #[cfg(test)]
 mod ranges;
 #[cfg(test)]
-mod resumed;
-#[cfg(test)]
-mod saved;
-#[cfg(test)]
 mod shadows;
-#[cfg(test)]
-mod standing;
-#[cfg(test)]
-mod states;
 #[cfg(test)]
 mod told;
 #[cfg(test)]
 mod tracks;
 #[cfg(test)]
 mod verdicts;
-#[cfg(test)]
-mod written;
 
 pub use map_index::MapIndex;

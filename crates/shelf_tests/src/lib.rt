@@ -1,0 +1,9 @@
+//! Tests of the shelves in memory, and of files that are written piece by piece.
+#![tactic(auto)]
+
+#[cfg(test)]
+mod held;
+#[cfg(test)]
+mod outgoing;
+#[cfg(test)]
+mod shelves;
