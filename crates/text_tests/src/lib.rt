@@ -5,8 +5,6 @@
 #[cfg(test)]
 mod findings;
 #[cfg(test)]
-mod found;
-#[cfg(test)]
 mod keys;
 #[cfg(test)]
 mod options;

@@ -1,7 +1,7 @@
 use Rattle.std.proofs.Common.{◌≡◌, ◌≢◌, [], ◌∷◌, List, ℕ, ap, false, get_or, nat_eq, subst, sym}
 use Rattle.std.proofs.Common.{true}
 use Rattle.shelf.specs.OnTheirWay.{IsNew}
-use Rattle.trace_tests.proofs.outgoing.two.Goals as goal
+use Rattle.shelf_tests.proofs.outgoing.two.Goals as goal
 
 other : (let l : List ℕ = 97 ∷ [] in l) ≢ (98 ∷ [])
 other = λ e. let codes : true ≡ false = ap (λ (l : List ℕ). nat_eq (get_or l 0 0) 97) e in cc
