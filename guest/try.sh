@@ -133,6 +133,9 @@ try_refusals() {
     expect_status "no schedule" 3 "$predator" run programs/counters.elf --schedule schedule
     expect_status "bad settings" 4 "$predator" run programs/counters.elf --settings bad
     expect_error "bad settings" "bad: \`harts\` must be a whole number from 1 to 256"
+    # (which can't be looked at again)
+    expect_status "settings by a pipe" 4 bash -c 'echo quantum | "$0" check programs/counters.elf --settings /dev/stdin' "$predator"
+    expect_error "settings by a pipe" "/dev/stdin: the file is not TOML: write a key and a whole number on each line, like \`quantum = 1\`"
     expect_status "no trace" 5 "$predator" replay settings
     expect_status "no object" 13 "$predator" place t missing
     expect_line "no object" "predator: place NoObject"

@@ -1,9 +1,7 @@
-// The program over a real file, in the folder that the tests run in.
-use crate::runs::{NEIGHBOURS, trace, words};
+// The shelf over real files, in the folder that the tests run in.
 use disk_shelf::DiskShelf;
-use predator_cli::predator;
 use shelf::{FetchError, Shelf, ShelfError, fetch};
-use std::alloc::{AllocError, Global};
+use std::alloc::Global;
 use std::marker::Brand;
 use std::os::unix::fs::symlink;
 use std::rt::{Clock, Files};
@@ -30,8 +28,6 @@ const WRITTEN_NAMES: [&str; 3] = [READ_NAME, "worked_rows_hard.tmp", "worked_row
 
 const BEGUN_NAME: &str = "worked_rows_begun.tmp";
 
-const REPLAY_IT: &str = "replay worked_rows.tmp";
-
 // Writes a file anew, in two pieces.
 fn write<S: Shelf>(
     shelf: &mut S,
@@ -54,47 +50,26 @@ fn holds<S: Shelf>(
     Ok(fetch(alloc, shelf, name, 1 << 20)?.as_slice() == bytes)
 }
 
-// The status of a call with these words, as a number.
-fn number_of<S: Shelf>(alloc: Global, shelf: &mut S, words: &[String]) -> u8 {
-    predator(alloc, words, shelf).number()
-}
-
-// The same of a line of words.
-fn status_of<S: Shelf>(alloc: Global, shelf: &mut S, line: &str) -> Result<u8, AllocError> {
-    let words = words(alloc, line)?;
-    Ok(number_of(alloc, shelf, &words))
-}
-
-// Writes a trace over an older content, and answers whether it is held whole, and how its replay
-// ends.
-fn replay_written<S: Shelf>(
-    alloc: Global,
-    shelf: &mut S,
-    content: &[u8],
-) -> Result<(bool, u8), Fail> {
+// Writes a file over an older content, in two pieces, and answers whether it is held whole.
+fn is_written<S: Shelf>(alloc: Global, shelf: &mut S, content: &[u8]) -> Result<bool, Fail> {
     let (first, second) = content.split_at(content.len() / 2);
     write(shelf, NAME, b"older", b"")?;
     write(shelf, NAME, first, second)?;
-    let is_held = holds(alloc, shelf, NAME, content)?;
-    Ok((is_held, status_of(alloc, shelf, REPLAY_IT)?))
+    Ok(holds(alloc, shelf, NAME, content)?)
 }
 
-// Whether the file can't be read, nor replayed.
-fn is_missing<S: Shelf>(alloc: Global, shelf: &mut S) -> Result<bool, AllocError> {
-    let is_unread = holds(alloc, shelf, NAME, b"") == Err(FetchError::ReadFault);
-    Ok(is_unread && status_of(alloc, shelf, REPLAY_IT)? == 7)
+// Whether a file can't be read.
+fn is_unread<S: Shelf>(alloc: Global, shelf: &mut S, name: &str) -> bool {
+    holds(alloc, shelf, name, b"") == Err(FetchError::ReadFault)
 }
 
 #[test]
-fn a_real_file_is_written_read_and_replayed(rt: HostRuntime) -> Result<(), Fail> {
-    let content = trace(rt.alloc(), &NEIGHBOURS)?;
-    let mut shelf = DiskShelf::<_, Brand>::new(&rt);
-    let (is_held, status) = replay_written(rt.alloc(), &mut shelf, &content)?;
+fn a_real_file_is_written_and_read(rt: HostRuntime) -> Result<(), Fail> {
+    let is_held = is_written(rt.alloc(), &mut DiskShelf::<_, Brand>::new(&rt), b"two pieces")?;
     fs::remove_file(&rt, NAME)?;
     assert!(rt; is_held);
-    assert_eq!(rt; status, 0);
     // in a call of its own, since a file that is open stays
-    assert!(rt; is_missing(rt.alloc(), &mut DiskShelf::<_, Brand>::new(&rt))?);
+    assert!(rt; is_unread(rt.alloc(), &mut DiskShelf::<_, Brand>::new(&rt), NAME));
     Ok(())
 }
 
@@ -117,10 +92,8 @@ fn a_long_file_is_written_and_read_whole(rt: HostRuntime) -> Result<(), Fail> {
 
 // A folder can be opened, and its first read fails.
 #[test]
-fn a_folder_as_a_trace_is_a_read_fault(rt: HostRuntime) -> Result<(), Fail> {
-    let mut shelf = DiskShelf::<_, Brand>::new(&rt);
-    assert_eq!(rt; status_of(rt.alloc(), &mut shelf, "replay .")?, 7);
-    Ok(())
+fn a_folder_is_a_read_fault(rt: HostRuntime) {
+    assert!(rt; is_unread(rt.alloc(), &mut DiskShelf::<_, Brand>::new(&rt), "."));
 }
 
 // Whether a file can't be begun under a name.
