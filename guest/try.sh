@@ -139,6 +139,9 @@ try_refusals() {
     expect_status "no trace" 5 "$predator" replay settings
     expect_status "no object" 13 "$predator" place t missing
     expect_line "no object" "predator: place NoObject"
+    expect_status "an object without a name" 13 "$predator" place t ''
+    expect_status "a file without a name" 8 "$predator" split t 18446744073709551615 a ''
+    expect_line "a file without a name" "predator: write fault"
     # (the gate runs the program with exit status 0 alone)
     expect_status "a missing file" 7 "$predator" replay missing
     expect_output "a missing file" "predator: read fault"
