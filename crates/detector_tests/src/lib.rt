@@ -1,5 +1,5 @@
-//! Tests of the detector and its parts on lists worked by hand. The detector is tried over its own
-//! index and over a plain one, [`MapIndex`].
+//! Tests of the detector and its parts on lists worked by hand, and of printed addresses and names.
+//! The detector is tried over its own index and over a plain one, [`MapIndex`].
 #![tactic(auto)]
 
 #[cfg(test)]
@@ -15,6 +15,8 @@ mod pairs;
 mod ranges;
 #[cfg(test)]
 mod shadows;
+#[cfg(test)]
+mod texts;
 #[cfg(test)]
 mod told;
 #[cfg(test)]
