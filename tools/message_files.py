@@ -333,7 +333,7 @@ FILES: dict[str, bytes] = {
     "full": trace(symbol(8, b"pair") + write(0x1000) + write(0xFFFFFFFC), 2),
     "twice": b"quantum = 1\n\nquantum = 2\n",
     "no_toml": b"\nquantum\n",
-    "full": b"#" * (1 << 16),
+    "longest": b"#" * (1 << 16),
     "long": b"#" * ((1 << 16) + 1),
     "unknown": b"quantom = 3\n",
     "odd": '"h\\u007f\\u009b" = 1\n'.encode(),
@@ -459,7 +459,7 @@ def list_faults() -> Iterator[Fault]:
         "late: the first access of the trace is number 6000, not 0: repl"
         "ay the parts before it first"
     )
-    yield ["check", "p", "--settings", "full"], 0, "*", ""
+    yield ["check", "p", "--settings", "longest"], 0, "*", ""
     taken = "the last thread could not start: all 1 harts are in use (setting `harts`, at most 256)"
     yield ["run", "shares.elf", "--set", "harts=1"], 0, "*", taken
     yield ["run", "shares.elf", "--set", "harts=2"], 0, "*", ""
