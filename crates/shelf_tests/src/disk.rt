@@ -65,7 +65,11 @@ fn is_unread<S: Shelf>(alloc: Global, shelf: &mut S, name: &str) -> bool {
 
 #[test]
 fn a_real_file_is_written_and_read(rt: HostRuntime) -> Result<(), Fail> {
-    let is_held = is_written(rt.alloc(), &mut DiskShelf::<_, Brand>::new(&rt), b"two pieces")?;
+    let is_held = is_written(
+        rt.alloc(),
+        &mut DiskShelf::<_, Brand>::new(&rt),
+        b"two pieces",
+    )?;
     fs::remove_file(&rt, NAME)?;
     assert!(rt; is_held);
     // in a call of its own, since a file that is open stays
