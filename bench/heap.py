@@ -1,13 +1,13 @@
 #!/usr/bin/env python3
-"""Measures the cost of blocks: of the calls `alloc` and `free` in guests that make 2^20 blocks, and of as many births
-and deaths in replayed traces.
+"""Measures the cost of blocks: of the calls `alloc` and `free` in guests that make 2^20 blocks, and of as many
+births and deaths in replayed traces.
 
 usage: bench/heap.py [PROGRAM]
 
 Each command runs four times in turn with one that does the same but for the blocks: the guest without its
-calls, or `sweep`, which reads a trace and notes no block. The least times count. A row has the difference for
-each call, and that of the most memory. In a guest it covers the heap and the table of objects, and in a replay
-the table alone. A benchmark, no test."""
+calls, or `sweep`, which reads a trace and notes no block. The least processor times count. A row has the
+difference for each call, and that of the most memory. In a guest it covers the heap and the table of objects,
+and in a replay the table alone. A benchmark, no test."""
 
 import os
 import struct
@@ -139,12 +139,19 @@ def check_outcome(words: list[str], wanted: int) -> None:
         sys.exit(f"bench: no exit {wanted} of {' '.join(words)}")
 
 
+def measure(words: list[str]) -> tuple[float, int]:
+    """Processor seconds, and the most bytes of memory."""
+    child = subprocess.Popen(words, stdout=subprocess.DEVNULL)
+    _, status, usage = os.wait4(child.pid, 0)
+    if status:
+        sys.exit(f"bench: status {status} of {' '.join(words)}")
+    return usage.ru_utime + usage.ru_stime, usage.ru_maxrss * 1024
+
+
 def main(program: str) -> None:
     with tempfile.TemporaryDirectory() as work:
         rows = [*guest_rows(program, work), *table_rows(program, work)]
-        found = [
-            [(aims.measure(it.words), aims.measure(it.plain)) for it in rows] for _ in range(ROUNDS)
-        ]
+        found = [[(measure(it.words), measure(it.plain)) for it in rows] for _ in range(ROUNDS)]
     for number, row in enumerate(rows):
         runs = [it[number] for it in found]
         (took, peak), (less, room) = (
