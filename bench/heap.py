@@ -141,7 +141,7 @@ def check_outcome(words: list[str], wanted: int) -> None:
 
 def measure(words: list[str]) -> tuple[float, int]:
     """Processor seconds, and the most bytes of memory."""
-    child = subprocess.Popen(words, stdout=subprocess.DEVNULL)
+    child = subprocess.Popen(words, stdout=subprocess.DEVNULL, stderr=subprocess.DEVNULL)
     _, status, usage = os.wait4(child.pid, 0)
     if status:
         sys.exit(f"bench: status {status} of {' '.join(words)}")
