@@ -5,8 +5,8 @@
 20,000,000 accesses to 64 lines are written in version 3, with 64 pcs for each of 8 harts, and converted to
 version 2: once each line has a pc of its own, and once any pc comes at any line. `move` moves each word to a
 line of its own, by a table of 512 rows. The commands run five times in turn, and the least time of each
-counts. Then 1,000,000 pairs of instructions take one line: `blame` of that shows its memory. What reading
-alone takes is measured by `crates/benches`, where that is built. A benchmark, no test."""
+counts. Reading alone is a call of `place` for an object that isn't there. Then 1,000,000 pairs of instructions
+take one line: `blame` of that shows its memory. A benchmark, no test."""
 
 import argparse
 import functools
@@ -24,15 +24,14 @@ sys.path.insert(0, os.path.join(TOP, "tools"))
 from traces import encode_distance  # noqa: E402
 
 BUILT = os.path.join(TOP, "crates/predator/out/predator")
-BENCHES = os.path.join(TOP, "crates/benches/out/benches")
 # As the launcher has it.
 os.environ.setdefault("GLIBC_TUNABLES", "glibc.malloc.hugetlb=1")
 ROUNDS, MADE, HARTS, PCS = 5, 20_000_000, 8, 64
 # So many instructions of one hart take a line from as many of another.
 SIDE = 1000
 CODE, DATA, PLACES = 0x10000, 0x20000, 0x100000
-# So many pieces of a trace are read, each of 8192 accesses.
-PIECES = 1024
+# What `place` ends with where no object has the name.
+NO_OBJECT = 13
 # At most so much of what each aim is beside, and so many bytes.
 AIMS = {"blame": 2.5, "move": 1.5, "reading": 1.25}
 ROOM = 1 << 30
@@ -67,12 +66,12 @@ def paired_touches() -> Iterator[Touch]:
             yield Touch(True, 1, DATA + 4, CODE + 4 * (SIDE + taker))
 
 
-def write_trace(path: str, touches: Iterable[Touch]) -> str:
+def write_trace(path: str, touches: Iterable[Touch], harts: int = HARTS) -> str:
     """The touches as a trace of version 3, in a file."""
     spelled = functools.lru_cache(1 << 16)(encode_distance)
-    addr, pcs, count, piece = 0, [0] * HARTS, 0, bytearray()
+    addr, pcs, count, piece = 0, [0] * harts, 0, bytearray()
     with open(path, "wb") as out:
-        out.write(struct.pack("<8sQHH", b"PRDTRC03", 0, HARTS, 0))
+        out.write(struct.pack("<8sQHH", b"PRDTRC03", 0, harts, 0))
         for touch in touches:
             piece += (
                 bytes((0x24 if touch.writes else 0x14, touch.hart))
@@ -101,7 +100,7 @@ def measure_call(words: list[str]) -> tuple[float, int]:
     with subprocess.Popen(words, stdout=subprocess.DEVNULL) as child:
         _, status, used = os.wait4(child.pid, 0)
         child.returncode = os.waitstatus_to_exitcode(status)
-    if child.returncode:
+    if child.returncode not in (0, NO_OBJECT):
         sys.exit(f"bench: status {child.returncode} of {' '.join(words)}")
     return time.monotonic() - begin, used.ru_maxrss * 1024
 
@@ -125,6 +124,8 @@ def measure(program: str, work: str, are_apart: bool) -> None:
     subprocess.run([program, "convert", three, two], check=True, stdout=subprocess.DEVNULL)
     least = measure_least(
         {
+            "reading of version 2": [program, "place", two, "none"],
+            "reading": [program, "place", three, "none"],
             "replay of version 2": [program, "replay", two],
             "replay": [program, "replay", three],
             "blame": [program, "blame", three],
@@ -143,6 +144,11 @@ def measure(program: str, work: str, are_apart: bool) -> None:
         print(
             f"{name}: {took:.2f} s, {beside[0]:.2f} of replay, {beside[1]:.2f} of that of version 2"
         )
+    judge_time(
+        "reading version 3 beside version 2",
+        least["reading"] / least["reading of version 2"],
+        AIMS["reading"],
+    )
     judge_time("blame beside replay", least["blame"] / least["replay"], AIMS["blame"])
     judge_time("move beside convert", least["move"] / least["convert"], AIMS["move"])
 
@@ -157,23 +163,11 @@ def measure_pairs(program: str, work: str) -> None:
     )
 
 
-def measure_reading() -> None:
-    """What reading alone takes, without what sees the records."""
-    if not os.access(BENCHES, os.X_OK):
-        print(
-            "reading alone: not measured, for crates/benches isn't built (`rt run` there builds it)"
-        )
-        return
-    least = measure_least({it: [BENCHES, "traces", it, str(PIECES)] for it in ("2", "3")})
-    judge_time("reading version 3 beside version 2", least["3"] / least["2"], AIMS["reading"])
-
-
 def main(program: str) -> None:
     with tempfile.TemporaryDirectory() as work:
         for are_apart in (True, False):
             measure(program, work, are_apart)
         measure_pairs(program, work)
-    measure_reading()
 
 
 if __name__ == "__main__":

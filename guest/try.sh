@@ -133,9 +133,15 @@ try_refusals() {
     expect_status "no schedule" 3 "$predator" run programs/counters.elf --schedule schedule
     expect_status "bad settings" 4 "$predator" run programs/counters.elf --settings bad
     expect_error "bad settings" "bad: \`harts\` must be a whole number from 1 to 256"
+    # (which can't be looked at again)
+    expect_status "settings by a pipe" 4 bash -c 'echo quantum | "$0" check programs/counters.elf --settings /dev/stdin' "$predator"
+    expect_error "settings by a pipe" "/dev/stdin: the file is not TOML: write a key and a whole number on each line, like \`quantum = 1\`"
     expect_status "no trace" 5 "$predator" replay settings
     expect_status "no object" 13 "$predator" place t missing
     expect_line "no object" "predator: place NoObject"
+    expect_status "an object without a name" 13 "$predator" place t ''
+    expect_status "a file without a name" 8 "$predator" split t 18446744073709551615 a ''
+    expect_line "a file without a name" "predator: write fault"
     # (the gate runs the program with exit status 0 alone)
     expect_status "a missing file" 7 "$predator" replay missing
     expect_output "a missing file" "predator: read fault"

@@ -205,9 +205,9 @@ def draw_size(code: Code) -> None:
     code.addi("a0", "a0", 16)
 
 
-def holes_of_all_sizes(n: int) -> Guest:
+def draw_holes(n: int) -> Code:
     """Of blocks of 16 to 512 bytes those of an odd number of sixteens are freed, and as many are made again
-    as before. It ends with the sum of their places."""
+    as before. The sum of their places is in s0."""
     code = Code()
     for register, value in (
         ("s3", 1),
@@ -242,7 +242,11 @@ def holes_of_all_sizes(n: int) -> Guest:
         code.call("alloc", "a0")
         code.put("add", "s0", "s0", "a0")
         code.put("sub", "s0", "s0", "s2")
-    return guest_exiting(code, "s0", places_in_holes(n))
+    return code
+
+
+def holes_of_all_sizes(n: int) -> Guest:
+    return guest_exiting(draw_holes(n), "s0", places_in_holes(n))
 
 
 # ---- Lines that two harts share.

@@ -74,6 +74,11 @@ PROGRAMS = {
         "BadClass",
         f"the file is an ELF file for RV64: {BUILD}",
     ),
+    "amd64.elf": (
+        b"\x7fELF\x02\x01\x01".ljust(16, b"\0") + struct.pack("<HH44x", 3, 62),
+        "BadClass",
+        f"the file is an ELF file for x86-64: {BUILD}",
+    ),
     "turned.elf": (
         patch_program(5, "<B", 2),
         "BadData",
@@ -211,6 +216,11 @@ TRACES = {
         "Truncated 10",
         "the trace is cut off after 10 bytes: record or copy it again",
     ),
+    "nine": (
+        b"PRDTRC01\0",
+        "Truncated 9",
+        "the trace is cut off after 9 bytes: record or copy it again",
+    ),
     "count": (
         trace(b"", 3),
         "CountMismatch 3 0",
@@ -265,6 +275,11 @@ TABLES = {
         "Overlap 2",
         "the target of line 2 overlaps the target of an earlier line: move it elsewhere",
     ),
+    "third.moves": (
+        b"0 4 64\n\n8 4 64\n",
+        "Overlap 3",
+        "the target of line 3 overlaps the target of an earlier line: move it elsewhere",
+    ),
     "long.moves": (
         b"\n" * ((1 << 20) + 1),
         "TooLong",
@@ -312,11 +327,13 @@ FILES: dict[str, bytes] = {
     "empty": trace(b"", 0),
     "few": trace(b"", 0, first=2, harts=4),
     "behind": trace(b"", 0, first=2),
+    "late": trace(b"", 0, first=6000),
     "second": b"PRDTRC02" + trace(b"", 0)[8:],
     "large": trace(symbol((1 << 24) + 4, b"large") + write(0x1000), 1),
     "full": trace(symbol(8, b"pair") + write(0x1000) + write(0xFFFFFFFC), 2),
     "twice": b"quantum = 1\n\nquantum = 2\n",
     "no_toml": b"\nquantum\n",
+    "longest": b"#" * (1 << 16),
     "long": b"#" * ((1 << 16) + 1),
     "unknown": b"quantom = 3\n",
     "odd": '"h\\u007f\\u009b" = 1\n'.encode(),
@@ -334,7 +351,7 @@ def put_files() -> None:
     for name, content in FILES.items():
         put_file(name, content)
     put_file("state", b"bad")
-    for name in ("waits_for_ever.elf", "traps.elf", "plain.elf"):
+    for name in ("waits_for_ever.elf", "traps.elf", "plain.elf", "shares.elf"):
         shutil.copy(os.path.join(DATA, name), name)
 
 
@@ -435,6 +452,17 @@ def list_faults() -> Iterator[Fault]:
         "rest: the first access of the trace is number 1, not 0: repl"
         "ay the parts before it first"
     )
+    yield [
+        "replay",
+        "late",
+    ], 6, "state WrongPosition 0 6000", (
+        "late: the first access of the trace is number 6000, not 0: repl"
+        "ay the parts before it first"
+    )
+    yield ["check", "p", "--settings", "longest"], 0, "*", ""
+    taken = "the last thread could not start: all 1 harts are in use (setting `harts`, at most 256)"
+    yield ["run", "shares.elf", "--set", "harts=1"], 0, "*", taken
+    yield ["run", "shares.elf", "--set", "harts=2"], 0, "*", ""
     yield [
         "replay",
         "t",

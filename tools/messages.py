@@ -30,6 +30,7 @@ from commands import (
     option_names,
 )
 from message_files import FORM, list_faults, put_files
+from message_words import WORDS
 
 USUAL = {
     "PROGRAM": "p",
@@ -352,6 +353,9 @@ def all_number_tries() -> Iterator[Try]:
 
 
 def word_tries() -> Iterator[Try]:
+    for line, said in WORDS:
+        yield usage(line.split(), said)
+    yield Try("replay t --size 64 --save a".split(), None)
     yield usage([], "the command is missing: see predator --help")
     yield usage([HIDDEN], f"'{SHOWN}' is not a command: see predator --help")
     yield Try(

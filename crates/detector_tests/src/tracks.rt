@@ -1,5 +1,6 @@
 // Worked lists with predicted lines, over both indexes.
 ghost use Rattle.std.specs.Prelude.{◌≡◌};
+ghost use Rattle.sharing_rules.specs.Listed as listed;
 ghost use Rattle.detector.specs.Entries.{no_entries};
 
 use crate::MapIndex;
@@ -9,10 +10,20 @@ use base::{Kind, Layout, Thresholds};
 use detector::{Detector, LineIndex, PagedIndex, see};
 use line_tracks::LineKind::{Doubled, Observed, Shifted};
 use line_tracks::{LineKind, Track};
-use sharing_oracle::may_predict;
+use sharing_rules::is_native;
 use std::alloc::Global;
 use std::process::Abort;
 use std::test::Fail;
+
+// Whether something may be predicted under a layout.
+fn may_predict(layout: Layout, thresholds: Thresholds) -> bool
+    ensures { result ≡ listed.may_predict layout thresholds }
+{
+    match thresholds.prediction() {
+        Some(_) => is_native(layout),
+        None => true,
+    }
+}
 
 // A track, told by its kind, its base, its size, its start and its count.
 type Shown = (LineKind, i64, u32, Option<u64>, u64);
@@ -104,7 +115,7 @@ const ACROSS: [Told; 6] = [
     (1, 0x1040, Write),
 ];
 
-const ROWS: [Row; 9] = [
+const ROWS: [Row; 10] = [
     Row {
         name: "neighbouring words open a shifted and a doubled line",
         size: 64,
@@ -221,6 +232,18 @@ const ROWS: [Row; 9] = [
             (Shifted, 0x1010, 32, Some(3), 2),
             (Doubled, 0x1000, 64, Some(3), 2),
         ],
+    },
+    Row {
+        name: "words of one line open nothing",
+        size: 64,
+        prediction: 2,
+        told: &[
+            (0, 0x101c, Write),
+            (1, 0x1020, Write),
+            (0, 0x101c, Write),
+            (1, 0x1020, Write),
+        ],
+        shown: &[(Observed, 0x1000, 64, Some(0), 3)],
     },
     Row {
         name: "lines of 256 bytes",

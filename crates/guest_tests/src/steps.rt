@@ -1,8 +1,6 @@
 // Steps whose results come from outside, and the rules of reservations and traps.
 ghost use Rattle.std.specs.Prelude.{◌≡◌, ◌≤◌, length};
 
-use crate::more_programs::MORE_PROGRAMS;
-use crate::programs::PROGRAMS;
 use base::{Cause, Hart, Kind, NoMemory};
 use rv32_decode::Reg;
 use rv32_hart::{HartState, Memory, Reservations, StepEnd, step};
@@ -39,55 +37,6 @@ fn memory_of(rt: &impl Abort, alloc: Global, words: &[u32]) -> Result<Memory, No
     memory.map(BASE + 0x1000, 0x1000, false, false);
     put(rt, &mut memory, words);
     Ok(memory)
-}
-
-// The registers from x0 on hold these numbers.
-fn see(rt: &impl Abort, state: &HartState, registers: &[u32; 31]) {
-    for (number, value) in registers.iter().enumerate() {
-        assert!(rt; state.reg(reg(rt, number as u8)) == *value, "x{number}");
-    }
-}
-
-// Runs programs, each of which leaves the numbers beside it.
-fn run_all(
-    rt: &impl Abort,
-    alloc: Global,
-    programs: &[([u32; 40], [u32; 31])],
-) -> Result<(), NoMemory> {
-    for (words, registers) in programs {
-        see(rt, &after_all(rt, alloc, words)?, registers);
-    }
-    Ok(())
-}
-
-#[test]
-fn random_programs_end_as_under_qemu(rt: HostRuntime) -> Result<(), Fail> {
-    run_all(&rt, rt.alloc(), &PROGRAMS)?;
-    run_all(&rt, rt.alloc(), &MORE_PROGRAMS)?;
-    Ok(())
-}
-
-// Hart 0 after all steps of a program, each of which goes on.
-fn after_all(rt: &impl Abort, alloc: Global, words: &[u32]) -> Result<HartState, NoMemory> {
-    let mut memory = memory_of(rt, alloc, words)?;
-    let mut state = HartState::new(BASE, 0, 0, 0);
-    go_on(rt, alloc, &mut state, &mut memory, words.len())?;
-    Ok(state)
-}
-
-// So many steps of hart 0, each of which goes on.
-fn go_on(
-    rt: &impl Abort,
-    alloc: Global,
-    state: &mut HartState,
-    memory: &mut Memory,
-    count: usize,
-) -> Result<(), NoMemory> {
-    for _ in 0..count {
-        let end = step_alone(rt, alloc, state, memory)?;
-        assert!(rt; matches!(end, StepEnd::Next(_, None)));
-    }
-    Ok(())
 }
 
 // One step of hart 0, where nothing is reserved.

@@ -1,6 +1,6 @@
 // One call of the program, and how it is to end.
 use crate::trouble::Trouble;
-use crate::words::number;
+use crate::words::{number, words_of};
 use predator_cli::predator;
 use shelf::{Failing, HeldFile, MemoryShelf};
 use std::alloc::{AllocError, Global};
@@ -57,14 +57,6 @@ fn wish_of(line: &str) -> Option<Wish<'_>> {
         "keeps" => Some(Wish::Keeps(word)),
         _ => wish_by(what, number(word)?, words.next()),
     }
-}
-
-fn words_of(alloc: Global, line: &str) -> Result<Vec<String>, AllocError> {
-    let mut words = Vec::new(alloc);
-    for word in line.split_whitespace() {
-        words.push(String::from_str(alloc, word)?)?;
-    }
-    Ok(words)
 }
 
 // The file of this name and this content.

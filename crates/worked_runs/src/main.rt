@@ -1,12 +1,13 @@
 //! Whole cases of the program, over files in memory: runs each case that `cases.txt` names, and
 //! says how many of its calls ended as the case says. A case is a text file beside it, and what it
 //! may say stands in `case.rt`; so a new case is a file, its name in `cases.txt`, its line in
-//! `stdout`, and no proof.
+//! `stdout`, and no proof. At the end one call is made over a shelf that never fails.
 #![tactic(auto)]
 
 mod call;
 mod case;
 mod content;
+mod steady;
 mod trouble;
 mod words;
 
@@ -75,8 +76,15 @@ fn pass_all<R: Files + Print + AllocGlobal>(rt: &R) -> Result<bool, Trouble> {
     Ok(passed)
 }
 
+// Each case, and then a call over a shelf that never fails.
+fn run<R: Files + Print + AllocGlobal>(rt: &R) -> Result<bool, Trouble> {
+    let passed = pass_all(rt)?;
+    let ends_well = steady::ends_well(rt)?;
+    Ok(passed && ends_well)
+}
+
 fn main(rt: HostRuntime) -> ExitCode {
-    match pass_all(&rt) {
+    match run(&rt) {
         Ok(true) => ExitCode::from(0),
         Ok(false) => ExitCode::from(1),
         Err(trouble) => {

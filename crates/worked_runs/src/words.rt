@@ -1,4 +1,14 @@
-// What a word of a case spells.
+// The words of a line, and what a word of a case spells.
+use std::alloc::{AllocError, Global};
+
+// The words of a line.
+pub(crate) fn words_of(alloc: Global, line: &str) -> Result<Vec<String>, AllocError> {
+    let mut words = Vec::new(alloc);
+    for word in line.split_whitespace() {
+        words.push(String::from_str(alloc, word)?)?;
+    }
+    Ok(words)
+}
 
 // The number of decimal digits.
 pub(crate) fn number(word: &str) -> Option<usize> {

@@ -1,2 +1,0 @@
-pub mod InsertLaws
-pub mod LoopLaws
