@@ -183,6 +183,7 @@ if [ "${1:-}" = --short ]; then
 fi
 
 . "$here/tries/spans.sh"
+. "$here/tries/switch.sh"
 
 # What is refused before the program runs.
 refused() { # NAME STATUS PART WORDS ..

@@ -13,7 +13,8 @@
    killed, the program is killed with it; or the guard is told, and kills all of them.
 
    Where one of the words is `--switch=?`, SIGUSR2 is counted in a file of memory, whose descriptor
-   takes the place of the `?`. */
+   takes the place of the `?`; elsewhere it is said that the signal does nothing. One that came
+   before this process was blocked by who started it, and is taken here. */
 #define _GNU_SOURCE
 #include <errno.h>
 #include <fcntl.h>
@@ -162,13 +163,19 @@ static void open_switch(char **words)
     }
     snprintf(word, sizeof word, "--switch=%d", switch_file);
     *words = word;
-    sigaddset(&taken, SIGUSR2);
 }
 
 static void flip_switch(void)
 {
     static unsigned flips;
     flips++;
+    if (switch_file < 0) {
+        if (flips == 1)
+            fputs("predator native: SIGUSR2 does nothing here: with --child and --built recording "
+                  "isn't switched\n",
+                  stderr);
+        return;
+    }
     if (pwrite(switch_file, &flips, sizeof flips, 0) != sizeof flips)
         perror("predator native: a file of memory");
 }
@@ -185,10 +192,12 @@ int main(int argc, char **argv)
     replayed = atoi(argv[4]);
     fcntl(replayed, F_SETFD, FD_CLOEXEC); /* the program must not inherit it */
     sigemptyset(&taken);
-    for (int it = 0; it < 6; it++)
-        sigaddset(&taken, (int[]){SIGTERM, SIGHUP, SIGINT, SIGQUIT, SIGCHLD, LEFT_ALONE}[it]);
+    for (int it = 0; it < 7; it++)
+        sigaddset(&taken,
+                  (int[]){SIGTERM, SIGHUP, SIGINT, SIGQUIT, SIGUSR2, SIGCHLD, LEFT_ALONE}[it]);
     open_switch(argv + 5);
     sigprocmask(SIG_BLOCK, &taken, &before);
+    sigdelset(&before, SIGUSR2);
     sigaction(SIGCHLD, &(struct sigaction){.sa_handler = SIG_DFL}, &child_before);
     program = token < 0 ? start_program(argv + 5) : start(LEFT_ALONE);
     if (program == 0)

@@ -15,7 +15,7 @@
 #define PROGRAM_PATH program_path()
 #endif
 
-ULong trace_accesses, trace_whole, trace_most, trace_max_bytes;
+ULong trace_accesses, trace_whole, trace_turns, trace_most, trace_max_bytes;
 Bool trace_records, trace_pcs;
 
 File trace_file = {-1};
@@ -200,14 +200,15 @@ static void judge_room(void)
 /* How far the recording is, on a terminal, from the second second on. */
 static UInt began, shown; /* in milliseconds; `shown` is when it was last */
 
-static void show_progress(void)
+void trace_show(void)
 {
     UInt now = milliseconds();
     if (!shown || now - began < 1000 || now - shown < 250)
         return;
     shown = now;
     VG_(printf)
-    ("\rrecording: %llu accesses, %llu MB\033[K\r", trace_whole, trace_file.length / 1000000);
+    ("\rrecording: %llu accesses, %llu MB, %llu turns\033[K\r", trace_whole,
+     (trace_file.length + trace_file.count) / 1000000, trace_turns);
 }
 
 static void end_progress(void)
@@ -238,7 +239,7 @@ static void trace_piece(Bool is_last, UInt outcome, UInt value)
         written_accesses = trace_accesses;
         written_whole = trace_whole;
         if (!is_last) {
-            show_progress();
+            trace_show();
             if (trace_file.seeks)
                 judge_room();
         }
