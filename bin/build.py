@@ -50,8 +50,8 @@ def crates_of(top):
     def want(name):
         if name not in found:
             own = [it for it in below[name] if it in below]
-            for it in own:
-                want(it)
+            for lower in own:
+                want(lower)
             found[name] = own, [it for it in below[name] if it not in below]
 
     want(PROGRAM)
@@ -77,8 +77,8 @@ class Stage:
         self.kit = os.path.dirname(
             subprocess.run(["rt", "doc"], capture_output=True, text=True, check=True).stdout.strip()
         )
-        for it in ("crates", "built"):
-            os.makedirs(f"{at}/{it}", exist_ok=True)
+        for folder in ("crates", "built"):
+            os.makedirs(f"{at}/{folder}", exist_ok=True)
         shutil.copyfile(f"{top}/crates.txt", f"{at}/crates.txt")
         # What an older way to build left, and crates that are no longer wanted.
         for name in {*os.listdir(at)} - {"crates", "built", "crates.txt"}:
@@ -105,8 +105,8 @@ class Stage:
     def all_below(self, name):
         """The crates that one stands on, lowest first."""
         found = []
-        for it in self.crates[name][0]:
-            found += [one for one in [*self.all_below(it), it] if one not in found]
+        for lower in self.crates[name][0]:
+            found += [one for one in [*self.all_below(lower), lower] if one not in found]
         return found
 
     def sum(self, name):
@@ -115,9 +115,11 @@ class Stage:
         for part in PARTS:
             for at, folders, files in os.walk(self.folder(name, part)):
                 folders.sort()
-                for it in sorted(files):
+                for file in sorted(files):
                     sum.update(
-                        repr((os.path.relpath(f"{at}/{it}", self.at), read(f"{at}/{it}"))).encode()
+                        repr(
+                            (os.path.relpath(f"{at}/{file}", self.at), read(f"{at}/{file}"))
+                        ).encode()
                     )
         sum.update(repr([self.sums[it] for it in self.crates[name][0]]).encode())
         return sum.hexdigest().encode()
@@ -132,10 +134,10 @@ class Stage:
         own, others = self.crates[name]
         words = [f"{self.kit}/bin/rattle", "build", "--crate-name", name]
         words += ["src/main.rt" if name == PROGRAM else "src/lib.rt"]
-        for it in ["std", *others]:
-            words += ["--extern", f"{it}={self.kit}/rlibs/{it}.rlib"]
-        for it in own:
-            words += ["--extern", f"{it}={self.built(it)}"]
+        for other in ["std", *others]:
+            words += ["--extern", f"{other}={self.kit}/rlibs/{other}.rlib"]
+        for lower in own:
+            words += ["--extern", f"{lower}={self.built(lower)}"]
         words += ["-L", f"dependency={self.kit}/rlibs", "-L", f"dependency={self.at}/built"]
         words += [
             "--antt-project",
@@ -206,8 +208,8 @@ def ranks(stage):
     rank = {}
     for name in reversed(stage.crates):
         rank[name] = rank.get(name, 0) + stage.minutes.get(name, 1)
-        for it in stage.crates[name][0]:
-            rank[it] = max(rank.get(it, 0), rank[name])
+        for lower in stage.crates[name][0]:
+            rank[lower] = max(rank.get(lower, 0), rank[name])
     return rank
 
 
@@ -271,8 +273,8 @@ def build(stage, log):
 
 
 def main(top, at, log):
-    for it in (signal.SIGTERM, signal.SIGHUP):
-        signal.signal(it, lambda *_: sys.exit(1))
+    for number in (signal.SIGTERM, signal.SIGHUP):
+        signal.signal(number, lambda *_: sys.exit(1))
     with open(log, "w", encoding="utf-8") as file:
         return 1 if build(Stage(top, at), file) else 0
 

@@ -208,7 +208,7 @@ def summarize_run(group: int, run: RunResults) -> RunSummary:
     assert report
     misses = run.misses.get((report.size, report.offset))
     cold, useful, useless = (
-        misses.total[it] if misses else None for it in ("cold", "useful", "useless")
+        misses.total[kind] if misses else None for kind in ("cold", "useful", "useless")
     )
     return RunSummary(
         group,

@@ -176,6 +176,6 @@ def block_name(sites: Sequence[Site], number: int | None, naming: Naming) -> str
     if not sites:
         return f"{which} no call site"
     return f"{which} " + " < ".join(
-        f"{it.name}@{naming.site_line(it) or address_text(it.addr)}"
-        for it in naming.own_sites(sites)
+        f"{site.name}@{naming.site_line(site) or address_text(site.addr)}"
+        for site in naming.own_sites(sites)
     )

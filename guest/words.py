@@ -45,7 +45,7 @@ def find_room(data):
             continue
         names = data[sections[link][4] : sections[link][4] + sections[link][5]]
         for name, addr, length, info, _, _ in (
-            struct.unpack("<IIIBBH", it) for it in read_table(data, at, 16, size // 16)
+            struct.unpack("<IIIBBH", entry) for entry in read_table(data, at, 16, size // 16)
         ):
             if info & 15 == OBJECT and length == ROOM and names[name:].startswith(NAME + b"\0"):
                 for kind, begin, base, _, filled, *_ in (

@@ -87,10 +87,12 @@ def help_parts(table: dict[str, list[Row]]) -> dict[str, str]:
     return {
         "Usage": usage + f"  predator {' | '.join(LAUNCHER)}\n",
         "Commands": "".join(
-            column_text(9, it["name"], plain_text(it["does"])) for it in table["command"]
+            column_text(9, command["name"], plain_text(command["does"]))
+            for command in table["command"]
         ),
         "Beside the program": "".join(
-            column_text(11, it["name"], plain_text(it["does"])) for it in table["beside"]
+            column_text(11, command["name"], plain_text(command["does"]))
+            for command in table["beside"]
         ),
         "Options": "".join(
             column_text(
@@ -101,7 +103,8 @@ def help_parts(table: dict[str, list[Row]]) -> dict[str, str]:
             for option in table["option"]
         ),
         "Exit status": "".join(
-            column_text(5, str(it["number"]), plain_text(it["comes"])) for it in table["status"]
+            column_text(5, str(status["number"]), plain_text(status["comes"]))
+            for status in table["status"]
         ),
     }
 
@@ -266,7 +269,9 @@ def completion_parts(table: dict[str, list[Row]]) -> dict[str, str]:
 def launcher_parts(table: dict[str, list[Row]]) -> dict[str, str]:
     """What the launcher knows, by the names of its marks."""
     counts = " ".join(
-        f"[{it['name']}]={len(operand_names(it))}" for it in table["command"] if it.get("main")
+        f"[{command['name']}]={len(operand_names(command))}"
+        for command in table["command"]
+        if command.get("main")
     )
     outputs = " ".join(it["name"] for it in table["option"] if it.get("writes"))
     readers = " ".join(it["name"] for it in table["command"] if "TRACE" in it.get("reads", ()))
@@ -283,7 +288,9 @@ def launcher_parts(table: dict[str, list[Row]]) -> dict[str, str]:
 def view_parts(table: dict[str, list[Row]]) -> dict[str, str]:
     """What view and campaign know, by the names of its marks."""
     usual = ", ".join(
-        f'"{it["key"]}": {it["usual"]}' for it in table["setting"] if isinstance(it["usual"], int)
+        f'"{setting["key"]}": {setting["usual"]}'
+        for setting in table["setting"]
+        if isinstance(setting["usual"], int)
     )
     run = {
         option

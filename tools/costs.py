@@ -197,7 +197,7 @@ def find_divisions(program: str) -> frozenset[int]:
         ["objdump", "-d", "--no-show-raw-insn", program], capture_output=True, text=True, check=True
     ).stdout
     return frozenset(
-        int(it, 16) for it in re.findall(r"(?m)^ *([0-9a-f]+):\s+i?div[bwlq]?\s", listed)
+        int(addr, 16) for addr in re.findall(r"(?m)^ *([0-9a-f]+):\s+i?div[bwlq]?\s", listed)
     )
 
 

@@ -38,12 +38,14 @@ def read(path: str) -> str:
 def find_documents() -> Iterator[str]:
     for folder, folders, files in os.walk(TOP):
         folders[:] = [
-            it for it in folders if it not in ("out", "fetched", ".git", "crates", "__pycache__")
+            child
+            for child in folders
+            if child not in ("out", "fetched", ".git", "crates", "__pycache__")
         ]
         yield from (
-            os.path.relpath(os.path.join(folder, it), TOP)
-            for it in files
-            if it.endswith((".md", ".1"))
+            os.path.relpath(os.path.join(folder, file), TOP)
+            for file in files
+            if file.endswith((".md", ".1"))
         )
 
 
@@ -54,8 +56,8 @@ class Crate:
         self.texts = {part: "" for part in PARTS}
         for part in ("src", "specs", "proofs"):
             for folder, _, files in os.walk(os.path.join(TOP, "crates", name, part)):
-                for it in files:
-                    self.texts[part] += read(os.path.join(folder, it))
+                for file in files:
+                    self.texts[part] += read(os.path.join(folder, file))
 
     def has_item(self, name: str) -> bool:
         kinds = r"fn|struct|enum|trait|const|static|type|mod"
@@ -81,12 +83,14 @@ def source_words() -> set[str]:
     found = set()
     for folder, folders, files in os.walk(TOP):
         folders[:] = [
-            it for it in folders if it not in ("out", "fetched", ".git", "docs", "__pycache__")
+            child
+            for child in folders
+            if child not in ("out", "fetched", ".git", "docs", "__pycache__")
         ]
-        for it in files:
-            found.add(it)
+        for name in files:
+            found.add(name)
             if (
-                it.endswith(
+                name.endswith(
                     (
                         ".rt",
                         ".antt",
@@ -101,9 +105,9 @@ def source_words() -> set[str]:
                         ".case",
                     )
                 )
-                or "." not in it
+                or "." not in name
             ):
-                with open(os.path.join(folder, it), encoding="utf-8", errors="ignore") as file:
+                with open(os.path.join(folder, name), encoding="utf-8", errors="ignore") as file:
                     found.update(re.findall(r"[\w≢-]+", file.read()))
     return found
 
@@ -113,8 +117,8 @@ def heading_anchors(text: str) -> set[str]:
     keeps."""
     return {
         *(
-            re.sub(r"[^\w\- ]", "", it.lower()).replace(" ", "-")
-            for it in re.findall(r"^#+ (.*)$", text, re.MULTILINE)
+            re.sub(r"[^\w\- ]", "", heading.lower()).replace(" ", "-")
+            for heading in re.findall(r"^#+ (.*)$", text, re.MULTILINE)
         ),
         *re.findall(r'^<a id="([\w-]+)"></a>$', text, re.MULTILINE),
     }
@@ -143,7 +147,8 @@ def unknown_quotes(text: str, crates: dict[str, Crate]) -> Iterator[tuple[int, s
     """The lines at which the quotes of a document begin that no source has, whatever its spaces and
     comments."""
     sources = [
-        " ".join(re.sub(r"(?m)^\s*//.*$", "", it.texts["src"]).split()) for it in crates.values()
+        " ".join(re.sub(r"(?m)^\s*//.*$", "", crate.texts["src"]).split())
+        for crate in crates.values()
     ]
     begin, quote = 0, list[str]()
     for number, line in enumerate([*text.split("\n"), ""], 1):
@@ -159,9 +164,9 @@ def unknown_quotes(text: str, crates: dict[str, Crate]) -> Iterator[tuple[int, s
 def crate_layers() -> dict[str, int]:
     """How many crates the longest chain has that ends with a crate, by crates.txt."""
     below = {
-        it.split(":")[0].split()[0]: it.split(":")[1].split()
-        for it in read("crates.txt").split("\n")
-        if re.match(r"[a-z]", it)
+        line.split(":")[0].split()[0]: line.split(":")[1].split()
+        for line in read("crates.txt").split("\n")
+        if re.match(r"[a-z]", line)
     }
 
     def floor(name: str) -> int:
@@ -216,21 +221,21 @@ def find_wrong_names(
         )
         found += [it for it in paths if not has_path(it)]
         found += [
-            f"crates/{it}"
-            for it in re.findall(r"\bcrates/([a-z_0-9]+)", line)
-            if it not in crates and it != "NAME"
+            f"crates/{crate}"
+            for crate in re.findall(r"\bcrates/([a-z_0-9]+)", line)
+            if crate not in crates and crate != "NAME"
         ]
         items = re.findall(r"`([a-z_0-9]+)::(\w+)", line)
         found += [
-            f"{it}::{item}"
-            for it, item in items
-            if it not in crates or not crates[it].has_item(item)
+            f"{crate}::{item}"
+            for crate, item in items
+            if crate not in crates or not crates[crate].has_item(item)
         ]
         words = re.findall(r"`([A-Za-z][\w-]*)`", line)
         found += [
-            it
-            for it in words
-            if it not in everywhere and not it.endswith("_") and "STUDIES" not in name
+            word
+            for word in words
+            if word not in everywhere and not word.endswith("_") and "STUDIES" not in name
         ]
         yield number, dict.fromkeys(found)
 
@@ -240,19 +245,19 @@ def main(words: list[str]) -> int:
         print(__doc__)
         return 0
     listed = [
-        it.split(":")[0].split()[0]
-        for it in read("crates.txt").split("\n")
-        if re.match(r"[a-z]", it)
+        line.split(":")[0].split()[0]
+        for line in read("crates.txt").split("\n")
+        if re.match(r"[a-z]", line)
     ]
     crates = {it: Crate(it) for it in listed}
     everywhere, wrong = source_words(), []
     page = read("docs/ARCHITECTURE.md")
-    for it in (
+    for mistake in (
         []
         if words
         else [*wrong_layers(page), *(f"{it}: twice in the glossary" for it in repeated_words(page))]
     ):
-        wrong.append(f"docs/ARCHITECTURE.md:1: {it}")
+        wrong.append(f"docs/ARCHITECTURE.md:1: {mistake}")
     for name in words or sorted(find_documents()):
         if name == promises.PAGE:
             wrong += [
@@ -260,9 +265,9 @@ def main(words: list[str]) -> int:
             ]
             wrong += wrong_promises(read(name))
         wrong += [
-            f"{name}:{number}: {it}"
+            f"{name}:{number}: {wrong_name}"
             for number, found in find_wrong_names(name, crates, everywhere)
-            for it in found
+            for wrong_name in found
         ]
     print("\n".join(wrong), end="\n" if wrong else "")
     return 1 if wrong else 0

@@ -130,8 +130,8 @@ def find_mistakes(top: str) -> Iterator[str]:
             in_gate[edit.crate] = in_gate.get(edit.crate, 0) + 1
             if in_gate[edit.crate] == MOST_IN_GATE + 1:
                 yield f"{path}:1: must-fail/ has more than {MOST_IN_GATE}; the others stand in edits/"
-        for it in apply_pairs(top, edit):
-            yield f"{path}:{it}"
+        for mistake in apply_pairs(top, edit):
+            yield f"{path}:{mistake}"
 
 
 # Mistakes to plant: what a file of a crate is made to have, and what has to be found.
@@ -280,8 +280,8 @@ def main(words: list[str]) -> int:
     if not shutil.which("rt"):
         print("edits aren't tried: the Rattle kit isn't installed")
         return SKIPPED
-    for it in (signal.SIGTERM, signal.SIGHUP):
-        signal.signal(it, lambda *_: sys.exit(1))
+    for number in (signal.SIGTERM, signal.SIGHUP):
+        signal.signal(number, lambda *_: sys.exit(1))
     return try_edits(words)
 
 

@@ -204,7 +204,9 @@ def files_below(names: Iterable[str]) -> Iterator[str]:
         for folder, folders, files in os.walk(name):
             folders[:] = sorted(it for it in folders if it != "out")
             yield from (
-                os.path.join(folder, it) for it in sorted(files) if it.endswith((".rt", ".antt"))
+                os.path.join(folder, file)
+                for file in sorted(files)
+                if file.endswith((".rt", ".antt"))
             )
 
 

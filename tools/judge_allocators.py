@@ -67,7 +67,8 @@ class Count(NamedTuple):
 
 def function_at(functions: Iterable[Symbol], addr: int, prefix: bytes) -> bool:
     return any(
-        it.name.startswith(prefix) and it.addr <= addr < it.addr + it.size for it in functions
+        function.name.startswith(prefix) and function.addr <= addr < function.addr + function.size
+        for function in functions
     )
 
 
@@ -140,7 +141,9 @@ def count_line(line: int, lives: list[Life]) -> tuple[bool, bool]:
         is_active = True
         for byte in range(max(own.addr, line), min(own.addr + own.size, line + LINE)):
             before = [
-                it for it in lives if it.born < own.born and it.addr <= byte < it.addr + it.size
+                life
+                for life in lives
+                if life.born < own.born and life.addr <= byte < life.addr + life.size
             ]
             if before:
                 last = max(before, key=lambda it: it.born)

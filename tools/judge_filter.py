@@ -197,9 +197,9 @@ def find_difference(keep: Keep, count: int, seed: int) -> str | None:
 
 def check(count: int, seed: int) -> int:
     failed = [
-        f"{name}: {it}"
+        f"{name}: {difference}"
         for name, keep in (("definition", keep_by_definition), ("one pass", keep_in_one_pass))
-        if (it := find_difference(keep, count, seed))
+        if (difference := find_difference(keep, count, seed))
     ]
     for near, text, pcs, wanted in FILES:
         found = filter_trace(encode_trace(touches(text), pcs, 8), near.bit_length() - 1)[2]
@@ -208,8 +208,8 @@ def check(count: int, seed: int) -> int:
     empty = filter_trace(encode_trace([], [], 1), 16)
     if empty != (0, 0, b"PRDTRC04" + bytes(8) + bytes.fromhex("010010000600") + bytes(31)):
         failed.append(f"the file of an empty list: {empty[2].hex()}")
-    for it in failed:
-        print(it)
+    for failure in failed:
+        print(failure)
     print(f"{len(WORKED) + len(FILES) + 1} worked lists, {count} random ones, {len(failed)} failed")
     return 1 if failed else 0
 

@@ -89,7 +89,7 @@ def keeps_pcs(
     """Whether a trace with pcs has the report of the one without them, and is split and converted as
     docs/FORMATS.md says."""
     plain, whole, first, second, *copies = (
-        os.path.join(folder, it) for it in ("trace", "sited", "first", "second", "one", "three")
+        os.path.join(folder, name) for name in ("trace", "sited", "first", "second", "one", "three")
     )
     with open(whole, "wb") as file:
         file.write(made)

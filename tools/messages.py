@@ -310,7 +310,7 @@ def boundary_numbers(row: Row) -> Iterator[tuple[int, bool]]:
 def number_tries(row: Row) -> Iterator[Try]:
     """A number with each value beside its bounds, in each of its commands."""
     for name, (value, is_allowed) in (
-        (name, it) for name in row["commands"] for it in boundary_numbers(row)
+        (name, boundary) for name in row["commands"] for boundary in boundary_numbers(row)
     ):
         word = row["word"]
         # (what is made for the greatest count would fill the disk)

@@ -155,7 +155,8 @@ def elf(segments: list[Segment], symbols: list[Symbol] = [], names: bytes = b"\0
         )
         content += segment.content
     table = b"".join(
-        struct.pack("<IIIBBH", it.name, it.addr, it.size, 16 + it.kind, 0, 1) for it in symbols
+        struct.pack("<IIIBBH", symbol.name, symbol.addr, symbol.size, 16 + symbol.kind, 0, 1)
+        for symbol in symbols
     )
     at = begin + len(content)
     sections = bytes(40) + struct.pack("<10I", 0, 2, 0, 0, at, len(table), 2, 0, 4, 16)

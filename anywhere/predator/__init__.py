@@ -234,8 +234,8 @@ def read_misses(text: str) -> MissCounts:
     """The text of `misses`."""
     found = read_text(reports.Misses, text)
     lines = tuple(
-        MissedLine(it.base, it.cold, it.useful, it.useless, read_objects(it))
-        for it in found.lines.values()
+        MissedLine(line.base, line.cold, line.useful, line.useless, read_objects(line))
+        for line in found.lines.values()
     )
     totals = (found.total["cold"], found.total["useful"], found.total["useless"])
     return MissCounts(found.size, found.offset, found.accesses, *totals, lines, text)
@@ -246,9 +246,9 @@ def read_blame(text: str) -> Blamed:
     found = read_text(reports.Blame, text)
     lines = [found.invalidations(base) for base in found.places]
     blamed = tuple(
-        BlamedLine(it.base, tuple(InstructionPair(*pair) for pair in it.pairs), it.harts)
-        for it in lines
-        if it is not None
+        BlamedLine(line.base, tuple(InstructionPair(*pair) for pair in line.pairs), line.harts)
+        for line in lines
+        if line is not None
     )
     return Blamed(found.accesses, blamed, text)
 
@@ -263,11 +263,11 @@ def read_text(kind: Callable[[str], Read], text: str) -> Read:
 def read_objects(line: reports.LineRows) -> tuple[DataObject, ...]:
     return tuple(
         (
-            DataObject(it.name, it.addr, it.size)
-            if isinstance(it, reports.Symbol)
-            else DataObject(None, it.addr, it.size, tuple((at.addr, at.name) for at in it.sites))
+            DataObject(obj.name, obj.addr, obj.size)
+            if isinstance(obj, reports.Symbol)
+            else DataObject(None, obj.addr, obj.size, tuple((at.addr, at.name) for at in obj.sites))
         )
-        for it in line.objects()
+        for obj in line.objects()
     )
 
 

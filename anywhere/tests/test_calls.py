@@ -178,8 +178,8 @@ class Calls(unittest.TestCase):
         self.assertEqual(ran.returncode, 0, ran.stderr.decode())
         answers = [json.loads(row) for row in ran.stdout.splitlines()]
         return [
-            Outcome(it["status"], base64.b64decode(it["printed"]), bool(it["message"]))
-            for it in answers
+            Outcome(answer["status"], base64.b64decode(answer["printed"]), bool(answer["message"]))
+            for answer in answers
         ]
 
     def folder_of(self, name: str, number: int) -> str:

@@ -134,8 +134,8 @@ class Node(unittest.TestCase):
         native, module = self.both(["misses", "t"])
         self.assertEqual(native, module)
         peaks = [
-            peak_bytes(self.folder, it, ["misses", "t"])
-            for it in ([native_program()], node_command())
+            peak_bytes(self.folder, command, ["misses", "t"])
+            for command in ([native_program()], node_command())
         ]
         print(
             f"misses of {os.path.getsize(self.path('t')):,} bytes: {peaks[0]:,} bytes of memory, module {peaks[1]:,};"

@@ -175,8 +175,13 @@ class Page(unittest.TestCase):
         self.assertEqual(
             self.rows_of(".pairs"),
             [
-                [f"{it[2]:,}", f"{it[3]:,}", f"{it.invalidator:#010x}", f"{it.victim:#010x}"]
-                for it in found.pairs
+                [
+                    f"{pair[2]:,}",
+                    f"{pair[3]:,}",
+                    f"{pair.invalidator:#010x}",
+                    f"{pair.victim:#010x}",
+                ]
+                for pair in found.pairs
             ],
         )
 

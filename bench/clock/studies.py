@@ -210,7 +210,7 @@ def study_facts(study: Study) -> list[tuple[str, Cell]]:
     rows, ways = study.quiet_rows(), sorted(study.lines.values())
     handed = [it for it in rows if is_true_sharing(it)]
     slower, gained = sum(it.slowdown() < 0.95 for it in handed), sum(
-        it.slowdown() > 1.05 for it in handed
+        row.slowdown() > 1.05 for row in handed
     )
     return [
         ("undisturbed pairs", f"{len(rows)} of {len(study.rows)}"),
@@ -237,8 +237,8 @@ def slowdown_text(study: Study, name: str) -> str:
     """The slowdowns of a program with each number of threads, those of disturbed runs in brackets."""
     own = sorted((it for it in study.rows if it.program.name == name), key=lambda row: row.threads)
     return ", ".join(
-        number_text(it.slowdown()) if it.is_quiet() else f"({number_text(it.slowdown())})"
-        for it in own
+        number_text(row.slowdown()) if row.is_quiet() else f"({number_text(row.slowdown())})"
+        for row in own
     )
 
 

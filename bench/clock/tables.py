@@ -316,5 +316,5 @@ def study_values(study: Study) -> str:
             ]
         )
     return "".join(f"# {name}: {text}\n" for name, text in notes) + "".join(
-        "\t".join(it) + "\n" for it in rows
+        "\t".join(row) + "\n" for row in rows
     )

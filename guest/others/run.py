@@ -85,7 +85,9 @@ def prediction_row(name, runs):
     if name in MOVED:
         other, far = MOVED[name]
         seen = [
-            it for it in runs[other].report.lines_of_kind("observed") if it.base == line.base + far
+            seen_line
+            for seen_line in runs[other].report.lines_of_kind("observed")
+            if seen_line.base == line.base + far
         ]
         row[-2:] = [f"`{address_text(it.base)}` of {other}" for it in seen] + [
             own.count for own in seen

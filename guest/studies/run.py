@@ -87,9 +87,9 @@ def prediction_rows(study, place, runs):
         other = runs.get(f"{study}-at-{moved}")
         seen = (
             [
-                it
-                for it in other.report.lines_of_kind("observed")
-                if it.base == line.base + moved - place
+                seen_line
+                for seen_line in other.report.lines_of_kind("observed")
+                if seen_line.base == line.base + moved - place
             ]
             if other
             else []

@@ -111,7 +111,9 @@ def read_functions(path: str) -> Iterator[Symbol]:
     """The functions that a trace names."""
     with open(path, "rb") as file, mmap.mmap(file.fileno(), 0, access=mmap.ACCESS_READ) as data:
         yield from (
-            it for it in scan_records(data) if isinstance(it, Symbol) and it.kind == FUNCTION
+            record
+            for record in scan_records(data)
+            if isinstance(record, Symbol) and record.kind == FUNCTION
         )
 
 

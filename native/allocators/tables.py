@@ -82,8 +82,8 @@ def table_text(rows: Sequence[Row]) -> list[str]:
 
 def aligned(cells: Sequence[str], widths: Sequence[int]) -> str:
     parts = [
-        it.ljust(width) if at < LEFT_COLUMNS else it.rjust(width)
-        for at, (it, width) in enumerate(zip(cells, widths))
+        cell.ljust(width) if at < LEFT_COLUMNS else cell.rjust(width)
+        for at, (cell, width) in enumerate(zip(cells, widths))
     ]
     return "  ".join(parts).rstrip()
 

@@ -320,7 +320,7 @@ def main(words: Sequence[str]) -> int:
     heads = ["Program", "Accesses", "Bytes each", "True", "False", "Of the object", "Named"]
     found = [table_row(STUDIES[name], build) for name in names for build in STUDIES[name].builds]
     text, rows = markdown_table(heads, [cells for cells, _ in found]), "".join(
-        it for _, it in found
+        row for _, row in found
     )
     print(text, rows, sep="\n")
     if "--renew" in words:

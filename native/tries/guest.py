@@ -121,17 +121,17 @@ def listed_lines(report, without=()):
     verdict."""
     found = []
     for line in report.observed():
-        things = sorted(
+        placed = sorted(
             (
                 object.addr,
                 object.name if isinstance(object, Symbol) else f"a block of {object.size} bytes",
             )
             for object in line.objects()
         )
-        things = [it for it in things if it[1] not in without]
-        if things:
+        placed = [it for it in placed if it[1] not in without]
+        if placed:
             found.append(
-                (" ".join(name for _, name in things), line.base - things[0][0], line.verdict)
+                (" ".join(name for _, name in placed), line.base - placed[0][0], line.verdict)
             )
     return sorted(found)
 

@@ -374,7 +374,7 @@ def build_shim(work: str) -> str:
 def main(words: list[str]) -> int:
     programs = [it for it in words if not it.startswith("-")]
     if len(programs) != 1 or any(
-        it.startswith("-") and it not in ("--long", "--planted", "--open") for it in words
+        word.startswith("-") and word not in ("--long", "--planted", "--open") for word in words
     ):
         print(__doc__)
         return 0 if words in (["--help"], ["-h"]) else 1

@@ -51,9 +51,9 @@ def count_by_bytes(
     counted = cast(Misses, predator.read_trace(out, misses_reader((WORD * size, 0))))
     os.unlink(out)
     return {
-        places[it.base]: SharingMisses(it.useless, it.useful)
-        for it in counted.lines.values()
-        if it.base in places
+        places[line.base]: SharingMisses(line.useless, line.useful)
+        for line in counted.lines.values()
+        if line.base in places
     }
 
 

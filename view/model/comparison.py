@@ -54,7 +54,7 @@ def load_view(path: str, call: Call) -> Before:
         if (
             not isinstance(found["outcome"], str)
             or not is_good
-            or not all(is_thing(it) for it in objects)
+            or not all(is_object_record(it) for it in objects)
         ):
             raise ValueError
         return Before(objects, found["outcome"], total)
@@ -66,7 +66,7 @@ def is_number(value: object) -> bool:
     return type(value) is int and value >= 0
 
 
-def is_thing(record: Any) -> bool:
+def is_object_record(record: Any) -> bool:
     """Whether something has what is compared of an object."""
     places = [*record["sites"], *([] if record["declared"] is None else [record["declared"]])]
     texts = [
@@ -97,19 +97,19 @@ def view_of_report(text: str, path: str, call: Call) -> Before:
     return Before(record(view)["objects"], report.outcome, None)
 
 
-def fields(thing: Record) -> dict[str, int]:
+def fields(obj: Record) -> dict[str, int]:
     """Of each field how often it was written, over all its words."""
     found: dict[str, int] = {}
-    for word in thing["words"]:
+    for word in obj["words"]:
         if word["own"]:
             found[word["field"]] = found.get(word["field"], 0) + word["writes"]
     return found
 
 
-def places(thing: Record) -> Places:
+def places(obj: Record) -> Places:
     """Where an object is declared, or where its blocks are made, as far as that has lines."""
-    found = [it for it in thing["sites"] if it["function"] not in ALLOCATORS] or (
-        [thing["declared"]] if thing["declared"] else []
+    found = [it for it in obj["sites"] if it["function"] not in ALLOCATORS] or (
+        [obj["declared"]] if obj["declared"] else []
     )
     return tuple((os.path.basename(it["file"]), it["line"]) for it in found if it["line"])
 
@@ -198,7 +198,7 @@ def holders(name: str, objects: Sequence[Record]) -> list[str]:
     """The objects that have a field of a name."""
     field = re.compile(rf"[.]{re.escape(name)}(?![\w])")
     return [
-        it["name"] for it in objects if any(field.search(word["field"]) for word in it["words"])
+        obj["name"] for obj in objects if any(field.search(word["field"]) for word in obj["words"])
     ]
 
 
@@ -253,7 +253,7 @@ def compare_views(view: View, old: Before, path: str) -> Iterator[str]:
     new, name = record(view), view.call.options.get("object")
     olds = [it for it in old.objects if is_named(it, name)]
     is_known = new["total"] and all(
-        it[what] is not None for it in (*olds, *new["objects"]) for what in MISSES
+        obj[what] is not None for obj in (*olds, *new["objects"]) for what in MISSES
     )
     names = MISSES if is_known else (COUNT,)
     yield ""

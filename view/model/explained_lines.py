@@ -15,12 +15,12 @@ from view.reading.passes import is_brief
 from view.reading.reports import Explanation
 
 
-def explain(view: View, predator: Predator | None, things: Sequence[DataObject]) -> None:
+def explain(view: View, predator: Predator | None, objects: Sequence[DataObject]) -> None:
     """Explains the invalidations of the first objects' worst lines: by the trace, or by as many runs side by side."""
     most = view.call.number_option("explain", EXPLAIN)
     program, trace = view.call.program, view.call.trace_file()
     if view.blame is not None:
-        found = (view.blame.invalidations(it.worst_line().base) for it in things)
+        found = (view.blame.invalidations(it.worst_line().base) for it in objects)
         view.invalidations_by_line = {it.base: it for it in found if it}
     elif (
         predator is not None
@@ -39,13 +39,13 @@ def explain(view: View, predator: Predator | None, things: Sequence[DataObject])
             " of N objects, with a run each"
         )
     elif program is not None and predator is not None and most:
-        explain_by_runs(view, predator, program, things[:most])
+        explain_by_runs(view, predator, program, objects[:most])
     shown = None if "words" in view.call.options else 8
     view.naming.find_lines(
         {
             at
-            for it in view.invalidations_by_line.values()
-            for pair in it.pairs[:shown]
+            for line in view.invalidations_by_line.values()
+            for pair in line.pairs[:shown]
             for at in pair[:2]
         }
     )
@@ -54,17 +54,17 @@ def explain(view: View, predator: Predator | None, things: Sequence[DataObject])
             view.naming.program,
             {
                 at
-                for it in view.invalidations_by_line.values()
-                for pair in it.pairs
+                for line in view.invalidations_by_line.values()
+                for pair in line.pairs
                 for at in pair[:2]
             },
         )
 
 
 def explain_by_runs(
-    view: View, predator: Predator, program: str, things: Sequence[DataObject]
+    view: View, predator: Predator, program: str, objects: Sequence[DataObject]
 ) -> None:
-    spots = [spot for spot in (it.worst_line() for it in things) if spot.base >= 0]
+    spots = [spot for spot in (it.worst_line() for it in objects) if spot.base >= 0]
     if spots and not predator.has_command("explain"):
         view.notes.append(
             "this predator has no command `explain`, so the conflicting instructions are" " unknown"

@@ -210,8 +210,8 @@ def fine_notes(view: View) -> list[str]:
     if view.fine is None:
         return []
     return [
-        f"only at fine interleaving (quantum {FINE_QUANTUM}): {view.fine.label(it)}:"
-        f" {it.useless:,} false-sharing misses; typical of queues and spinning; fix:"
-        f" {view.fine.details(it).fix}"
-        for it in fine_objects(view)
+        f"only at fine interleaving (quantum {FINE_QUANTUM}): {view.fine.label(obj)}:"
+        f" {obj.useless:,} false-sharing misses; typical of queues and spinning; fix:"
+        f" {view.fine.details(obj).fix}"
+        for obj in fine_objects(view)
     ]

@@ -16,20 +16,20 @@ LIBRARIES = re.compile(
 RESERVED = re.compile(r"__|_[A-Z]")
 
 
-def is_foreign(thing: DataObject, naming: Naming) -> bool:
+def is_foreign(obj: DataObject, naming: Naming) -> bool:
     """Whether an object isn't the program's own, as far as its file and its debug information tell."""
     if naming.program is None or naming.program.dwarf is None and file_path(0, naming) is None:
         return False
-    if isinstance(thing.key, FileKey):
-        return bool(LIBRARIES.search(thing.key.path))
-    if isinstance(thing.example, Symbol):
-        return is_foreign_symbol(thing.example, naming)
+    if isinstance(obj.key, FileKey):
+        return bool(LIBRARIES.search(obj.key.path))
+    if isinstance(obj.example, Symbol):
+        return is_foreign_symbol(obj.example, naming)
     if (
-        isinstance(thing.example, Block)
-        and thing.example.sites
-        and thing.example.sites[0].name != THREAD_LOCALS
+        isinstance(obj.example, Block)
+        and obj.example.sites
+        and obj.example.sites[0].name != THREAD_LOCALS
     ):
-        return all(is_foreign_site(it, naming) for it in thing.example.sites)
+        return all(is_foreign_site(it, naming) for it in obj.example.sites)
     return False
 
 

@@ -8,11 +8,11 @@ from view.names.naming import Naming
 from view.reading.reports import Block
 
 
-def make_lasting_keys(things: Iterable[DataObject], naming: Naming) -> dict[Key, str]:
+def make_lasting_keys(objects: Iterable[DataObject], naming: Naming) -> dict[Key, str]:
     """For each object a text that another build of the program has too: no address, and no line of a source."""
     found: dict[Key, str] = {}
     groups: dict[str, list[DataObject]] = {}
-    for obj in sorted(things, key=lambda obj: key_order(obj.key)):
+    for obj in sorted(objects, key=lambda obj: key_order(obj.key)):
         if isinstance(obj.key, SymbolKey):
             text = f"symbol {naming.names.lasting_name(obj.key.name)}"
         elif isinstance(obj.key, BlocksKey):

@@ -58,28 +58,28 @@ class ShiftedLines(NamedTuple):
 
 def lines_under_shift(report: Report, naming: Naming) -> ShiftedLines:
     naming.learn_symbols(report.text)
-    things = group_lines(report, None, naming)[0]
-    names = {it.key: naming.names.shorten(naming.object_name(it.key, it.example)) for it in things}
-    # (of things that have one name, each with its place)
+    objects = group_lines(report, None, naming)[0]
+    names = {it.key: naming.names.shorten(naming.object_name(it.key, it.example)) for it in objects}
+    # (of objects with one name, each with its place)
     twice = Counter(names.values())
     names = {
         obj.key: names[obj.key] + (object_place(obj) if twice[names[obj.key]] > 1 else "")
-        for obj in things
+        for obj in objects
     }
     borders = {
-        it.key: bytes_on_line(line, naming) for it in things if (line := it.worst_line().line)
+        obj.key: bytes_on_line(line, naming) for obj in objects if (line := obj.worst_line().line)
     }
-    return ShiftedLines({it.key: it.count for it in things}, names, borders)
+    return ShiftedLines({it.key: it.count for it in objects}, names, borders)
 
 
-def object_place(thing: DataObject) -> str:
-    key = thing.key
+def object_place(obj: DataObject) -> str:
+    key = obj.key
     addr = (
         key.addr
         if isinstance(key, SymbolKey)
-        else thing.example.addr
-        if thing.example
-        else thing.lines[0].base
+        else obj.example.addr
+        if obj.example
+        else obj.lines[0].base
     )
     return f" at {address_text(addr)}"
 

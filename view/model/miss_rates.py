@@ -41,8 +41,8 @@ class Alternating(NamedTuple):
         found: dict[Key, int] = {}
         naming.find_lines(self.misses.sites())
         for line in self.misses.lines.values():
-            things = parse_objects(line.object_rows)
-            for key in {object_key(one, naming, 0) for one in things} or {
+            objects = parse_objects(line.object_rows)
+            for key in {object_key(one, naming, 0) for one in objects} or {
                 naming.memory.key(max(line.base, 0))
             }:
                 found[key] = found.get(key, 0) + line.useless
@@ -159,14 +159,14 @@ class Worth:
             return None
         return BANDS[band_of(rate)]
 
-    def at_most(self, thing: DataObject | None = None) -> float | None:
+    def at_most(self, obj: DataObject | None = None) -> float | None:
         """An upper bound on the part of the time that an object takes, or all do: by the run at quantum 1, or by this run where that has
         more; none where that isn't known."""
         found = self.find()
         if found is None or self.view.misses is None:
             return None
-        seen = self.view.misses.total["useless"] if thing is None else thing.useless
-        useless = found.misses.total["useless"] if thing is None else self.of.get(thing.key, 0)
+        seen = self.view.misses.total["useless"] if obj is None else obj.useless
+        useless = found.misses.total["useless"] if obj is None else self.of.get(obj.key, 0)
         return at_most(
             max(self.rate(seen) or 0.0, found.rate(useless)), latency_of(self.view.call), STEP
         )
@@ -189,29 +189,31 @@ class Worth:
         severity = " ".join(filter(None, (band.severity if band else "", when)))
         return f"{text} ({severity + ': ' if severity else ''}{pays})"
 
-    def warning(self, thing: DataObject, words: Sequence[WordUse]) -> str:
+    def warning(self, obj: DataObject, words: Sequence[WordUse]) -> str:
         """That padding may not pay: where a repair leaves mostly true sharing, or where none was counted and most misses of the object's
         worst line are true sharing; or nothing."""
-        missed, tried = thing.worst_line().missed, self.view.decisive_trial(thing)
+        missed, tried = obj.worst_line().missed, self.view.decisive_trial(obj)
         if tried:
             after = tried.after if tried.is_saving() else None
             left = after.total["useful"] if after else 0
             if after is None or 2 * left <= after.all_misses() or left < tried.saved_misses():
                 return ""
             return "; the time may not fall: most misses that stay are true sharing"
-        if missed is None or not thing.useless or missed.useful <= missed.useless:
+        if missed is None or not obj.useless or missed.useful <= missed.useless:
             return ""
-        return f"; may not pay: most misses on its worst line are true sharing{self.after(thing, words)}"
+        return (
+            f"; may not pay: most misses on its worst line are true sharing{self.after(obj, words)}"
+        )
 
-    def after(self, thing: DataObject, words: Sequence[WordUse]) -> str:
+    def after(self, obj: DataObject, words: Sequence[WordUse]) -> str:
         """The true-sharing misses with each word on a line of its own, where no repair was counted that says more; or nothing."""
-        tried = self.view.decisive_trial(thing)
+        tried = self.view.decisive_trial(obj)
         if tried and tried.after or self.view.word_misses is None:
             return ""
         fields: dict[tuple[int, str], int] = {}
         for word in words:
-            if word.key == thing.key:
+            if word.key == obj.key:
                 fields[word.base, word.field_name()] = max(
                     fields.get((word.base, word.field_name()), 0), word.useful or 0
                 )
-        return f" ({thing.useful:,} now, {sum(fields.values()):,} with each word on its own line)"
+        return f" ({obj.useful:,} now, {sum(fields.values()):,} with each word on its own line)"

@@ -22,83 +22,83 @@ class ObjectFixes:
     def __init__(self, view: "View") -> None:
         self.view = view
 
-    def choose(self, thing: DataObject, words: list[WordUse]) -> str:
+    def choose(self, obj: DataObject, words: list[WordUse]) -> str:
         """The fix for an object."""
         if self.is_small():
             return f"none: only {self.view.accesses:,} accesses were seen; did the compiler remove a loop?"
-        tried = self.view.decisive_trial(thing)
+        tried = self.view.decisive_trial(obj)
         if (
             self.view.misses
-            and not thing.useless
-            and thing.useful
+            and not obj.useless
+            and obj.useful
             and not (tried and tried.has_other_reason())
         ):
-            return self.true_sharing(thing, words)
+            return self.true_sharing(obj, words)
         if tried:
             mixed = [
-                field_name_at(it, thing.example, self.view.naming) for it in tried.mixed_words()
+                field_name_at(addr, obj.example, self.view.naming) for addr in tried.mixed_words()
             ]
             fix = tried.fix(list(dict.fromkeys(mixed)), self.view.quantum())
-            hint = "" if tried.is_saving() else advice.naming_fields(words, thing)
-            return fix + hint + self.view.worth.warning(thing, words)
-        if self.view.is_little(thing):
-            return advice.little(thing, self.view.total())
-        if thing.name == HEAP:
+            hint = "" if tried.is_saving() else advice.naming_fields(words, obj)
+            return fix + hint + self.view.worth.warning(obj, words)
+        if self.view.is_little(obj):
+            return advice.little(obj, self.view.total())
+        if obj.name == HEAP:
             return advice.of_allocator()
-        names = {key: self.view.label(self.view.objects_by_key[key]) for key in thing.neighbours}
-        if isinstance(thing.key, StackKey) and thing.key.hart == 0:
-            thing.likely = self.view.naming.blocks.stack_variables("main")
+        names = {key: self.view.label(self.view.objects_by_key[key]) for key in obj.neighbours}
+        if isinstance(obj.key, StackKey) and obj.key.hart == 0:
+            obj.likely = self.view.naming.blocks.stack_variables("main")
         todo = advice.sentence(
-            thing,
+            obj,
             words,
             names,
-            self.needed_alignment(thing),
+            self.needed_alignment(obj),
             self.view.misses is not None,
-            self.element_fix(thing),
+            self.element_fix(obj),
             self.view.quantum(),
         )
         placed = advice.placing(
-            self.view.placements.get(thing.key),
-            lambda addr: field_name_at(addr, thing.example, self.view.naming),
+            self.view.placements.get(obj.key),
+            lambda addr: field_name_at(addr, obj.example, self.view.naming),
             self.view.naming.memory.owner,
         )
-        return todo + placed + self.view.worth.warning(thing, words)
+        return todo + placed + self.view.worth.warning(obj, words)
 
     def is_small(self) -> bool:
         """Whether the program ran too short for advice."""
         is_run = self.view.call.action == "run" or self.view.call.recorded_quantum is not None
         return is_run and self.view.report.ended_well() and self.view.accesses < FEW_ACCESSES
 
-    def true_sharing(self, thing: DataObject, words: Sequence[WordUse]) -> str:
+    def true_sharing(self, obj: DataObject, words: Sequence[WordUse]) -> str:
         """The advice for an object without a false-sharing miss."""
-        own = [it for it in words if advice.is_shared(it) and it.key == thing.key]
+        own = [it for it in words if advice.is_shared(it) and it.key == obj.key]
         if advice.mostly_packed(own) and own:
-            turns = "" if self.view.fine else advice.in_turns(thing, words, self.view.quantum())
-            return advice.true_sharing_sentence(thing, words, own, True) + turns
-        what = advice.mostly_written(own) or thing.name
-        turns = "" if self.view.fine else advice.in_turns(thing, words, self.view.quantum())
+            turns = "" if self.view.fine else advice.in_turns(obj, words, self.view.quantum())
+            return advice.true_sharing_sentence(obj, words, own, True) + turns
+        what = advice.mostly_written(own) or obj.name
+        turns = "" if self.view.fine else advice.in_turns(obj, words, self.view.quantum())
         return (
             f"none: all its misses are true sharing; write {what} less often, or give each thread its"
             f" own copy{turns}"
         )
 
-    def numbers(self, thing: DataObject) -> str:
+    def numbers(self, obj: DataObject) -> str:
         """The numbers of the trial of an object's repairs, or nothing."""
-        tried = self.view.decisive_trial(thing)
-        if self.is_small() or not thing.useless and tried and not tried.has_other_reason():
+        tried = self.view.decisive_trial(obj)
+        if self.is_small() or not obj.useless and tried and not tried.has_other_reason():
             return ""
         if tried is None:
             # (where nothing was counted, why)
-            found = (self.view.trials or {}).get(thing.key)
+            found = (self.view.trials or {}).get(obj.key)
             return f"left out: {', '.join(found.left_out)}" if found and found.left_out else ""
         return tried.outcome(bool(tried.mixed_words()))
 
-    def needed_alignment(self, thing: DataObject) -> int:
+    def needed_alignment(self, obj: DataObject) -> int:
         """The alignment that keeps apart what is seen, and what is predicted of lines twice as long."""
-        sizes = [it.line.size for it in self.view.predicted if it.is_shown and thing.key in it.keys]
+        sizes = [it.line.size for it in self.view.predicted if it.is_shown and obj.key in it.keys]
         return max([self.view.report.size, *sizes])
 
-    def element_fix(self, thing: DataObject) -> advice.Element:
+    def element_fix(self, obj: DataObject) -> advice.Element:
         """A function that gives the code by which each element of an array in an object gets its own line, or nothing."""
 
         def code_of(array: str) -> str:
@@ -113,26 +113,26 @@ class ObjectFixes:
             from view.repairs.layouts import Shape
             from view.repairs.units import own_lines_code
 
-            program, is_block = self.view.naming.program, isinstance(thing.example, Block)
+            program, is_block = self.view.naming.program, isinstance(obj.example, Block)
             variable = (
-                program.variable(thing.example.addr)
-                if program and isinstance(thing.example, Symbol)
+                program.variable(obj.example.addr)
+                if program and isinstance(obj.example, Symbol)
                 else None
             )
             whole = (
                 variable.type
                 if variable
                 else (
-                    self.view.naming.type_of_block(thing.example)
-                    if isinstance(thing.example, Block)
+                    self.view.naming.type_of_block(obj.example)
+                    if isinstance(obj.example, Block)
                     else None
                 )
             )
-            of = type_at_path(whole, array.removeprefix(thing.name)) if whole is not None else None
+            of = type_at_path(whole, array.removeprefix(obj.name)) if whole is not None else None
             of = element_of(of) if element_of(of) is not None else (of if is_block else None)
             name = re.findall(r"[A-Za-z_]\w*", array) or ["own"]
             wrapper = "_".join([*name, "line"])
-            size = self.needed_alignment(thing)
+            size = self.needed_alignment(obj)
             return own_lines_code(Shape(of), size, wrapper) if of is not None else ""
 
         return code_of

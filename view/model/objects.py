@@ -108,21 +108,21 @@ class DataObject:
         )
 
 
-def object_key(thing: Holder, naming: Naming, addr: int) -> Key:
+def object_key(obj: Holder, naming: Naming, addr: int) -> Key:
     """What an object is put together by: blocks by their call sites, as far as these have lines of a source by those."""
-    if isinstance(thing, Symbol):
-        return SymbolKey("symbol", thing.name, thing.addr)
-    if isinstance(thing, Block):
-        return BlocksKey("block", naming.lasting_sites(thing.sites))
+    if isinstance(obj, Symbol):
+        return SymbolKey("symbol", obj.name, obj.addr)
+    if isinstance(obj, Block):
+        return BlocksKey("block", naming.lasting_sites(obj.sites))
     return naming.memory.key(addr)
 
 
 def word_holders(
-    things: Sequence[Symbol | Block], addr: int, accesses: int = 0
+    objects: Sequence[Symbol | Block], addr: int, accesses: int = 0
 ) -> list[tuple[Symbol | Block, float]]:
     """The objects that a word lies in, each with its share of it: blocks before symbols, short and long-lived ones first. A trace has so
     many accesses, up to whose end a block lives on."""
-    found = [it for it in things if it.addr < addr + 4 and addr < it.addr + it.size]
+    found = [it for it in objects if it.addr < addr + 4 and addr < it.addr + it.size]
     blocks = [it for it in found if isinstance(it, Block)]
     if not blocks:
         return [(it, 1 / len(found)) for it in found]
@@ -132,76 +132,78 @@ def word_holders(
     return [(it, share / sum(shares)) for it, share in zip(blocks, shares)]
 
 
-def word_holder(things: Sequence[Symbol | Block], addr: int, accesses: int = 0) -> Holder:
+def word_holder(objects: Sequence[Symbol | Block], addr: int, accesses: int = 0) -> Holder:
     """The object that a word is reported under, or none."""
-    found = word_holders(things, addr, accesses) if things else []
+    found = word_holders(objects, addr, accesses) if objects else []
     return max(found, key=lambda share: share[1])[0] if found else None
 
 
 def access_shares(
     words: Iterable[tuple[int, int]],
-    things: Sequence[Symbol | Block],
+    objects: Sequence[Symbol | Block],
     keys: Sequence[Key],
     naming: Naming,
 ) -> Shares:
     """What each object of some has of a line's accesses, by its key, with an object of it: `words` has the place of each
     word and its number of accesses, and `keys` those of the objects."""
     found: Shares = {}
-    ranges = [(at, it.addr, it.addr + it.size) for at, it in enumerate(things)]
+    ranges = [(at, it.addr, it.addr + it.size) for at, it in enumerate(objects)]
     for addr, accesses in words:
         own: list[tuple[Key, Holder, float]] | None = None
         met = [at for at, begin, end in ranges if begin < addr + 4 and addr < end]
         if len(met) > 1:
             # (of one block and symbols that it lies in, the block; of several blocks each by its life)
-            blocks = [at for at in met if isinstance(things[at], Block)]
+            blocks = [at for at in met if isinstance(objects[at], Block)]
             if len(blocks) != 1:
                 own = [
-                    (keys[things.index(thing)], thing, share)
-                    for thing, share in word_holders(things, addr, naming.accesses)
+                    (keys[objects.index(obj)], obj, share)
+                    for obj, share in word_holders(objects, addr, naming.accesses)
                 ]
             met = blocks
         if own is None:
             own = (
-                [(keys[met[0]], things[met[0]], 1)] if met else [(naming.memory.key(addr), None, 1)]
+                [(keys[met[0]], objects[met[0]], 1)]
+                if met
+                else [(naming.memory.key(addr), None, 1)]
             )
-        for key, thing, share in own:
-            found[key] = thing, found.get(key, (0, 0))[1] + share * accesses
+        for key, obj, share in own:
+            found[key] = obj, found.get(key, (0, 0))[1] + share * accesses
     return found
 
 
 def contending_objects(
     spot: ObjectLine,
-    things: Sequence[Symbol | Block],
+    objects: Sequence[Symbol | Block],
     naming: Naming,
     keys: Sequence[Key] | None = None,
 ) -> Shares:
     """The keys of the contended objects on a line, each with an object of it and its share of the accesses. Where the keys of
-    the things are given, and are one, its share isn't looked for."""
+    the objects are given, and are one, its share isn't looked for."""
     is_one = keys is not None and len({*keys}) < 2
-    keys = [object_key(it, naming, 0) for it in things] if keys is None else keys
+    keys = [object_key(it, naming, 0) for it in objects] if keys is None else keys
     line = spot.line_with_words()
-    if is_one and things and line and not has_accesses(line, things):
+    if is_one and objects and line and not has_accesses(line, objects):
         return access_shares(line.accesses(), (), (), naming)
     found: Shares = (
         {}
-        if is_one or len(things) < 2 or line is None
-        else access_shares(line.accesses(), things, keys, naming)
+        if is_one or len(objects) < 2 or line is None
+        else access_shares(line.accesses(), objects, keys, naming)
     )
     # The first object, as long as it isn't told how the words were accessed.
     for at, key in enumerate(() if found else keys):
-        found.setdefault(key, (things[at], -at))
+        found.setdefault(key, (objects[at], -at))
     return found or {naming.memory.key(max(spot.base, 0)): (None, 0)}
 
 
-def has_accesses(line: Line, things: Sequence[Symbol | Block]) -> bool:
+def has_accesses(line: Line, objects: Sequence[Symbol | Block]) -> bool:
     """Whether an access of a line was of one of some objects on it, as far as its words are told."""
     base, end = line.base, line.base + line.size
-    for obj in things:
+    for obj in objects:
         if obj.addr <= base and end <= obj.addr + obj.size:
             return True
     words = line.accesses()
     return not words or any(
-        it.addr < addr + 4 and addr < it.addr + it.size for it in things for addr, _ in words
+        obj.addr < addr + 4 and addr < obj.addr + obj.size for obj in objects for addr, _ in words
     )
 
 
@@ -241,13 +243,13 @@ class ObjectGrouping:
             if line is None or has_accesses(line, (symbol,)):
                 known.add(spot)
                 return
-        things = parse_objects(rows)
-        keys = [object_key(it, self.naming, 0) for it in things]
-        shares = contending_objects(spot, things, self.naming, keys)
+        objects = parse_objects(rows)
+        keys = [object_key(it, self.naming, 0) for it in objects]
+        shares = contending_objects(spot, objects, self.naming, keys)
         for key, (example, _) in shares.items():
             if key not in self.objects:
                 self.objects[key] = DataObject(key, example)
-        by_sharing = self.sharing_shares(spot, things, keys) if len(shares) > 1 else {}
+        by_sharing = self.sharing_shares(spot, objects, keys) if len(shares) > 1 else {}
         ranked = {key: own for key, own in by_sharing.items() if key in shares} or shares
         key = max(ranked, key=lambda candidate: ranked[candidate][1])
         own = self.objects[key]
@@ -256,14 +258,14 @@ class ObjectGrouping:
             for other in shares:
                 if other != key:
                     own.neighbours[other] += 1
-        elif len(things) == 1 and isinstance(key, SymbolKey) and isinstance(things[0], Symbol):
-            self.single_objects[rows] = own, things[0]
-        for obj, its in zip(things, keys):
+        elif len(objects) == 1 and isinstance(key, SymbolKey) and isinstance(objects[0], Symbol):
+            self.single_objects[rows] = own, objects[0]
+        for obj, its in zip(objects, keys):
             if isinstance(obj, Block) and its in self.objects:
                 self.objects[its].block_ids.add(obj.addr << 44 | obj.born)
 
     def sharing_shares(
-        self, spot: ObjectLine, things: Sequence[Symbol | Block], keys: Sequence[Key]
+        self, spot: ObjectLine, objects: Sequence[Symbol | Block], keys: Sequence[Key]
     ) -> Shares:
         """Of a line that is missed mostly by true sharing what each object has of the misses of its words alone; else nothing."""
         line, missed = spot.line_with_words(), spot.missed
@@ -273,7 +275,7 @@ class ObjectGrouping:
             return {}
         alone = self.by_word.lines
         words = [(addr, alone[addr].useful) for addr, _ in line.accesses() if addr in alone]
-        return access_shares([it for it in words if it[1]], things, keys, self.naming)
+        return access_shares([it for it in words if it[1]], objects, keys, self.naming)
 
 
 def group_lines(
@@ -322,9 +324,9 @@ def whole_field_name(name: str, kind: WordKind) -> str:
     return re.sub(r"\+\d+$", "", name) if kind.is_typed else name
 
 
-def field_name_at(addr: int, thing: Holder, naming: Naming) -> str:
+def field_name_at(addr: int, obj: Holder, naming: Naming) -> str:
     """The name of the field of an object that a word is of."""
-    return whole_field_name(naming.word_names(addr, thing)[0], naming.word_kind(addr, thing))
+    return whole_field_name(naming.word_names(addr, obj)[0], naming.word_kind(addr, obj))
 
 
 def word_uses(spot: ObjectLine, naming: Naming, by_word: Misses | None = None) -> list[WordUse]:
@@ -332,15 +334,15 @@ def word_uses(spot: ObjectLine, naming: Naming, by_word: Misses | None = None) -
     line = spot.line_with_words()
     if line is None:
         return []
-    things = spot.objects()
+    objects = spot.objects()
     found: list[WordUse] = []
     for word in line.words():
-        thing = word_holder(things, word.addr, naming.accesses)
-        name, element, field = naming.word_names(word.addr, thing)
+        obj = word_holder(objects, word.addr, naming.accesses)
+        name, element, field = naming.word_names(word.addr, obj)
         useful = None
         if by_word is not None:
             useful = by_word.lines[word.addr].useful if word.addr in by_word.lines else 0
-        begin = thing.addr if thing else 0
+        begin = obj.addr if obj else 0
         found.append(
             WordUse(
                 *(
@@ -349,10 +351,10 @@ def word_uses(spot: ObjectLine, naming: Naming, by_word: Misses | None = None) -
                     name,
                     element,
                     field,
-                    object_key(thing, naming, word.addr),
+                    object_key(obj, naming, word.addr),
                     begin,
                 ),
-                *(word.reads, word.writes, word.hart, useful, naming.word_kind(word.addr, thing)),
+                *(word.reads, word.writes, word.hart, useful, naming.word_kind(word.addr, obj)),
                 *(() if word.hart == "many" else (naming.memory.owner(int(word.hart)),)),
             )
         )

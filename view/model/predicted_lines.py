@@ -63,17 +63,13 @@ def choose_layouts(report: Report, naming: Naming, is_all: bool) -> list[Layout]
     return found
 
 
-def object_alignment(thing: Symbol | Block, naming: Naming) -> int:
+def object_alignment(obj: Symbol | Block, naming: Naming) -> int:
     """How an object's declaration or its allocator aligns it, as far as that is known."""
-    if isinstance(thing, Symbol):
-        variable = naming.program.variable(thing.addr) if naming.program else None
+    if isinstance(obj, Symbol):
+        variable = naming.program.variable(obj.addr) if naming.program else None
         return variable.alignment() if variable else 1
     # What the allocator gives is not known beyond what its blocks show.
-    return (
-        min(BLOCK_ALIGNMENT_BYTES, thing.addr & -thing.addr)
-        if thing.addr
-        else BLOCK_ALIGNMENT_BYTES
-    )
+    return min(BLOCK_ALIGNMENT_BYTES, obj.addr & -obj.addr) if obj.addr else BLOCK_ALIGNMENT_BYTES
 
 
 def can_begin_there(line: Line, naming: Naming) -> bool:

@@ -62,15 +62,15 @@ class ObjectDetails:
 
     def __init__(
         self,
-        thing: DataObject,
+        obj: DataObject,
         words: list[WordUse],
         explained: LineInvalidations | None,
         fix: str,
         tried: str,
         declared: Declared | None,
     ) -> None:
-        self.thing, self.words, self.explained, self.fix, self.tried, self.declared = (
-            thing,
+        self.obj, self.words, self.explained, self.fix, self.tried, self.declared = (
+            obj,
             words,
             explained,
             fix,
@@ -79,7 +79,7 @@ class ObjectDetails:
         )
 
     def worst(self) -> WordUse | None:
-        return worst_word([it for it in self.words if it.key == self.thing.key])
+        return worst_word([it for it in self.words if it.key == self.obj.key])
 
     def conflicts(self) -> list[InstructionPair]:
         """The pairs of instructions that conflict on the object's worst line, the most frequent false sharing first."""
@@ -255,7 +255,7 @@ class View:
             )
             self.overflow = find_overflow(last, self.naming.memory)
 
-    def place_objects(self, predator: Predator | None, things: Sequence[DataObject]) -> None:
+    def place_objects(self, predator: Predator | None, objects: Sequence[DataObject]) -> None:
         """Has a placement of the first objects counted, where the trace is a file that can be read again and again."""
         trace, most = self.call.trace_file(), self.call.number_option("explain", EXPLAIN)
         if (
@@ -268,7 +268,9 @@ class View:
             return
         # (what repairs were counted for, or what is to be left as it is, has no use of it)
         worth = [
-            it for it in things[:most] if not self.decisive_trial(it) and not self.is_little(it)
+            obj
+            for obj in objects[:most]
+            if not self.decisive_trial(obj) and not self.is_little(obj)
         ]
         named = [(it, name) for it in worth if (name := it.name_to_place()) is not None]
         placed_at = functools.partial(predator.find_placement, trace, size=self.report.size)
@@ -345,41 +347,43 @@ class View:
             in {self.objects_by_key[key].name for key in line.keys if key in self.objects_by_key}
         ]
 
-    def label(self, thing: DataObject) -> str:
+    def label(self, obj: DataObject) -> str:
         """An object's name, and what tells it from others of the same one: the line that an inlined function was called from, or an
         address."""
         if self.label_counts is None:
             self.label_counts = Counter(
                 name
-                for obj in dict.fromkeys(self.objects_by_key.values())
-                for name in {obj.name, obj.name + self.caller(obj)}
+                for other in dict.fromkeys(self.objects_by_key.values())
+                for name in {other.name, other.name + self.caller(other)}
             )
-        if self.label_counts[thing.name] < 2:
-            return thing.name
-        if isinstance(thing.example, Block) and thing.example.sites:
-            own = thing.name + self.caller(thing)
+        if self.label_counts[obj.name] < 2:
+            return obj.name
+        if isinstance(obj.example, Block) and obj.example.sites:
+            own = obj.name + self.caller(obj)
             return (
                 own
                 if self.label_counts[own] == 1
-                else f"{thing.name}, by {self.distinguishing_site(thing, thing.example)}"
+                else f"{obj.name}, by {self.distinguishing_site(obj, obj.example)}"
             )
-        if isinstance(thing.key, (SymbolKey, MemoryKey)):
+        if isinstance(obj.key, (SymbolKey, MemoryKey)):
             return (
-                f"{thing.name}, at"
-                f" {address_text(thing.key.addr if isinstance(thing.key, SymbolKey) else thing.key.page)}"
+                f"{obj.name}, at"
+                f" {address_text(obj.key.addr if isinstance(obj.key, SymbolKey) else obj.key.page)}"
             )
-        return thing.name
+        return obj.name
 
-    def distinguishing_site(self, thing: DataObject, block: Block) -> str:
+    def distinguishing_site(self, obj: DataObject, block: Block) -> str:
         """The first line among a block's callers that no other object of its name has there, or else an address."""
         chain = self.naming.own_sites(block.sites)
         same = [
             other.example
             for other in dict.fromkeys(self.objects_by_key.values())
-            if other.name == thing.name and other is not thing
+            if other.name == obj.name and other is not obj
         ]
         others = [
-            self.naming.own_sites(it.sites) for it in same if isinstance(it, Block) and it.sites
+            self.naming.own_sites(example.sites)
+            for example in same
+            if isinstance(example, Block) and example.sites
         ]
         for at, site in enumerate(chain):
             line = self.naming.site_line(site)
@@ -387,33 +391,29 @@ class View:
                 return line
         return address_text(chain[0].addr)
 
-    def caller(self, thing: DataObject) -> str:
+    def caller(self, obj: DataObject) -> str:
         """Of blocks that an inlined function makes the line that it was called from, as a part of their label."""
-        if (
-            not isinstance(thing.example, Block)
-            or not thing.example.sites
-            or not self.naming.sources
-        ):
+        if not isinstance(obj.example, Block) or not obj.example.sites or not self.naming.sources:
             return ""
         lines = [
             frame.short()
-            for frame in self.naming.own_frames(self.naming.own_sites(thing.example.sites)[0].addr)
+            for frame in self.naming.own_frames(self.naming.own_sites(obj.example.sites)[0].addr)
             if frame.short()
         ]
         return f", from {lines[-1]}" if len(lines) > 1 else ""
 
-    def is_named(self, thing: DataObject) -> bool:
+    def is_named(self, obj: DataObject) -> bool:
         name = self.call.options.get("object")
-        return name is None or name in self.names_of(thing)
+        return name is None or name in self.names_of(obj)
 
     def name_of(self, key: Key) -> str:
         return self.objects_by_key[key].name
 
-    def names_of(self, thing: DataObject) -> set[str]:
+    def names_of(self, obj: DataObject) -> set[str]:
         """What a call may name an object by: its own name, and those beside it."""
-        parts = [thing, *(self.objects_by_key[key] for key in thing.neighbours)]
+        parts = [obj, *(self.objects_by_key[key] for key in obj.neighbours)]
         own = {it.name for it in parts} | {
-            self.naming.object_name(it.key, it.example) for it in parts
+            self.naming.object_name(part.key, part.example) for part in parts
         }
         return (
             own
@@ -421,12 +421,12 @@ class View:
             | {it.partition(" made at ")[2].partition(" ")[0] for it in own}
         )
 
-    def invalidation_kinds(self, thing: DataObject) -> dict[str, int] | None:
+    def invalidation_kinds(self, obj: DataObject) -> dict[str, int] | None:
         """How many invalidations of each kind an object's worst line has, or none where it isn't explained, or the trace may not have each
         victim's last access."""
         if self.filtered is not None:
             return None
-        found = self.invalidations_by_line.get(thing.worst_line().base)
+        found = self.invalidations_by_line.get(obj.worst_line().base)
         return count_kinds(found.pairs, self.effects) if found else None
 
     def note_unmatched_options(self) -> None:
@@ -441,8 +441,9 @@ class View:
             first = [self.naming.own_sites(it.sites)[0] for it in blocks]
             made = sorted(
                 {
-                    self.naming.site_line(it) or short_name(self.naming.function_name(it))
-                    for it in first
+                    self.naming.site_line(call_site)
+                    or short_name(self.naming.function_name(call_site))
+                    for call_site in first
                 }
             )
             there = (
@@ -467,25 +468,25 @@ class View:
                 f" ({advice.listing(map(os.path.basename, files))})"
             )
 
-    def details(self, thing: DataObject) -> ObjectDetails:
+    def details(self, obj: DataObject) -> ObjectDetails:
         """What is shown of an object."""
-        if thing.key not in self.details_by_key:
+        if obj.key not in self.details_by_key:
             words = [
                 word
-                for spot in thing.worst_lines()
+                for spot in obj.worst_lines()
                 for word in word_uses(spot, self.naming, self.word_misses)
             ]
             fixes = ObjectFixes(self)
-            fix, tried = fixes.choose(thing, words), fixes.numbers(thing)
-            explained = self.invalidations_by_line.get(thing.worst_line().base)
-            self.details_by_key[thing.key] = ObjectDetails(
-                thing, words, explained, fix, tried, self.declaration(thing)
+            fix, tried = fixes.choose(obj, words), fixes.numbers(obj)
+            explained = self.invalidations_by_line.get(obj.worst_line().base)
+            self.details_by_key[obj.key] = ObjectDetails(
+                obj, words, explained, fix, tried, self.declaration(obj)
             )
-        return self.details_by_key[thing.key]
+        return self.details_by_key[obj.key]
 
-    def type_of(self, thing: DataObject) -> str:
+    def type_of(self, obj: DataObject) -> str:
         """The name of an object's type, or nothing where that isn't known."""
-        program, example = self.naming.program, thing.example
+        program, example = self.naming.program, obj.example
         if program is None or example is None:
             return ""
         from view.names.fields import value_or_default, type_name
@@ -514,16 +515,16 @@ class View:
         """Each line that was ever invalidated, by its base."""
         return self.every_line.observed_by_base() if self.every_line else {}
 
-    def invalidations(self, thing: DataObject) -> int:
+    def invalidations(self, obj: DataObject) -> int:
         """The invalidations of all of an object's lines."""
-        return sum(self.invalidations_of(it) or 0 for it in thing.lines)
+        return sum(self.invalidations_of(it) or 0 for it in obj.lines)
 
-    def is_minor(self, thing: DataObject) -> bool:
+    def is_minor(self, obj: DataObject) -> bool:
         """Whether an object behind the first one has hardly any misses, so that it has no row."""
         first = next(iter(self.chosen_first()), None)
-        if "object" in self.call.options or self.is_clean() or first is thing or not self.misses:
+        if "object" in self.call.options or self.is_clean() or first is obj or not self.misses:
             return False
-        own = thing.useless + thing.useful
+        own = obj.useless + obj.useful
         return own * advice.LITTLE < self.total() or own * MIN_ACCESS_SHARE_DIVISOR < self.accesses
 
     def chosen_first(self) -> list[DataObject]:
@@ -539,16 +540,16 @@ class View:
         """Whether so few accesses of a trace miss that no change is worth it. (Of a run the severity says that.)"""
         return not self.report.steps and 0 < self.total() * RARE_MISS_DIVISOR < self.accesses
 
-    def is_little(self, thing: DataObject) -> bool:
+    def is_little(self, obj: DataObject) -> bool:
         """Whether an object has so few of the misses that it isn't worth a change."""
         if self.is_clean() and "object" not in self.call.options:
             return True
-        is_first = self.objects[0] is thing or "object" in self.call.options
-        return not is_first and 0 < (thing.useless + thing.useful) * advice.LITTLE < self.total()
+        is_first = self.objects[0] is obj or "object" in self.call.options
+        return not is_first and 0 < (obj.useless + obj.useful) * advice.LITTLE < self.total()
 
-    def decisive_trial(self, thing: DataObject) -> "Trial | None":
+    def decisive_trial(self, obj: DataObject) -> "Trial | None":
         """The trial of an object's repairs, where that decides the fix."""
-        found = (self.trials or {}).get(thing.key)
+        found = (self.trials or {}).get(obj.key)
         return found if found is not None and found.is_decisive() else None
 
     def quantum(self) -> int:
@@ -560,20 +561,20 @@ class View:
             return 0
         return setting_value(words, "quantum")
 
-    def declaration(self, thing: DataObject) -> Declared | None:
+    def declaration(self, obj: DataObject) -> Declared | None:
         """The file and line where an object is declared or made, or none."""
         program = self.naming.program
-        if isinstance(thing.example, Symbol) and program:
+        if isinstance(obj.example, Symbol) and program:
             from view.names.fields import value_or_default
 
-            variable = program.variable(thing.example.addr)
+            variable = program.variable(obj.example.addr)
             return (
                 value_or_default(functools.partial(program.declaration, variable), None)
                 if variable
                 else None
             )
-        if isinstance(thing.example, Block) and thing.example.sites and self.naming.sources:
-            place = self.naming.own_place(self.naming.own_sites(thing.example.sites)[0].addr)
+        if isinstance(obj.example, Block) and obj.example.sites and self.naming.sources:
+            place = self.naming.own_place(self.naming.own_sites(obj.example.sites)[0].addr)
             return (place.file, place.line) if place else None
         return None
 

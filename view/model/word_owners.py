@@ -34,10 +34,10 @@ def join_names(names: Sequence[str]) -> str:
     return f"{kinds.pop()}s {advice.all_of([number for _, number in parts])}"
 
 
-def owner_of(view: View, thing: DataObject, word: WordUse) -> Owner:
+def owner_of(view: View, obj: DataObject, word: WordUse) -> Owner:
     """The threads that use a word: while threads run where the trace was read, and else in the whole run."""
-    tried = (view.trials or {}).get(thing.key)
-    if tried is not None and tried.uses is not None and word.key == thing.key:
+    tried = (view.trials or {}).get(obj.key)
+    if tried is not None and tried.uses is not None and word.key == obj.key:
         from view.repairs.subjects import sharing_of
 
         found = sharing_of(tried.uses, word.addr, 4)
@@ -56,20 +56,20 @@ def owner_of(view: View, thing: DataObject, word: WordUse) -> Owner:
 
 
 def group_by_owner(
-    view: View, thing: DataObject, words: Iterable[WordUse]
+    view: View, obj: DataObject, words: Iterable[WordUse]
 ) -> dict[Owner, list[WordUse]]:
     """Words by their threads, in the order of their addresses."""
     found: dict[Owner, list[WordUse]] = {}
     for word in sorted(words, key=lambda word: word.addr):
-        found.setdefault(owner_of(view, thing, word), []).append(word)
+        found.setdefault(owner_of(view, obj, word), []).append(word)
     return found
 
 
-def field_in(thing: DataObject, word: WordUse) -> str:
+def field_in(obj: DataObject, word: WordUse) -> str:
     """A word's field without the object's name, which the row has: `+4`, `[2].high`."""
     name = word.field_name()
-    rest = name.removeprefix(thing.name)
-    is_value = isinstance(thing.example, Symbol) and thing.example.size <= MAX_VALUE_BYTES
+    rest = name.removeprefix(obj.name)
+    is_value = isinstance(obj.example, Symbol) and obj.example.size <= MAX_VALUE_BYTES
     return (rest if rest != name else name) or (name if is_value else "+0")
 
 
@@ -83,25 +83,25 @@ def accesses(word: WordUse) -> str:
     return f" ({', '.join(parts)})" if parts else ""
 
 
-def own_elements(thing: DataObject, groups: Iterable[Sequence[WordUse]]) -> list[str]:
+def own_elements(obj: DataObject, groups: Iterable[Sequence[WordUse]]) -> list[str]:
     """For each group the element of an array that all its words lie in, where no word of another group does; else nothing."""
     found = []
     for own in groups:
-        elements = {ELEMENT.match(field_in(thing, it)) for it in own}
+        elements = {ELEMENT.match(field_in(obj, it)) for it in own}
         found.append({it[0] if it else "" for it in elements})
     times = Counter(it for own in found for it in own)
     return [next(iter(own)) if len(own) == 1 and times[min(own)] == 1 else "" for own in found]
 
 
 def names_of(
-    thing: DataObject, words: Sequence[WordUse], element: str, worst: WordUse, is_numbered: bool
+    obj: DataObject, words: Sequence[WordUse], element: str, worst: WordUse, is_numbered: bool
 ) -> str:
     """The fields of a group, the most written word with its numbers, unless the trace leaves out some of its accesses."""
     numbers = accesses(worst) if is_numbered and any(it is worst for it in words) else ""
     if element:
         return element + numbers
-    names = advice.patterns(field_in(thing, it) for it in words)
-    most = field_in(thing, worst)
+    names = advice.patterns(field_in(obj, it) for it in words)
+    most = field_in(obj, worst)
     if numbers:
         # (it may be one of a pattern)
         at = names.index(most) if most in names else 0
@@ -120,36 +120,36 @@ def group_text(owner: Owner, names: str) -> str:
     return f"{does} by {owner.names}: {names}"
 
 
-def describe_owners(view: View, thing: DataObject) -> str:
+def describe_owners(view: View, obj: DataObject) -> str:
     """Which threads use which words of an object's worst line, and its neighbours there; or nothing."""
-    seen = view.details(thing)
-    base = thing.worst_line().base
-    own = [it for it in seen.words if it.key == thing.key and it.base == base]
-    own = used_by_others(view, thing, own)
-    return "; ".join(filter(None, (own_words(view, thing, own), neighbours(view, thing))))
+    seen = view.details(obj)
+    base = obj.worst_line().base
+    own = [it for it in seen.words if it.key == obj.key and it.base == base]
+    own = used_by_others(view, obj, own)
+    return "; ".join(filter(None, (own_words(view, obj, own), neighbours(view, obj))))
 
 
-def used_by_others(view: View, thing: DataObject, own: list[WordUse]) -> list[WordUse]:
+def used_by_others(view: View, obj: DataObject, own: list[WordUse]) -> list[WordUse]:
     """Of some words of a stack those that its own thread doesn't use alone, where there are such: it has many, and others use few."""
-    if not isinstance(thing.key, StackKey):
+    if not isinstance(obj.key, StackKey):
         return own
-    its = view.naming.memory.owner(thing.key.hart)
+    its = view.naming.memory.owner(obj.key.hart)
     return [it for it in own if it.owner != its] or own
 
 
-def own_words(view: View, thing: DataObject, own: Sequence[WordUse]) -> str:
+def own_words(view: View, obj: DataObject, own: Sequence[WordUse]) -> str:
     """The threads of an object's own words on a line."""
     if not own:
         return ""
-    groups, worst = group_by_owner(view, thing, own), max(own, key=lambda word: word.writes)
-    elements = dict(zip(groups, own_elements(thing, groups.values())))
+    groups, worst = group_by_owner(view, obj, own), max(own, key=lambda word: word.writes)
+    elements = dict(zip(groups, own_elements(obj, groups.values())))
     # (the group of the most written word is always named)
     first = sorted(groups, key=lambda owner: not any(one is worst for one in groups[owner]))
     named = [it for it in groups if len(groups) <= GROUPS + 1 or it in first[:GROUPS]]
     is_numbered = view.filtered is None
     parts = [
-        group_text(it, names_of(thing, groups[it], elements[it], worst, is_numbered))
-        for it in named
+        group_text(owner, names_of(obj, groups[owner], elements[owner], worst, is_numbered))
+        for owner in named
     ]
     more = len(groups) - len(named)
     text = "; ".join(parts) + (f"; and {more} more" if more else "")
@@ -160,11 +160,11 @@ def own_words(view: View, thing: DataObject, own: Sequence[WordUse]) -> str:
     return f"each thread {does} its own {what}: {text}"
 
 
-def neighbours(view: View, thing: DataObject) -> str:
+def neighbours(view: View, obj: DataObject) -> str:
     """The objects that share a line with another one, or nothing."""
-    names = [view.label(view.objects_by_key[it]) for it in thing.neighbours]
+    names = [view.label(view.objects_by_key[it]) for it in obj.neighbours]
     if not names:
         return ""
     more = len(names) - BESIDE
     listed = advice.all_of(names) if more < 1 else f"{', '.join(names[:BESIDE])} and {more} more"
-    return f"on the same line{'' if len(thing.lines) == 1 else 's'}: {listed}"
+    return f"on the same line{'' if len(obj.lines) == 1 else 's'}: {listed}"

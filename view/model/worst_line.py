@@ -60,11 +60,11 @@ def names_of(view: View, harts: Sequence[int]) -> str:
     return join_names([view.naming.memory.owner(it) for it in sorted(harts)])
 
 
-def word_row(view: View, thing: DataObject, word: WordUse) -> WordRow:
+def word_row(view: View, obj: DataObject, word: WordUse) -> WordRow:
     """The row of a word, by the threads that use it while they run where the trace was read, and else in the whole run."""
-    tried = (view.trials or {}).get(thing.key)
+    tried = (view.trials or {}).get(obj.key)
     found = tried.uses.users_of(word.addr) if tried and tried.uses else {}
-    field = field_in(thing, word) if word.key == thing.key else word.field_name()
+    field = field_in(obj, word) if word.key == obj.key else word.field_name()
     if found:
         writers = [hart for hart, use in found.items() if use.writes]
         readers = [hart for hart, use in found.items() if not use.writes]
@@ -80,9 +80,9 @@ def word_row(view: View, thing: DataObject, word: WordUse) -> WordRow:
     )
 
 
-def worst_line_rows(view: View, thing: DataObject) -> list[WordRow]:
+def worst_line_rows(view: View, obj: DataObject) -> list[WordRow]:
     """The rows of an object's worst line, in the order of their offsets."""
-    base = thing.worst_line().base
-    words = used_by_others(view, thing, [it for it in view.details(thing).words if it.base == base])
+    base = obj.worst_line().base
+    words = used_by_others(view, obj, [it for it in view.details(obj).words if it.base == base])
     words.sort(key=lambda it: it.addr)
-    return [word_row(view, thing, it) for it in wholes(words)]
+    return [word_row(view, obj, it) for it in wholes(words)]

@@ -145,9 +145,9 @@ class AllocatedTypes:
         for function in self.program.functions.get(function_name(frame), []):
             own = [
                 found
-                for it in local_variables(function)
-                if attribute_value(it, "decl_line") == frame.line
-                and (found := pointee(type_of(it))) is not None
+                for variable in local_variables(function)
+                if attribute_value(variable, "decl_line") == frame.line
+                and (found := pointee(type_of(variable))) is not None
             ]
             if len(own) == 1 and size_of(own[0]):
                 return own[0]

@@ -81,7 +81,9 @@ class LandmarkFinder:
             *(it for pattern in self.image.moves for it in find_numbers(code, start, pattern)),
         )
         yield from (
-            it for _, it in references if self.image.is_constant(it) and self.image.begins(it)
+            addr
+            for _, addr in references
+            if self.image.is_constant(addr) and self.image.begins(addr)
         )
 
     @functools.cached_property

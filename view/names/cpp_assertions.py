@@ -114,7 +114,8 @@ class Assertions:
         if match is None or not match["line"]:
             return None
         texts = tuple(
-            self.loaded_assertion(match, at - len(loads), it) for it in ("function", "file", "text")
+            self.loaded_assertion(match, at - len(loads), part)
+            for part in ("function", "file", "text")
         )
         name, file = map(self.image.text, texts[:2])
         line = int.from_bytes(match["line"], "little")

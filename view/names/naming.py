@@ -192,7 +192,7 @@ class Naming:
         """What is told of an instruction without a function and a line by what its function refers to, or none; reports of native programs
         tell it."""
         is_known = self.sources is not None and any(
-            it.function or it.file for it in self.sources.frames(addr)
+            frame.function or frame.file for frame in self.sources.frames(addr)
         )
         from_file = None if is_known else getattr(self.program, "landmark", None)
         return from_file(addr) if from_file else None
@@ -215,7 +215,7 @@ class Naming:
         """Call sites as another address of the same lines has them: a loop that was unrolled is one place."""
         if sites not in self.cached_sites_keys:
             self.cached_sites_keys[sites] = tuple(
-                self.lasting_site(it) for it in self.sites_in_code(sites)
+                self.lasting_site(site) for site in self.sites_in_code(sites)
             )
         return self.cached_sites_keys[sites]
 
@@ -260,8 +260,8 @@ class Naming:
         first = next(
             (
                 at
-                for at, it in enumerate(frames)
-                if it.file and not LIBRARIES.search(it.file) and not KIT.search(it.file)
+                for at, frame in enumerate(frames)
+                if frame.file and not LIBRARIES.search(frame.file) and not KIT.search(frame.file)
             ),
             0,
         )
@@ -469,12 +469,12 @@ class Naming:
         }
         return {*names, *map(short_name, names)} - {""}
 
-    def word_names(self, addr: int, thing: Holder) -> tuple[str, str, str]:
+    def word_names(self, addr: int, obj: Holder) -> tuple[str, str, str]:
         """The name of a word of an object, the one of its element, and that of the field in it."""
-        if thing is not None:
-            name = self.readable_name(thing.name) if isinstance(thing, Symbol) else ""
-            offset = addr - thing.addr
-            return self.typed_names(thing, name, offset) or self.part_names(None, name, offset)
+        if obj is not None:
+            name = self.readable_name(obj.name) if isinstance(obj, Symbol) else ""
+            offset = addr - obj.addr
+            return self.typed_names(obj, name, offset) or self.part_names(None, name, offset)
         key = self.memory.key(addr)
         below = (
             f", {self.memory.bytes_below_top(addr):,} bytes below its top"
@@ -484,44 +484,42 @@ class Naming:
         return address_text(addr) + below, "", address_text(addr)
 
     def typed_names(
-        self, thing: Symbol | Block, name: str, offset: int
+        self, obj: Symbol | Block, name: str, offset: int
     ) -> tuple[str, str, str] | None:
         """The same of an object whose type is known, or none."""
         if self.program is None:
             return None
         from view.names.fields import value_or_default
 
-        return value_or_default(lambda: self.field_names(thing, name, offset), None)
+        return value_or_default(lambda: self.field_names(obj, name, offset), None)
 
-    def typed_value(self, thing: Holder, addr: int) -> tuple[Any, int] | None:
+    def typed_value(self, obj: Holder, addr: int) -> tuple[Any, int] | None:
         """The type of the value that a word lies in, and the word's place there, or none where that isn't known."""
-        if self.program is None or thing is None:
+        if self.program is None or obj is None:
             return None
         from view.names.fields import size_of
 
-        if isinstance(thing, Symbol):
-            variable = self.program.variable(thing.addr)
+        if isinstance(obj, Symbol):
+            variable = self.program.variable(obj.addr)
             if variable is None or variable.type is None:
                 return None
-            offset = addr - thing.addr
-            if is_array_of(variable.type, thing):
+            offset = addr - obj.addr
+            if is_array_of(variable.type, obj):
                 offset %= size_of(variable.type)
             return variable.type, offset
 
         element = (
-            None
-            if thing.sites and thing.sites[0].name == THREAD_LOCALS
-            else self.type_of_block(thing)
+            None if obj.sites and obj.sites[0].name == THREAD_LOCALS else self.type_of_block(obj)
         )
-        return None if element is None else (element, (addr - thing.addr) % (size_of(element) or 1))
+        return None if element is None else (element, (addr - obj.addr) % (size_of(element) or 1))
 
-    def word_kind(self, addr: int, thing: Holder) -> WordKind:
+    def word_kind(self, addr: int, obj: Holder) -> WordKind:
         """What a word is: of a known type or not, and with several fields or elements or with one."""
         if self.program is None:
             return WordKind(False, False)
         from view.names.fields import has_several_fields, value_or_default
 
-        found = value_or_default(lambda: self.typed_value(thing, addr), None)
+        found = value_or_default(lambda: self.typed_value(obj, addr), None)
         if found is None:
             return WordKind(False, False)
         die, offset = found
@@ -531,24 +529,24 @@ class Naming:
         )
 
     def field_names(
-        self, thing: Symbol | Block, name: str, offset: int
+        self, obj: Symbol | Block, name: str, offset: int
     ) -> tuple[str, str, str] | None:
         if self.program is None:
             return None
-        if isinstance(thing, Symbol):
-            variable = self.program.variable(thing.addr)
+        if isinstance(obj, Symbol):
+            variable = self.program.variable(obj.addr)
             if variable is None or variable.type is None:
                 return None
-            if is_array_of(variable.type, thing):
-                return self.element_names(variable.type, name, offset, thing.size)
+            if is_array_of(variable.type, obj):
+                return self.element_names(variable.type, name, offset, obj.size)
             return self.part_names(variable.type, name, offset)
-        if thing.sites and thing.sites[0].name == THREAD_LOCALS:
+        if obj.sites and obj.sites[0].name == THREAD_LOCALS:
             own = next(
                 (it for it in self.program.thread_locals() if it[0] <= offset < it[0] + it[1]), None
             )
             return self.part_names(None, own[2], offset - own[0]) if own else None
-        element = self.type_of_block(thing)
-        return None if element is None else self.element_names(element, "", offset, thing.size)
+        element = self.type_of_block(obj)
+        return None if element is None else self.element_names(element, "", offset, obj.size)
 
     def part_names(self, kind: Any, name: str, offset: int) -> tuple[str, str, str]:
         if kind is None:

@@ -361,22 +361,22 @@ class NativeProgram:
                 return found
         return None
 
-    def object_mismatch(self, thing: Symbol | Block) -> str | None:
+    def object_mismatch(self, obj: Symbol | Block) -> str | None:
         """What of a symbol or a block of a report isn't in the address map, or none."""
-        if isinstance(thing, Block):
-            return next(filter(None, map(self.site_mismatch, thing.sites)), None)
-        name, found = plain_name(thing.name), self.file(thing.addr)
+        if isinstance(obj, Block):
+            return next(filter(None, map(self.site_mismatch, obj.sites)), None)
+        name, found = plain_name(obj.name), self.file(obj.addr)
         if found is None:
             # (a file that is gone has no ranges, and a page that nothing touched isn't in the map)
             is_there = all(it.ranges for it in self.files)
-            has_page = self.map.native_address(thing.addr) is not None
-            return f"it has no file with {thing.name}" if is_there and has_page else None
+            has_page = self.map.native_address(obj.addr) is not None
+            return f"it has no file with {obj.name}" if is_there and has_page else None
         own, at = found
         # (a symbol may be longer than a region of the trace, and begin in one before)
         lies = any(low <= at < low + max(size, 1) for low, size in own.extents.get(name, ()))
         if lies or not own.extents:
             return None
-        return f"{own.path} has no symbol {thing.name} at {at:#x}"
+        return f"{own.path} has no symbol {obj.name} at {at:#x}"
 
     def site_mismatch(self, site: CallSite) -> str | None:
         """What of a call site isn't in the address map, or none."""
@@ -496,8 +496,8 @@ class NativeSources(Sources):
         )
         return (
             [
-                parse_frames(json.loads(it))
-                for it in ran.stdout.decode("utf-8", "replace").splitlines()
+                parse_frames(json.loads(row))
+                for row in ran.stdout.decode("utf-8", "replace").splitlines()
             ]
             if ran
             else []
@@ -511,7 +511,7 @@ class NativeSources(Sources):
             return None
         own, at = where
         for frames in self.symbolize(
-            (own, it) for it in range(at - 4, max(at - 4 * MAX_INSTRUCTIONS_BACK, 0) - 1, -4)
+            (own, addr) for addr in range(at - 4, max(at - 4 * MAX_INSTRUCTIONS_BACK, 0) - 1, -4)
         ):
             if not frames or frames[-1].function != function:
                 return None

@@ -35,9 +35,9 @@ def naming_instructions(taken: LineInvalidations, naming: Naming) -> list[int]:
     return worst if own is None or own in worst else [own, *worst]
 
 
-def is_unnamed(thing: DataObject, naming: Naming) -> bool:
+def is_unnamed(obj: DataObject, naming: Naming) -> bool:
     """Whether instructions may say more of an object than its name does."""
-    example = thing.example
+    example = obj.example
     if isinstance(example, Block):
         is_large = (
             example.size >= MIN_ARENA_BYTES
@@ -46,40 +46,40 @@ def is_unnamed(thing: DataObject, naming: Naming) -> bool:
             and naming.type_of_block(example) is None
         )
         return is_large or not naming.is_identified(example.sites)
-    return isinstance(thing.key, (FileKey, MemoryKey, StackKey))
+    return isinstance(obj.key, (FileKey, MemoryKey, StackKey))
 
 
 def list_names(texts: Iterable[str]) -> str:
     return " and ".join(list(dict.fromkeys(texts))[:NAMING_PAIRS])
 
 
-def name_by_users(thing: DataObject, pcs: Sequence[int], naming: Naming) -> None:
+def name_by_users(obj: DataObject, pcs: Sequence[int], naming: Naming) -> None:
     """Names an object that instructions use."""
     users = list_names(map(naming.instruction_name, pcs))
     functions = list(dict.fromkeys(it for it in map(naming.frame_function, pcs) if it))
-    example = thing.example
-    if isinstance(thing.key, StackKey):
+    example = obj.example
+    if isinstance(obj.key, StackKey):
         used = f", used at {users}" if any(map(naming.landmark, pcs)) else ""
-        thing.name += f", used in {list_names(functions)}" if functions else used
-    elif isinstance(thing.key, FileKey):
-        thing.name += f", used at {users}"
+        obj.name += f", used in {list_names(functions)}" if functions else used
+    elif isinstance(obj.key, FileKey):
+        obj.name += f", used at {users}"
     elif not isinstance(example, Block):
-        thing.name = HEAP if pcs and all(map(naming.is_allocator, pcs)) else f"{USED} {users}"
+        obj.name = HEAP if pcs and all(map(naming.is_allocator, pcs)) else f"{USED} {users}"
     elif not example.sites:
-        thing.name = f"block used at {users}"
+        obj.name = f"block used at {users}"
     elif not naming.is_identified(example.sites):
-        thing.name += f", used at {users}"
+        obj.name += f", used at {users}"
     elif len(functions) > 1:
         # (the elements of an array are mostly used by one function, and what an arena hands out by several)
-        thing.name = thing.name.replace("block made", f"block of {example.size:,} made", 1)
-        thing.note = f" (an arena, used at {users})"
+        obj.name = obj.name.replace("block made", f"block of {example.size:,} made", 1)
+        obj.note = f" (an arena, used at {users})"
 
 
-def join_same_names(things: Sequence[DataObject]) -> dict[Key, DataObject]:
+def join_same_names(objects: Sequence[DataObject]) -> dict[Key, DataObject]:
     """The objects by their keys: pages that the same instructions use are one, which has the lines of all."""
     first: dict[str, DataObject] = {}
     found: dict[Key, DataObject] = {}
-    for obj in things:
+    for obj in objects:
         own = (
             first.setdefault(obj.name, obj)
             if isinstance(obj.key, MemoryKey) and obj.name.startswith((USED, HEAP))
@@ -95,14 +95,14 @@ def join_same_names(things: Sequence[DataObject]) -> dict[Key, DataObject]:
     return found
 
 
-def go_runtime_keys(things: Iterable[DataObject], blame: Blame, naming: Naming) -> set[Key]:
+def go_runtime_keys(objects: Iterable[DataObject], blame: Blame, naming: Naming) -> set[Key]:
     """The memory of a program of Go that its runtime alone fights over."""
     from_file = getattr(naming.program, "has_go_table", None)
     if from_file is None or not from_file():
         return set()
     lines = {
         obj.key: [blame.invalidations(spot.base) for spot in obj.lines]
-        for obj in things
+        for obj in objects
         if isinstance(obj.key, (MemoryKey, StackKey))
     }
     found = {
@@ -113,10 +113,10 @@ def go_runtime_keys(things: Iterable[DataObject], blame: Blame, naming: Naming) 
     return {key for key, own in found.items() if own and all(map(naming.is_of_language, own))}
 
 
-def name_by_instructions(things: Iterable[DataObject], blame: Blame, naming: Naming) -> None:
+def name_by_instructions(objects: Iterable[DataObject], blame: Blame, naming: Naming) -> None:
     """Gives names to those of some objects that have none. What takes their worst lines is looked up in one call."""
     found: list[tuple[DataObject, LineInvalidations]] = []
-    for obj in things:
+    for obj in objects:
         taken = (
             blame.invalidations(obj.worst_line().base)
             if len(found) < MAX_NAMED_OBJECTS and is_unnamed(obj, naming)

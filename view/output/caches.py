@@ -226,8 +226,8 @@ def rows(sized: Sized) -> Iterator[str]:
         return
     yield ""
     wide = [
-        max(9, len(str(it.shape)) + 1, *(len(f"{own:,}") + 1 for own in it.total))
-        for it in sized.shapes
+        max(9, len(str(count.shape)) + 1, *(len(f"{own:,}") + 1 for own in count.total))
+        for count in sized.shapes
     ]
 
     def row(first: object, cells: Sequence[object], rest: str) -> str:

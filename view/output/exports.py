@@ -166,7 +166,7 @@ def trial(view: View, obj: DataObject) -> Record | None:
     }
 
 
-def thing(view: View, obj: DataObject) -> Record:
+def object_record(view: View, obj: DataObject) -> Record:
     seen = view.details(obj)
     explained, worst, kinds = seen.explained, seen.worst(), view.invalidation_kinds(obj)
     known = view.misses is not None
@@ -263,7 +263,7 @@ def record(view: View) -> Record:
         ),
         "total": totals(view),
         "time": time_of(view),
-        "objects": [thing(view, it) for it in view.chosen_objects()],
+        "objects": [object_record(view, it) for it in view.chosen_objects()],
         "predicted": [foretold(view, it) for it in view.chosen_predictions()],
         "notes": [*view.notes, *fine_notes(view)],
     }

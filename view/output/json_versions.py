@@ -82,7 +82,7 @@ def trial(found: Record | None) -> Record | None:
     return renamed(found["after"], **names)
 
 
-def thing(found: Record) -> Record:
+def downgrade_object(found: Record) -> Record:
     kinds = found["invalidation_kinds"]
     return {
         "name": found["name"],
@@ -135,7 +135,7 @@ def downgrade(found: Record) -> Record:
         **renamed(found, accesses="accesses", layout="layout", thresholds="thresholds"),
         "total": misses(found["total"]),
         "time": time_of(found["time"]),
-        "objects": [thing(it) for it in found["objects"]],
+        "objects": [downgrade_object(it) for it in found["objects"]],
         "predicted": [predicted(it) for it in found["predicted"]],
         "notes": found["notes"],
     }

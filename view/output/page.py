@@ -56,10 +56,10 @@ class Users(NamedTuple):
     others: tuple[int, ...]
 
 
-def users_of(view: View, thing: DataObject, word: WordUse) -> Users:
+def users_of(view: View, obj: DataObject, word: WordUse) -> Users:
     """The threads of a word: while threads run where the trace was read, and else in the whole run."""
-    tried = (view.trials or {}).get(thing.key)
-    found = tried.uses.users_of(word.addr) if tried and tried.uses and word.key == thing.key else {}
+    tried = (view.trials or {}).get(obj.key)
+    found = tried.uses.users_of(word.addr) if tried and tried.uses and word.key == obj.key else {}
     if not found:
         return Users(None if word.hart == "many" else int(word.hart), ())
     writers = sorted(hart for hart, use in found.items() if use.writes)
@@ -84,17 +84,17 @@ class Cells(NamedTuple):
     """What the cells of an object's words have in common: the object, its name, which its cells leave out, and the greatest number."""
 
     view: View
-    thing: DataObject | None
+    obj: DataObject | None
     name: str
     most: int
     is_alone: bool
 
     def cell(self, word: WordUse, is_wide: bool = False) -> Given:
         """The cell of a word, or of a number of two, in the colour of the thread that writes it, with the letters of those that read it."""
-        own = self.thing is not None and word.key == self.thing.key
+        own = self.obj is not None and word.key == self.obj.key
         users = (
-            users_of(self.view, self.thing, word)
-            if self.thing is not None
+            users_of(self.view, self.obj, word)
+            if self.obj is not None
             else Users(None if word.hart == "many" else int(word.hart), ())
         )
         # (a place on a stack without its address, which the title has)
@@ -117,20 +117,20 @@ class Cells(NamedTuple):
 
 
 def cells(
-    view: View, base: int, size: int, words: Sequence[WordUse], thing: DataObject | None, name: str
+    view: View, base: int, size: int, words: Sequence[WordUse], obj: DataObject | None, name: str
 ) -> list[Given | None]:
     """The cells of a range, in order; none where a word wasn't accessed."""
     most = max([it.reads for it in words] + [it.writes for it in words] + [1])
-    own = sum(thing is not None and it.key == thing.key for it in words)
-    made = Cells(view, thing, name, most, own < 2)
+    own = sum(obj is not None and it.key == obj.key for it in words)
+    made = Cells(view, obj, name, most, own < 2)
     at: dict[int, WordUse] = {}
     for word in wholes(sorted(words, key=lambda it: it.addr)):
         at[word.addr] = word
     halves = {it.addr for it in words} - {*at}
     # (the second half of a number has no cell of its own)
     return [
-        made.cell(at[it], it + 4 in halves) if it in at else {} if it in halves else None
-        for it in range(base, base + size, 4)
+        made.cell(at[addr], addr + 4 in halves) if addr in at else {} if addr in halves else None
+        for addr in range(base, base + size, 4)
     ]
 
 
@@ -138,7 +138,7 @@ def row(view: View, spot: ObjectLine, seen: ObjectDetails, size: int) -> Given:
     """A line, in rows of words."""
     words = [it for it in seen.words if spot.base <= it.addr < spot.base + size]
     own = (
-        cells(view, spot.base, size, words, seen.thing, seen.thing.name)
+        cells(view, spot.base, size, words, seen.obj, seen.obj.name)
         if spot.line_with_words()
         else []
     )
@@ -233,7 +233,7 @@ def in_code(text: str) -> list[str]:
     return text.split("`")
 
 
-def thing(view: View, obj: DataObject) -> Given:
+def object_values(view: View, obj: DataObject) -> Given:
     """One object as the template has it."""
     seen, drawn = view.details(obj), sorted(worth_drawing(view, obj), key=lambda one: one.base)
     worst, fight = seen.worst(), seen.worst_conflict()
@@ -348,7 +348,7 @@ def page(view: View) -> str:
             totals=totals(view) if view.misses else "",
             heads=HEADS[0 if view.misses else 2 :],
             notes=[*view.notes, *(it.replace("`", "") for it in fine_notes(view))],
-            objects=[thing(view, it) for it in first],
+            objects=[object_values(view, it) for it in first],
             more=max(0, len(chosen) - top),
             minors=minors(view, [it for it in view.listed_objects() if view.is_minor(it)]),
             library=library(view),
@@ -362,16 +362,16 @@ def page(view: View) -> str:
 
 
 def threads_of(
-    view: View, things: Sequence[DataObject], foretold: Sequence[PredictedLine]
+    view: View, objects: Sequence[DataObject], foretold: Sequence[PredictedLine]
 ) -> tuple[list[Given], bool]:
     """The threads that are drawn, each with its letter and colour, and whether a word of several threads is."""
-    used = [users_of(view, it, word) for it in things for word in view.details(it).words]
+    used = [users_of(view, it, word) for it in objects for word in view.details(it).words]
     harts = [word.hart for it in foretold for word in it.line.words()]
     found = {it.owner for it in used} | {hart for it in used for hart in it.others}
     found |= {None if it == "many" else int(it) for it in harts}
     found |= {
         hart
-        for obj in things
+        for obj in objects
         if (explained := view.details(obj).explained)
         for pair in explained.harts
         for hart in pair

@@ -236,11 +236,11 @@ def end_of_recording(view: View) -> str:
     return ENDS_OF_RECORDING.get(end[1], usual) if end else usual
 
 
-def type_and_place(view: View, thing: DataObject, seen: ObjectDetails) -> str:
+def type_and_place(view: View, obj: DataObject, seen: ObjectDetails) -> str:
     """The type of an object and where it is declared, or how many blocks a call site has; or nothing."""
-    parts = [view.type_of(thing)]
-    if isinstance(thing.key, BlocksKey):
-        many = f" ({len(thing.block_ids):,} blocks)" if len(thing.block_ids) > 1 else ""
+    parts = [view.type_of(obj)]
+    if isinstance(obj.key, BlocksKey):
+        many = f" ({len(obj.block_ids):,} blocks)" if len(obj.block_ids) > 1 else ""
         return (f": {parts[0]}" if parts[0] else "") + many
     if seen.declared:
         parts.append(f"{os.path.basename(seen.declared[0])}:{seen.declared[1]}")
@@ -269,23 +269,23 @@ def conflict(view: View, pair: InstructionPair) -> str:
     )
 
 
-def where(view: View, thing: DataObject) -> list[str]:
+def where(view: View, obj: DataObject) -> list[str]:
     """The instructions that conflict most on an object's worst line, with `--words` all, and the invalidations of the line by kind."""
-    pairs = view.details(thing).conflicts()[: None if "words" in view.call.options else 1]
+    pairs = view.details(obj).conflicts()[: None if "words" in view.call.options else 1]
     rows = [conflict(view, it) for it in pairs]
-    kinds = describe_kinds(view.invalidation_kinds(thing) or {})
+    kinds = describe_kinds(view.invalidation_kinds(obj) or {})
     if rows and kinds:
         rows[0] += f"; in all {kinds}"
     return rows
 
 
-def details(view: View, thing: DataObject) -> Iterator[tuple[str, str]]:
+def details(view: View, obj: DataObject) -> Iterator[tuple[str, str]]:
     """The rows below an object's, each with its label."""
-    seen = view.details(thing)
-    for text in where(view, thing):
+    seen = view.details(obj)
+    for text in where(view, obj):
         yield "where", text
     for label, text in (
-        ("who", describe_owners(view, thing)),
+        ("who", describe_owners(view, obj)),
         ("fix", seen.fix),
         ("tried", seen.tried),
     ):
@@ -310,15 +310,15 @@ class Table(NamedTuple):
         return f"{rank!s:>{self.rank}}{cells}  "
 
 
-def numbers_of(view: View, thing: DataObject) -> list[int]:
+def numbers_of(view: View, obj: DataObject) -> list[int]:
     """The numbers of an object's row."""
-    misses = [thing.useless, thing.useful] if view.misses else []
-    return [*misses, view.invalidations(thing), len(thing.lines)]
+    misses = [obj.useless, obj.useful] if view.misses else []
+    return [*misses, view.invalidations(obj), len(obj.lines)]
 
 
-def numbers_together(view: View, things: Sequence[DataObject]) -> list[int]:
+def numbers_together(view: View, objects: Sequence[DataObject]) -> list[int]:
     """The numbers of a row that objects share."""
-    return [sum(own) for own in zip(*(numbers_of(view, it) for it in things))]
+    return [sum(own) for own in zip(*(numbers_of(view, it) for it in objects))]
 
 
 def table_of(view: View, rows: Sequence[DataObject]) -> Table:
@@ -334,24 +334,24 @@ def table_of(view: View, rows: Sequence[DataObject]) -> Table:
 
 
 def row(
-    view: View, place: int, thing: DataObject, paint: Paint, width: int, table: Table
+    view: View, place: int, obj: DataObject, paint: Paint, width: int, table: Table
 ) -> list[str]:
     """One object: its numbers and name, and below it where it is contended, who uses it, the fix, and what that was counted to save."""
-    seen, short = view.details(thing), view.naming.names.shorten
-    cells = table.cells(place, numbers_of(view, thing))
-    name = short(view.label(thing) + type_and_place(view, thing, seen) + thing.note)
+    seen, short = view.details(obj), view.naming.names.shorten
+    cells = table.cells(place, numbers_of(view, obj))
+    name = short(view.label(obj) + type_and_place(view, obj, seen) + obj.note)
     first, *rest = fold(name, cells, " " * len(cells), max(width, len(cells) + MOST * LABEL))
     rows = [cells + paint(BOLD, first[len(cells) :]), *(paint(BOLD, it) for it in rest)]
     indent = table.rank + 2
-    for label, text in details(view, thing):
+    for label, text in details(view, obj):
         head = f"{'':{indent}}{label:<{LABEL}}"
         rows += fold(short(text.replace("`", "")), head, " " * len(head), width)
     return rows
 
 
-def line_table(view: View, thing: DataObject, indent: str) -> Iterator[str]:
+def line_table(view: View, obj: DataObject, indent: str) -> Iterator[str]:
     """The worst line of an object: the offset and the field of each word, and the threads that write it and that only read it."""
-    rows = worst_line_rows(view, thing)
+    rows = worst_line_rows(view, obj)
     if len(rows) < 2 or not any(it.writers for it in rows):
         return
     short = view.naming.names.shorten
@@ -361,16 +361,16 @@ def line_table(view: View, thing: DataObject, indent: str) -> Iterator[str]:
     wide = max(len("field"), *map(len, fields))
     writers = max(len("written by"), *(len(it.writers) for it in shown))
     yield f"{indent}{'offset':>6}  {'field':<{wide}}  {'written by':<{writers}}  only read by"
-    for it, field in zip(shown, fields):
-        text = f"{indent}{it.offset:>6}  {field:<{wide}}  {it.writers or '-':<{writers}}  {it.readers or '-'}"
+    for word, field in zip(shown, fields):
+        text = f"{indent}{word.offset:>6}  {field:<{wide}}  {word.writers or '-':<{writers}}  {word.readers or '-'}"
         yield text.rstrip()
     if len(rows) > MAX_ROWS:
         yield f"{indent}{'':>6}  {len(rows) - MAX_ROWS} more (--words shows all)"
 
 
-def words_table(view: View, thing: DataObject, paint: Paint, indent: str) -> Iterator[str]:
+def words_table(view: View, obj: DataObject, paint: Paint, indent: str) -> Iterator[str]:
     """The words of an object's lines."""
-    short, words = view.naming.names.shorten, [*wholes(view.details(thing).words)]
+    short, words = view.naming.names.shorten, [*wholes(view.details(obj).words)]
     if not words:
         return
     owners = {it: it.owner.removeprefix("several ") for it in words}
@@ -381,7 +381,7 @@ def words_table(view: View, thing: DataObject, paint: Paint, indent: str) -> Ite
         needed = "" if word.useful is None else f"{word.useful:>9,}"
         other = (
             ""
-            if word.key == thing.key
+            if word.key == obj.key
             else (
                 f"  ({plain(short(view.objects_by_key[word.key].name)) if word.key in view.objects_by_key else 'another object'})"
             )
@@ -418,9 +418,9 @@ def predictions(view: View, paint: Paint, width: int) -> Iterator[str]:
     found, is_all = view.chosen_predictions(), "predicted" in view.call.options
     # (of a filtered trace only their misses are known)
     chosen = [
-        it
-        for it in found
-        if it.is_shown or is_all and (it.useless is not None or not view.filtered)
+        line
+        for line in found
+        if line.is_shown or is_all and (line.useless is not None or not view.filtered)
     ]
     folded = len(found) - len(chosen)
     if chosen:
@@ -484,8 +484,8 @@ def fine_rows(view: View, before: int, paint: Paint, width: int) -> Iterator[str
         f"only at fine interleaving (quantum {FINE_QUANTUM}), typical of queues and spinning:",
     )
     yield paint(DIM, table.head())
-    for place, thing in enumerate(found, before + 1):
-        yield from row(fine, place, thing, paint, width, table)
+    for place, obj in enumerate(found, before + 1):
+        yield from row(fine, place, obj, paint, width, table)
 
 
 def table_rows(
@@ -496,14 +496,14 @@ def table_rows(
     table = table_of(view, shown)
     yield ""
     yield paint(DIM, table.head())
-    for place, thing in enumerate(shown, 1):
-        yield from row(view, place, thing, paint, width, table)
+    for place, obj in enumerate(shown, 1):
+        yield from row(view, place, obj, paint, width, table)
         if place == 1 and "words" not in view.call.options:
             yield from (
-                paint(DIM, it) for it in line_table(view, thing, " " * (table.rank + 2 + LABEL))
+                paint(DIM, text) for text in line_table(view, obj, " " * (table.rank + 2 + LABEL))
             )
         if "words" in view.call.options:
-            yield from words_table(view, thing, paint, " " * (table.rank + 2 + LABEL))
+            yield from words_table(view, obj, paint, " " * (table.rank + 2 + LABEL))
     if view.folded_objects():
         numbers = numbers_together(view, view.folded_objects())
         yield table.cells("", numbers) + paint(

@@ -47,10 +47,10 @@ def folder_prefix(process: int | None = None) -> str:
 
 
 def remove_folders(prefix: str) -> None:
-    for it in glob.glob(
+    for path in glob.glob(
         os.path.join(glob.escape(tempfile.gettempdir()), glob.escape(prefix) + "*")
     ):
-        shutil.rmtree(it, ignore_errors=True)
+        shutil.rmtree(path, ignore_errors=True)
 
 
 def remove_abandoned() -> None:
@@ -80,8 +80,8 @@ def own_folder() -> Iterator[str]:
 def children() -> list[int]:
     """The processes that this one's threads have started, and those that it was given."""
     found: list[int] = []
-    for it in glob.glob("/proc/self/task/*/children"):
-        with contextlib.suppress(OSError), open(it, encoding="ascii") as file:
+    for path in glob.glob("/proc/self/task/*/children"):
+        with contextlib.suppress(OSError), open(path, encoding="ascii") as file:
             found += map(int, file.read().split())
     return found
 
@@ -91,9 +91,9 @@ def end_children() -> None:
     prctl(PR_SET_CHILD_SUBREAPER, 1)
     with contextlib.suppress(ChildProcessError):
         while True:
-            for it in children():
+            for child in children():
                 with contextlib.suppress(ProcessLookupError):
-                    os.kill(it, signal.SIGKILL)
+                    os.kill(child, signal.SIGKILL)
             os.waitpid(-1, 0)
 
 
@@ -106,7 +106,9 @@ def divide() -> None:
     temporary = tempfile.gettempdir()
     waited_for = {*HANDED_ON, signal.SIGCHLD, LEFT_ALONE}
     waited_for = {
-        it for it in waited_for if signal.getsignal(it) is not signal.SIG_IGN or it not in HANDED_ON
+        signum
+        for signum in waited_for
+        if signal.getsignal(signum) is not signal.SIG_IGN or signum not in HANDED_ON
     }
     before = signal.pthread_sigmask(signal.SIG_BLOCK, {*waited_for, signal.SIGINT, signal.SIGQUIT})
     signal.signal(signal.SIGCHLD, signal.SIG_DFL)
@@ -119,8 +121,8 @@ def divide() -> None:
     def end(number: int, frame: FrameType | None) -> None:
         tempfile.tempdir = temporary
         end_children()
-        for it in (*prefixes, folder_prefix()):
-            remove_folders(it)
+        for prefix in (*prefixes, folder_prefix()):
+            remove_folders(prefix)
         os._exit(128 + signal.SIGKILL)
 
     signal.signal(LEFT_ALONE, end)
@@ -151,7 +153,7 @@ def finish(status: int, prefixes: list[str]) -> NoReturn:
     """Ends this process as the working one did."""
     if os.WIFSIGNALED(status):
         end_children()
-        for it in prefixes:
-            remove_folders(it)
+        for prefix in prefixes:
+            remove_folders(prefix)
         os._exit(128 + os.WTERMSIG(status))
     os._exit(os.WEXITSTATUS(status))

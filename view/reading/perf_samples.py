@@ -56,9 +56,9 @@ def segment_address(path: str, offset: int, rights: str) -> int | None:
     flag = P_FLAGS.PF_X if "x" in rights else P_FLAGS.PF_W if "w" in rights else 0
     try:
         with open(path, "rb") as file:
-            for it in ELFFile(file).iter_segments("PT_LOAD"):
-                if it["p_flags"] & flag and it["p_offset"] // PAGE == offset // PAGE:
-                    return int(it["p_vaddr"]) // PAGE * PAGE
+            for segment in ELFFile(file).iter_segments("PT_LOAD"):
+                if segment["p_flags"] & flag and segment["p_offset"] // PAGE == offset // PAGE:
+                    return int(segment["p_vaddr"]) // PAGE * PAGE
     except Exception:  # (a file that is gone, or no ELF file)
         return None
     return None
@@ -116,9 +116,9 @@ def trace_addresses(found: Samples, table: "AddressMap") -> Iterator[tuple[Sampl
         if path not in found.biases:
             continue
         with open(path, "rb") as file:
-            for it in ELFFile(file).iter_segments("PT_LOAD"):
-                low = int(it["p_vaddr"]) + found.biases[path]
-                ranges.append((low, low + int(it["p_memsz"]), bias - found.biases[path]))
+            for segment in ELFFile(file).iter_segments("PT_LOAD"):
+                low = int(segment["p_vaddr"]) + found.biases[path]
+                ranges.append((low, low + int(segment["p_memsz"]), bias - found.biases[path]))
     for sample in found.samples:
         move = next((move for low, high, move in ranges if low <= sample.addr < high), None)
         addr = None if move is None else sample.addr + move

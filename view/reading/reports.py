@@ -305,7 +305,7 @@ class Misses:
             raise Fault(f"{of}: unexpected output of `predator misses`")
         self.size, self.offset, self.accesses = (int(it) for it in found.groups()[:3])
         self.text, self.lines = text, {
-            it.base: it for it in parse_lines(text, MISSES, MissLine, of)[0]
+            line.base: line for line in parse_lines(text, MISSES, MissLine, of)[0]
         }
         self.total = {
             name: int(count) for name, count in zip(("cold", "useful", "useless"), total.groups())
@@ -372,7 +372,7 @@ class Explanation:
             raise Fault(f"{of}: unexpected output of `predator explain`")
         line = re.search(rf"^line {ADDRESS} (\d+) start (\d+) count (\d+)$", text, re.MULTILINE)
         steps, accesses = (
-            re.search(rf"^{it} (\d+)$", text, re.MULTILINE) for it in ("steps", "accesses")
+            re.search(rf"^{word} (\d+)$", text, re.MULTILINE) for word in ("steps", "accesses")
         )
         if not line or not steps or not accesses:
             raise Fault(f"{of}: unexpected output of `predator explain`")

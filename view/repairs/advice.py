@@ -162,34 +162,34 @@ def contended_words(own: list[WordUse]) -> list[WordUse]:
     return found or (own and lines(own)[0])
 
 
-def naming_fields(words: Sequence[WordUse], thing: DataObject) -> str:
+def naming_fields(words: Sequence[WordUse], obj: DataObject) -> str:
     """How to name the fields of a block whose type isn't known, or nothing."""
-    site = thing.name.partition(" made at ")[2].partition(" ")[0]
-    return f" (`--type {site}=TYPE` names its fields)" if site and is_untyped(words, thing) else ""
+    site = obj.name.partition(" made at ")[2].partition(" ")[0]
+    return f" (`--type {site}=TYPE` names its fields)" if site and is_untyped(words, obj) else ""
 
 
-def is_untyped(words: Iterable[WordUse], thing: DataObject) -> bool:
-    return isinstance(thing.key, BlocksKey) and all(it.name[:1] == "+" for it in words)
+def is_untyped(words: Iterable[WordUse], obj: DataObject) -> bool:
+    return isinstance(obj.key, BlocksKey) and all(it.name[:1] == "+" for it in words)
 
 
-def in_pieces(words: Sequence[WordUse], thing: DataObject, size: int) -> str:
+def in_pieces(words: Sequence[WordUse], obj: DataObject, size: int) -> str:
     """The fix for memory without a type of which each thread has pieces."""
     how = f"`{attribute(size)}` on the element's type" + (
-        f" and `aligned_alloc({size}, ..)`" if isinstance(thing.key, BlocksKey) else ""
+        f" and `aligned_alloc({size}, ..)`" if isinstance(obj.key, BlocksKey) else ""
     )
     rounded = f"in an arena round the start and the size of each piece up to multiples of {size}"
     said = f"give each thread's words their own line: in an array put {how}; {rounded}"
-    return said + naming_fields(words, thing)
+    return said + naming_fields(words, obj)
 
 
-def is_raw(words: Sequence[WordUse], thing: DataObject) -> bool:
+def is_raw(words: Sequence[WordUse], obj: DataObject) -> bool:
     """Whether an object is memory without a type, or bytes, of which each thread has its own."""
     own = groups(words)
-    is_plain = is_untyped(words, thing) or all(PACKED.search(it.name) for it in words)
+    is_plain = is_untyped(words, obj) or all(PACKED.search(it.name) for it in words)
     return is_contended(own) and all(key.whose != SHARED for key in own) and is_plain
 
 
-def groups_apart(own: Sequence[WordUse], thing: DataObject, size: int, element: Element) -> str:
+def groups_apart(own: Sequence[WordUse], obj: DataObject, size: int, element: Element) -> str:
     """Which words of a line need lines of their own."""
     found = groups(own)
     if (
@@ -199,42 +199,42 @@ def groups_apart(own: Sequence[WordUse], thing: DataObject, size: int, element: 
     ):
         return f"give each thread's words their own line: `{attribute(size)}` on the element's type"
     if len(found) < 2:
-        return f"start {thing.name} on its own line: `{attribute(size)}` after its name"
+        return f"start {obj.name} on its own line: `{attribute(size)}` after its name"
     listed = [describe_words(key, it, size, element) for key, it in found.items()]
     more = len(listed) - NAMED
     if more > 1 and not any(is_field(it.field_name()) for it in own):
         listed[NAMED:] = [f"and {more} more groups"]
-    return f"separate these groups with `{attribute(size)}` after the first field of each: {'; '.join(listed)}{naming_fields(own, thing)}"
+    return f"separate these groups with `{attribute(size)}` after the first field of each: {'; '.join(listed)}{naming_fields(own, obj)}"
 
 
-def apart(words: Iterable[WordUse], thing: DataObject, size: int, element: Element) -> str:
+def apart(words: Iterable[WordUse], obj: DataObject, size: int, element: Element) -> str:
     """Which of an object's words need lines of their own; `element` gives the code for an array's elements."""
-    own = [it for it in words if it.key == thing.key]
-    if isinstance(thing.key, StackKey):
-        likely = f", likely {thing.likely}" if thing.likely else ""
+    own = [it for it in words if it.key == obj.key]
+    if isinstance(obj.key, StackKey):
+        likely = f", likely {obj.likely}" if obj.likely else ""
         return f"other threads use variables on this stack{likely}: put `{attribute(size)}` on their types, or move them off the stack"
-    if isinstance(thing.key, BlocksKey) and any(
+    if isinstance(obj.key, BlocksKey) and any(
         len({it.begin for it in line}) > 1 for line in lines(own)
     ):
         how = f"`aligned_alloc({size}, ..)` with sizes rounded up to multiples of {size}"
         return f"allocate each of these blocks on its own lines: {how}"
     own = contended_words(own)
-    if own and is_raw(own, thing):
-        return in_pieces(own, thing, size)
+    if own and is_raw(own, obj):
+        return in_pieces(own, obj, size)
     written = [it for it in own if it.writes]
     array = array_of(written) if written else None
     if array is not None:
         return f"give each element{f' of {array}' if array else ''} its own line: {by_type(array, size, element)}"
-    return groups_apart(own, thing, size, element)
+    return groups_apart(own, obj, size, element)
 
 
-def neighbours(words: Sequence[WordUse], thing: DataObject, names: Mapping[Key, str]) -> list[str]:
+def neighbours(words: Sequence[WordUse], obj: DataObject, names: Mapping[Key, str]) -> list[str]:
     """The names of the objects that conflict with another one on its worst line, as far as its words show."""
     if not words:
         return list(names.values())
     line = [it for it in words if it.base == words[0].base]
     found: dict[Key, int] = {}
-    own = any(it.writes for it in line if it.key == thing.key)
+    own = any(it.writes for it in line if it.key == obj.key)
     for word in line:
         if own or word.writes:
             found[word.key] = found.get(word.key, 0) + word.reads + word.writes
@@ -246,16 +246,16 @@ def neighbours(words: Sequence[WordUse], thing: DataObject, names: Mapping[Key, 
     ]
 
 
-def cost(thing: DataObject, words: Iterable[WordUse]) -> str:
+def cost(obj: DataObject, words: Iterable[WordUse]) -> str:
     """How many misses more the words would have on lines of their own, where they would; or nothing."""
     fields: dict[tuple[int, str], int] = {}
     for word in words:
-        if word.key == thing.key:
+        if word.key == obj.key:
             fields[word.base, word.field_name()] = max(
                 fields.get((word.base, word.field_name()), 0), word.useful or 0
             )
     own = sum(fields.values())
-    more = own - thing.useful - thing.useless
+    more = own - obj.useful - obj.useless
     return f"; a separate line per word would cost {more:,} more misses" if more > 0 else ""
 
 
@@ -276,9 +276,9 @@ def placing(
     return f"; grouped by thread ({where}), invalidations {placed.before:,} → {placed.after:,} (`place`)"
 
 
-def little(thing: DataObject, total: int) -> str:
+def little(obj: DataObject, total: int) -> str:
     """Why an object with hardly any of all misses isn't worth a change."""
-    return f"not worth a change: {thing.useless + thing.useful:,} of all {total:,} sharing misses"
+    return f"not worth a change: {obj.useless + obj.useful:,} of all {total:,} sharing misses"
 
 
 def of_allocator() -> str:
@@ -286,16 +286,16 @@ def of_allocator() -> str:
     return "reuse blocks, free them in the thread that allocated them, or link another allocator"
 
 
-def is_true(thing: DataObject, is_counted: bool) -> bool:
+def is_true(obj: DataObject, is_counted: bool) -> bool:
     if is_counted:
-        return thing.useless < thing.useful
-    return {it.line.verdict for it in thing.lines if it.line} == {"true"}
+        return obj.useless < obj.useful
+    return {it.line.verdict for it in obj.lines if it.line} == {"true"}
 
 
 def mostly_packed(own: Sequence[WordUse]) -> bool:
     """Whether words with several fields or elements are most of what is missed of some shared words."""
     return 2 * sum(it.useful or 1 for it in own if is_packed(it)) > sum(
-        it.useful or 1 for it in own
+        word.useful or 1 for word in own
     )
 
 
@@ -305,12 +305,12 @@ def bytewise(own: Iterable[WordUse]) -> str:
 
 
 def true_sharing_sentence(
-    thing: DataObject, words: Sequence[WordUse], own: Sequence[WordUse], is_counted: bool
+    obj: DataObject, words: Sequence[WordUse], own: Sequence[WordUse], is_counted: bool
 ) -> str:
     """The fix for words that threads pass to each other, `own` of some."""
-    total, packed = thing.useful + thing.useless, bytewise(own)
-    much = f" ({thing.useful:,} of {total:,} misses)" if is_counted else ""
-    said = f"{mostly_written(own) or thing.name}: true sharing{much}"
+    total, packed = obj.useful + obj.useless, bytewise(own)
+    much = f" ({obj.useful:,} of {total:,} misses)" if is_counted else ""
+    said = f"{mostly_written(own) or obj.name}: true sharing{much}"
     if packed and mostly_packed(own):
         how = "where threads use different ones, give each its own line and run again"
         return (
@@ -320,13 +320,13 @@ def true_sharing_sentence(
     if packed:
         return f"{less}; several fields or elements lie in one word of {packed}: where threads use different ones, give each its own line"
     if not all(it.kind.is_typed for it in own):
-        return f"{less}; padding helps only where threads use different bytes of a word{cost(thing, words)}"
-    return f"{less}; padding doesn't help{cost(thing, words)}"
+        return f"{less}; padding helps only where threads use different bytes of a word{cost(obj, words)}"
+    return f"{less}; padding doesn't help{cost(obj, words)}"
 
 
-def in_turns(thing: DataObject, words: Iterable[WordUse], turns: int) -> str:
+def in_turns(obj: DataObject, words: Iterable[WordUse], turns: int) -> str:
     """That a large quantum hides what threads do at the same time, where that may be."""
-    own, missed = [it for it in words if it.key == thing.key], thing.worst_line().missed
+    own, missed = [it for it in words if it.key == obj.key], obj.worst_line().missed
     if (
         turns <= SHORT
         or missed is None
@@ -344,25 +344,25 @@ def mostly_written(words: Iterable[WordUse]) -> str:
 
 def split_sentence(
     words: Sequence[WordUse],
-    thing: DataObject,
+    obj: DataObject,
     names: Mapping[Key, str],
     size: int,
     element: Element,
 ) -> str:
     """What needs separate lines: an object and its neighbours, and its own words where these conflict with each other."""
-    beside = neighbours(words, thing, names)
+    beside = neighbours(words, obj, names)
     if not beside:
-        return apart(words, thing, size, element)
-    both = f"{all_of([thing.name, *beside])} share lines: put `{attribute(size)}` after each name"
-    own = [it for it in words if it.key == thing.key]
-    within = not isinstance(thing.key, StackKey) and any(
-        is_contended(groups(it)) for it in lines(own)
+        return apart(words, obj, size, element)
+    both = f"{all_of([obj.name, *beside])} share lines: put `{attribute(size)}` after each name"
+    own = [it for it in words if it.key == obj.key]
+    within = not isinstance(obj.key, StackKey) and any(
+        is_contended(groups(line)) for line in lines(own)
     )
-    return f"{both}, and {apart(words, thing, size, element)}" if within else both
+    return f"{both}, and {apart(words, obj, size, element)}" if within else both
 
 
 def sentence(
-    thing: DataObject,
+    obj: DataObject,
     words: Sequence[WordUse],
     names: Mapping[Key, str],
     size: int,
@@ -372,23 +372,23 @@ def sentence(
 ) -> str:
     """The fix. The words are those of the worst line first, `names` those of the objects beside it by their keys, and `turns` is the
     quantum, where that is known."""
-    total = thing.useful + thing.useless
+    total = obj.useful + obj.useless
     if is_counted and not total:
         return "none needed: its lines are invalidated, but no thread misses them again"
-    if is_counted and not words and thing.useless:
+    if is_counted and not words and obj.useless:
         return "unknown: to see its words, lower the thresholds (`--set tracking=1,report=1`)"
-    own, truth = [it for it in words if is_shared(it) and it.key == thing.key], is_true(
-        thing, is_counted
+    own, truth = [it for it in words if is_shared(it) and it.key == obj.key], is_true(
+        obj, is_counted
     )
-    if truth and (not is_counted or thing.useless * SELDOM < thing.useful):
-        return true_sharing_sentence(thing, words, own, is_counted) + in_turns(thing, words, turns)
-    what = split_sentence(words, thing, names, size, element)
+    if truth and (not is_counted or obj.useless * SELDOM < obj.useful):
+        return true_sharing_sentence(obj, words, own, is_counted) + in_turns(obj, words, turns)
+    what = split_sentence(words, obj, names, size, element)
     if not is_counted:
         return what
-    saved, packed = f"saves up to {thing.useless:,} of {total:,} misses", bytewise(own)
+    saved, packed = f"saves up to {obj.useless:,} of {total:,} misses", bytewise(own)
     more = f", or more: several fields or elements lie in one word of {packed}" if packed else ""
     if not truth or packed and mostly_packed(own):
-        return f"{what}; {saved}{more}" + ("" if packed else cost(thing, words))
-    shared = mostly_written(own) or thing.name
-    less = f"write {shared} less often ({thing.useful:,} of {total:,} misses are true sharing)"
-    return f"{less}; to save up to {thing.useless:,} more, {what}{more}"
+        return f"{what}; {saved}{more}" + ("" if packed else cost(obj, words))
+    shared = mostly_written(own) or obj.name
+    less = f"write {shared} less often ({obj.useful:,} of {total:,} misses are true sharing)"
+    return f"{less}; to save up to {obj.useless:,} more, {what}{more}"

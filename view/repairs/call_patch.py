@@ -26,7 +26,7 @@ def patch_text(view: View) -> str:
             tried.repair.edits and [*edits, *tried.repair.edits], source_finder(view)
         )
         if why:
-            view.notes.append(f"the patch leaves out {tried.thing.name}: {why}")
+            view.notes.append(f"the patch leaves out {tried.obj.name}: {why}")
         else:
             edits += tried.repair.edits or []
     return patch(edits, source_finder(view))

@@ -102,9 +102,9 @@ def with_all_variables(
     inner = [it for it in chosen if it[1].kind != "line" or it[0].is_blocks()]
     changed = [of for of, _ in inner]
     plain = [
-        it
-        for it in subjects
-        if not it.is_blocks() and it not in changed and not is_changed(it, types)
+        subject
+        for subject in subjects
+        if not subject.is_blocks() and subject not in changed and not is_changed(subject, types)
     ]
     plain.sort(key=lambda it: it.ranges[0])
     return [*inner, *((it, line_option(it, line)) for it in plain)]

@@ -169,7 +169,8 @@ def lay_out_record(
             )
             at, most = round_up(at, alignment), max(most, alignment)
             parts += [
-                MovedRange(member.begin + it.begin, it.size, at + it.to) for it in inner.parts
+                MovedRange(member.begin + part.begin, part.size, at + part.to)
+                for part in inner.parts
             ]
             at += inner.size
     return NewLayout(round_up(at, most), most, parts)

@@ -164,23 +164,16 @@ class Search:
             if self.best_choice() is best:
                 break
         best = choose(self.found.values(), self.before)
-        rest = (
-            it.repair
-            for it in [
-                choose(
-                    (
-                        it
-                        for it in self.found.values()
-                        if best and it.repair.is_in_place != best.repair.is_in_place
-                    ),
-                    self.before,
-                )
-            ]
-            if it is not None and it.misses < self.before
-        )
+        # (the best repair of the other kind, in place or not)
+        others = [
+            one
+            for one in self.found.values()
+            if best and one.repair.is_in_place != best.repair.is_in_place
+        ]
+        other = choose(others, self.before)
         return Found(
             best.repair if best else None,
-            next(rest, None),
+            other.repair if other and other.misses < self.before else None,
             self.bound(),
             best.misses if best else self.before,
             len(self.found),

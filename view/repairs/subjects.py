@@ -78,14 +78,14 @@ class Subject:
 
     def __init__(
         self,
-        thing: DataObject,
+        obj: DataObject,
         name: str,
         ranges: Sequence[tuple[int, int]],
         shape: Shape | None,
         die: Die = None,
     ) -> None:
-        self.thing, self.name, self.ranges, self.shape, self.die = (
-            thing,
+        self.obj, self.name, self.ranges, self.shape, self.die = (
+            obj,
             name,
             list(ranges),
             shape,
@@ -108,11 +108,11 @@ class Subject:
             yield from range(begin // 4 * 4, begin + size, 4)
 
     def is_blocks(self) -> bool:
-        return not isinstance(self.thing.key, SymbolKey) or self.is_body()
+        return not isinstance(self.obj.key, SymbolKey) or self.is_body()
 
     def is_body(self) -> bool:
         """Whether it is a variable that a compiler has made of the one block that a pointer points to."""
-        return isinstance(self.thing.key, SymbolKey) and self.name.endswith(".body")
+        return isinstance(self.obj.key, SymbolKey) and self.name.endswith(".body")
 
     def site(self) -> str:
         """The source line that makes its blocks, or its name."""
@@ -136,8 +136,8 @@ class Subject:
         return self.new_name("_".join([*parts, "line"]) if parts else "own_line", path)
 
     def new_name(self, name: str, of: object) -> str:
-        """A name that nothing else has, and that for one thing is always the same."""
-        key = (self.thing.key, of)
+        """A name that nothing else has, and that for one object is always the same."""
+        key = (self.obj.key, of)
         for number in range(1, len(self.wrappers) + 2):
             found = name if number == 1 else f"{name}_{number}"
             if self.wrappers.setdefault(found, key) == key:
@@ -225,14 +225,15 @@ def pointer_text(die: Die) -> str:
 
 def objects_by_line(view: View) -> Iterator[tuple[ObjectLine, dict[Key, Symbol | Block]]]:
     """The worst lines of the first objects, each with the variables and blocks on it by their keys."""
-    for thing in view.objects[:MAX_SEEN]:
-        for spot in thing.worst_lines():
+    for obj in view.objects[:MAX_SEEN]:
+        for spot in obj.worst_lines():
             yield spot, {
-                object_key(it, view.naming, spot.base): it for it in reversed(spot.objects())
+                object_key(example, view.naming, spot.base): example
+                for example in reversed(spot.objects())
             }
 
 
-def symbol_subject(view: View, thing: DataObject, symbol: Symbol) -> Subject:
+def symbol_subject(view: View, obj: DataObject, symbol: Symbol) -> Subject:
     program = view.naming.program
     variable = program.variable(symbol.addr) if program else None
     shape = Shape(variable.type) if variable is not None and variable.type is not None else None
@@ -241,21 +242,21 @@ def symbol_subject(view: View, thing: DataObject, symbol: Symbol) -> Subject:
         shape = None
     die = variable.dies[0] if variable is not None else None
     return Subject(
-        thing, view.label(thing) if thing.name else symbol.name, [(symbol.addr, size)], shape, die
+        obj, view.label(obj) if obj.name else symbol.name, [(symbol.addr, size)], shape, die
     )
 
 
 def blocks_subject(
-    view: View, thing: DataObject, example: Block, spots: Iterable[ObjectLine]
+    view: View, obj: DataObject, example: Block, spots: Iterable[ObjectLine]
 ) -> Subject:
     ranges: set[tuple[int, int]] = set()
     for spot in spots:
-        for obj in spot.objects():
-            if isinstance(obj, Block) and object_key(obj, view.naming, spot.base) == thing.key:
-                ranges.add((obj.addr, obj.size))
+        for block in spot.objects():
+            if isinstance(block, Block) and object_key(block, view.naming, spot.base) == obj.key:
+                ranges.add((block.addr, block.size))
     of = value_or_default(lambda: view.naming.type_of_block(example), None)
     shape = Shape(of) if of is not None and size_of(of) else None
-    found = Subject(thing, view.label(thing), join_ranges(ranges), shape)
+    found = Subject(obj, view.label(obj), join_ranges(ranges), shape)
     found.is_bytes = shape is None and view.naming.blocks.is_byte_block(example)
     return found
 
@@ -271,40 +272,40 @@ def join_ranges(ranges: Iterable[tuple[int, int]]) -> list[tuple[int, int]]:
     return found
 
 
-def is_declarable(thing: DataObject, view: View) -> bool:
+def is_declarable(obj: DataObject, view: View) -> bool:
     """Whether an object is one of the program's own: a variable or blocks, and no thread's own memory."""
-    example = thing.example
-    return not is_foreign(thing, view.naming) and (
+    example = obj.example
+    return not is_foreign(obj, view.naming) and (
         isinstance(example, Symbol)
         or isinstance(example, Block)
         and not (example.sites and example.sites[0].name == THREAD_LOCALS)
     )
 
 
-def make_subject(view: View, thing: DataObject, spots: Iterable[ObjectLine]) -> Subject | None:
-    example = thing.example
-    if example is None or not is_declarable(thing, view):
+def make_subject(view: View, obj: DataObject, spots: Iterable[ObjectLine]) -> Subject | None:
+    example = obj.example
+    if example is None or not is_declarable(obj, view):
         return None
     found = (
-        symbol_subject(view, thing, example)
+        symbol_subject(view, obj, example)
         if isinstance(example, Symbol)
-        else blocks_subject(view, thing, example, spots)
+        else blocks_subject(view, obj, example, spots)
     )
     found.owner = view.naming.memory.owner
     return found if 0 < found.size() <= MAX_SUBJECT_BYTES else None
 
 
 def subject_of(
-    view: View, thing: DataObject, uses: WordUses, wrappers: dict[str, tuple[object, ...]]
+    view: View, obj: DataObject, uses: WordUses, wrappers: dict[str, tuple[object, ...]]
 ) -> Subject | None:
     """An object as it may be laid out anew, with those beside it that are used most, or none: what lies on a stack, in no object or in a
     library is nothing that the program declares. `wrappers` are the names of structs that the call has given.
     """
-    found = make_subject(view, thing, thing.lines)
+    found = make_subject(view, obj, obj.lines)
     if found is None:
         return None
     found.wrappers = wrappers
-    beside = [(own, used_much(own, uses)) for own in subjects_beside(view, thing)]
+    beside = [(own, used_much(own, uses)) for own in subjects_beside(view, obj)]
     used = sorted((it for it in beside if it[1]), key=lambda it: -it[1])
     for own, _ in used:
         own.wrappers = wrappers
@@ -313,15 +314,15 @@ def subject_of(
     return found
 
 
-def subjects_beside(view: View, thing: DataObject) -> list[Subject]:
+def subjects_beside(view: View, obj: DataObject) -> list[Subject]:
     """The objects that share lines with one, and those that share lines with these, as far as they can be declared otherwise."""
-    found: dict[Key, Subject | None] = {thing.key: None}
+    found: dict[Key, Subject | None] = {obj.key: None}
     lines = list(objects_by_line(view))
-    todo: list[Key] = [thing.key]
+    todo: list[Key] = [obj.key]
     while todo:
         key = todo.pop(0)
-        for _, things in (it for it in lines if key in it[1]):
-            for other, example in things.items():
+        for _, objects in (it for it in lines if key in it[1]):
+            for other, example in objects.items():
                 if other in found or len(found) >= MAX_SEEN:
                     continue
                 own = view.objects_by_key.get(other) or DataObject(other, example)
@@ -349,5 +350,6 @@ def field_patterns(
 ) -> dict[str, tuple[Sharing, ...]]:
     """Whose each field is, in each of the records that begin at some places."""
     return {
-        it.name: tuple(sharing_of(uses, at + it.begin, it.size) for at in begins) for it in members
+        member.name: tuple(sharing_of(uses, at + member.begin, member.size) for at in begins)
+        for member in members
     }

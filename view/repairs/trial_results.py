@@ -48,7 +48,7 @@ class Trial:
 
     def __init__(
         self,
-        thing: DataObject,
+        obj: DataObject,
         before: TrialCount,
         accesses: int,
         subject: Subject | None = None,
@@ -56,8 +56,8 @@ class Trial:
         own_misses_in_part: int | None = None,
         recorded: int | None = None,
     ) -> None:
-        self.thing, self.before, self.accesses, self.subject, self.uses = (
-            thing,
+        self.obj, self.before, self.accesses, self.subject, self.uses = (
+            obj,
             before,
             accesses,
             subject,
@@ -83,7 +83,7 @@ class Trial:
 
     def own_misses(self) -> int:
         return (
-            self.thing.useless + self.thing.useful
+            self.obj.useless + self.obj.useful
             if self.own_misses_in_part is None
             else self.own_misses_in_part
         )
@@ -118,7 +118,7 @@ class Trial:
 
     def is_named(self) -> bool:
         """Whether the best repair is this object's fix: it saves enough, and the object isn't one that threads share alone."""
-        is_own = self.thing.useless > 0 or self.is_rare() or bool(self.mixed_words())
+        is_own = self.obj.useless > 0 or self.is_rare() or bool(self.mixed_words())
         return self.is_saving() and is_own
 
     def all_misses_left(self) -> int:
@@ -216,7 +216,7 @@ class Trial:
         if names:
             return f"{self.instead}, then run again, {mixed}"
         where = f" at this interleaving (quantum {quantum:,})" if quantum else " on this trace"
-        less = "; write shared data less often" if self.thing.useful >= self.thing.useless else ""
+        less = "; write shared data less often" if self.obj.useful >= self.obj.useless else ""
         if self.bound is None:
             return f"unknown: no layout that was tried helps{where}, and not all words could be separated"
         if self.is_much(self.saved_by(self.bound)):

@@ -236,9 +236,9 @@ class TrialRunner:
         total = dict(misses.total)
         changes = [own for it, own in self.view.byte_changes.items() if it not in left]
         changes += [
-            own.useless - misses.lines[it].useless
-            for it, own in by_bytes.items()
-            if it in misses.lines
+            own.useless - misses.lines[base].useless
+            for base, own in by_bytes.items()
+            if base in misses.lines
         ]
         if self.is_whole:
             total["useless"] += sum(changes)
@@ -281,16 +281,16 @@ class TrialGround(NamedTuple):
     recorded: int
     in_part: Misses | None = None
 
-    def trial_of(self, thing: DataObject, subject: Subject) -> Trial:
+    def trial_of(self, obj: DataObject, subject: Subject) -> Trial:
         own = None
         if self.in_part is not None:
             there = [
                 self.in_part.lines[spot.base]
-                for spot in thing.lines
+                for spot in obj.lines
                 if spot.base in self.in_part.lines
             ]
             own = sum(it.useless + it.useful for it in there)
-        return Trial(thing, self.before, self.accesses, subject, self.uses, own, self.recorded)
+        return Trial(obj, self.before, self.accesses, subject, self.uses, own, self.recorded)
 
 
 def whole_ground(
@@ -307,13 +307,13 @@ def whole_ground(
 
 
 def part_ground(
-    view: View, predator: Predator, things: Sequence[DataObject], folder: str
+    view: View, predator: Predator, objects: Sequence[DataObject], folder: str
 ) -> TrialGround | None:
     """The first part of a long trace in which the objects are contended."""
     trace = view.call.trace_file()
     if trace is None or not can_move(view, predator):
         return None
-    worst = (it.worst_line().line_with_words() for it in things)
+    worst = (it.worst_line().line_with_words() for it in objects)
     start = max((line.start for line in worst if line), default=0)
     part, front = (os.path.join(folder, it) for it in ("part", "first"))
     accesses = write_prefix(trace, start + PART_ACCESSES, part)
@@ -351,14 +351,14 @@ def count_before(view: View) -> TrialCount:
 
 
 def try_objects(
-    view: View, predator: Predator | None, things: Sequence[DataObject], reading: UsesFuture
+    view: View, predator: Predator | None, objects: Sequence[DataObject], reading: UsesFuture
 ) -> None:
     """Tries the repairs of the first objects, where the program can move words and the trace can be read again."""
     if predator is None or view.misses is None:
         return
     before = count_before(view)
-    tried = {it.key: Trial(it, before, view.accesses) for it in things}
-    worth = [it for it in things if not tried[it.key].is_rare() and is_worth_trying(it, before)][
+    tried = {it.key: Trial(it, before, view.accesses) for it in objects}
+    worth = [it for it in objects if not tried[it.key].is_rare() and is_worth_trying(it, before)][
         :MAX_TRIED_OBJECTS
     ]
     with tempfile.TemporaryDirectory(prefix="predator-view-") as folder, contextlib.suppress(
@@ -379,11 +379,11 @@ def try_objects(
                 " --whole records all accesses"
             )
             return
-        for thing in worth[: max(ACCESS_BUDGET // max(ground.recorded, 1), 1)]:
+        for obj in worth[: max(ACCESS_BUDGET // max(ground.recorded, 1), 1)]:
             subject = value_or_default(
-                functools.partial(subject_of, view, thing, ground.uses, wrappers), None
+                functools.partial(subject_of, view, obj, ground.uses, wrappers), None
             )
-            own = ground.trial_of(thing, subject) if subject is not None else None
+            own = ground.trial_of(obj, subject) if subject is not None else None
             if subject is not None and own is not None and own.own_misses():
                 found.append(
                     choose_repair(ground.trial, own, subject, ground.uses, view.report.size)
@@ -391,12 +391,12 @@ def try_objects(
         counted = count_repairs(ground.trial, found)
         note_same_repairs(found)
         note_joint_result(view, found, counted)
-        view.trials.update((it.thing.key, it) for it in found)
+        view.trials.update((it.obj.key, it) for it in found)
 
 
-def is_worth_trying(thing: DataObject, before: TrialCount) -> bool:
+def is_worth_trying(obj: DataObject, before: TrialCount) -> bool:
     """Whether an object has a part of the misses that is worth a look."""
-    return (thing.useless + thing.useful) * advice.LITTLE >= before.sharing_misses() > 0
+    return (obj.useless + obj.useful) * advice.LITTLE >= before.sharing_misses() > 0
 
 
 def choose_repair(
@@ -491,9 +491,9 @@ def note_same_repairs(found: Sequence[Trial]) -> None:
     instead: dict[int, Trial] = {}
     for own in named:
         better = [
-            it
-            for it in named
-            if it.covers(own) and (not own.covers(it) or order[id(it)] < order[id(own)])
+            trial
+            for trial in named
+            if trial.covers(own) and (not own.covers(trial) or order[id(trial)] < order[id(own)])
         ]
         if better:
             instead[id(own)] = min(better, key=lambda it: (it.all_misses_left(), order[id(it)]))
@@ -503,7 +503,7 @@ def note_same_repairs(found: Sequence[Trial]) -> None:
             last = other
             seen.add(id(other))
         if last is not own:
-            own.same_as = last.thing
+            own.same_as = last.obj
 
 
 def note_joint_result(view: View, found: Sequence[Trial], counted: TrialCount | None) -> None:

@@ -108,23 +108,30 @@ class Machine:
         with open(path, "rb") as file:
             elf = ELFFile(file)
             self.segments = [
-                it for it in elf.iter_segments() if it["p_type"] == "PT_LOAD" and it["p_memsz"]
+                segment
+                for segment in elf.iter_segments()
+                if segment["p_type"] == "PT_LOAD" and segment["p_memsz"]
             ]
             self.low = min(it["p_vaddr"] for it in self.segments) // 4096 * 4096
             self.memory = bytearray(settings["memory"])
-            for it in self.segments:
-                at = it["p_vaddr"] - self.low
-                self.memory[at : at + it["p_filesz"]] = it.data()
+            for segment in self.segments:
+                at = segment["p_vaddr"] - self.low
+                self.memory[at : at + segment["p_filesz"]] = segment.data()
             table = elf.get_section_by_name(".symtab")
             kinds = {"STT_OBJECT": 1, "STT_FUNC": 2}
             kept = [
-                it
-                for it in (table.iter_symbols() if table else ())
-                if it["st_info"]["type"] in kinds and it["st_size"]
+                symbol
+                for symbol in (table.iter_symbols() if table else ())
+                if symbol["st_info"]["type"] in kinds and symbol["st_size"]
             ]
             self.symbols = [
-                (kinds[it["st_info"]["type"]], it["st_value"], it["st_size"], it.name.encode())
-                for it in kept
+                (
+                    kinds[symbol["st_info"]["type"]],
+                    symbol["st_value"],
+                    symbol["st_size"],
+                    symbol.name.encode(),
+                )
+                for symbol in kept
             ]
             entry = elf["e_entry"]
         self.settings, self.top = settings, self.low + settings["memory"]
@@ -160,9 +167,9 @@ class Machine:
         at = self.place(addr, size, 7)
         self.accesses.append((number, addr, True, size, pc))
         self.memory[at : at + size] = (value & (1 << 8 * size) - 1).to_bytes(size, "little")
-        for other, it in enumerate(self.harts):
-            if other != number and it.held == addr // 4 * 4:
-                it.held = None
+        for other, hart in enumerate(self.harts):
+            if other != number and hart.held == addr // 4 * 4:
+                hart.held = None
 
     def run(self):
         turn, last, budget = 0, None, self.settings["budget"]
@@ -340,6 +347,6 @@ class Machine:
 
     def wake(self, _hart, addr, most, *_):
         woken = [it for it in self.harts if it.phase == WAITS and it.of == addr][:most]
-        for it in woken:
-            it.phase = RUNS
+        for hart in woken:
+            hart.phase = RUNS
         return len(woken)

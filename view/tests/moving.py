@@ -100,16 +100,16 @@ def moved(trace, table, found=None):
     """The moved trace, piece by piece, each with whether it is an access and was moved; `found` is what a filtered one says of itself."""
     version, before, pcs, end = int(trace[6:8]), 0, {}, 20
     yield trace[:20], None
-    for begin, end, it in traces.located_records(trace):
-        if not isinstance(it, traces.Access):
+    for begin, end, record in traces.located_records(trace):
+        if not isinstance(record, traces.Access):
             yield trace[begin:end], None
             continue
-        to = table.place(it.addr)
-        if to is None and table.is_place(it.addr):
-            raise Refused(f"table Occupied {it.addr:#010x}")
-        access = it if to is None else it._replace(addr=to)
-        if found and filtered.is_far(it.addr, access.addr, table.ranges, found.k):
-            raise Refused(f"table Far {it.addr:#010x}")
+        to = table.place(record.addr)
+        if to is None and table.is_place(record.addr):
+            raise Refused(f"table Occupied {record.addr:#010x}")
+        access = record if to is None else record._replace(addr=to)
+        if found and filtered.is_far(record.addr, access.addr, table.ranges, found.k):
+            raise Refused(f"table Far {record.addr:#010x}")
         yield spelled(version, (trace[begin], trace[end - 1]), access, before, pcs), to is not None
         before = access.addr
     yield trace[end:], None

@@ -55,9 +55,9 @@ OWN = [
 ]
 
 
-def number(it: int) -> bytes:
+def number(value: int) -> bytes:
     """A number of seven bits a byte."""
-    return bytes([it]) if it < 0x80 else bytes([it & 0x7F | 0x80]) + number(it >> 7)
+    return bytes([value]) if value < 0x80 else bytes([value & 0x7F | 0x80]) + number(value >> 7)
 
 
 def encoded(steps: Steps) -> bytes:
@@ -111,12 +111,12 @@ class Made:
         )
         places = [self.places_of(function) for function in own]
         units = b"".join(
-            struct.pack("<I", MISSING if it is None else self.files.text(it)) for it in FILES
+            struct.pack("<I", MISSING if file is None else self.files.text(file)) for file in FILES
         )
         self.places = [TABLE + (64 if self.is_wide else 72)]
-        for it in (self.names.data, units, self.files.data, self.values.data):
-            self.put(self.places[-1], it)
-            self.places.append((self.places[-1] + len(it) + 7) // 8 * 8)
+        for data in (self.names.data, units, self.files.data, self.values.data):
+            self.put(self.places[-1], data)
+            self.places.append((self.places[-1] + len(data) + 7) // 8 * 8)
         self.tree = TABLE + 0x1000
         self.put(self.tree, self.trees.data)
         self.head()
@@ -128,13 +128,14 @@ class Made:
     def places_of(self, own: Own) -> tuple[int, int, int, int, int]:
         """Where a function's name, files, lines, tables of inlined calls and tree are."""
         found = [
-            self.values.put(encoded(it)) if it else 0 for it in (own.files, own.lines, own.index)
+            self.values.put(encoded(values)) if values else 0
+            for values in (own.files, own.lines, own.index)
         ]
         calls = [(self.names.text(name), place) for name, place in own.calls]
         how = struct.Struct("<4xIi4x") if self.version == "1.20" else struct.Struct("<hxxiiIi")
         tree = b"".join(
-            how.pack(*it) if self.version == "1.20" else how.pack(at - 1, 0, 0, *it)
-            for at, it in enumerate(calls)
+            how.pack(*call) if self.version == "1.20" else how.pack(at - 1, 0, 0, *call)
+            for at, call in enumerate(calls)
         )
         return (
             self.names.text(own.name),
@@ -231,7 +232,7 @@ class Made:
             tags = ((36, MOVES), (35, len(relocations)))
         else:
             relocations = b"".join(
-                struct.pack("<QQq", it, 8, to) for it, to in self.pointers.items()
+                struct.pack("<QQq", addr, 8, to) for addr, to in self.pointers.items()
             )
             tags = ((7, MOVES), (8, len(relocations)))
         return relocations, b"".join(struct.pack("<QQ", *it) for it in (*tags, (0, 0)))
@@ -261,9 +262,9 @@ class Made:
             *(0, 64, 56, len(segments), 64, 0, 0),
         )
         table, body = b"", b""
-        for it, rights, addr, data in segments:
+        for p_type, rights, addr, data in segments:
             table += struct.pack(
-                "<IIQQQQQQ", it, rights, place + len(body), addr, addr, len(data), len(data), 8
+                "<IIQQQQQQ", p_type, rights, place + len(body), addr, addr, len(data), len(data), 8
             )
             body += data
         return head + table + body

@@ -104,11 +104,11 @@ def convert(names):
     """As version 1, where the command writes version 2 of version 1."""
     trace = read_trace("convert", names, {})[0]
     parts, place = [b"PRDTRC01" + trace[8:20]], 20
-    for begin, place, it in traces.located_records(trace):
-        is_access = isinstance(it, traces.Access)
+    for begin, place, record in traces.located_records(trace):
+        is_access = isinstance(record, traces.Access)
         size = trace[begin] & 15
         parts.append(
-            struct.pack("<BHIB", 1 + it.writes, it.hart, it.addr, size)
+            struct.pack("<BHIB", 1 + record.writes, record.hart, record.addr, size)
             if is_access
             else trace[begin:place]
         )
@@ -120,11 +120,11 @@ def convert(names):
 def case_of(trace, settings, options):
     """A trace as judge_report has it."""
     accesses, records = [], []
-    for it in traces.read_records(trace):
-        if isinstance(it, (traces.Symbol, traces.Alloc, traces.Free)):
-            records.append((len(accesses), it))
+    for record in traces.read_records(trace):
+        if isinstance(record, (traces.Symbol, traces.Alloc, traces.Free)):
+            records.append((len(accesses), record))
         else:
-            accesses.append(judge_report.Access(it[0], it[2], it[1], 1))
+            accesses.append(judge_report.Access(record[0], record[2], record[1], 1))
     outcome, cause, hart, value, steps = struct.unpack("<BBHIQ", trace[-24:-8])
     trap = f"trap hart {hart} pc {value:#010x} {judge_report.CAUSES[cause - 1]}"
     ending = judge_report.Ending(
@@ -141,7 +141,7 @@ def case_of(trace, settings, options):
 def case_under(settings, accesses, records, ending, layout=None):
     prediction = settings.get("prediction", max(64, settings["tracking"]))
     harts, tracking, report, native = (
-        settings[it] for it in ("harts", "tracking", "report", "line")
+        settings[name] for name in ("harts", "tracking", "report", "line")
     )
     return judge_report.Case(
         accesses, records, ending, harts, tracking, prediction, report, native, layout
@@ -175,7 +175,7 @@ def case_of_run(machine):
     """What a run did, as judge_report has it."""
     kinds = {"alloc": traces.Alloc, "free": traces.Free}
     records = [(0, traces.Symbol(*it)) for it in machine.symbols] + [
-        (at, kinds[it[0]](*it[1:])) for at, it in machine.records
+        (at, kinds[record[0]](*record[1:])) for at, record in machine.records
     ]
     accesses = [
         judge_report.Access(hart, writes, addr, size)
@@ -234,9 +234,9 @@ def explain(names, options):
     for pc, own in sorted(sites.items()):
         name = next(
             (
-                it[3].decode()
-                for it in machine.symbols
-                if it[0] == 2 and it[1] <= pc < it[1] + it[2]
+                symbol[3].decode()
+                for symbol in machine.symbols
+                if symbol[0] == 2 and symbol[1] <= pc < symbol[1] + symbol[2]
             ),
             "-",
         )
@@ -292,7 +292,8 @@ def sweep(names, options):
     size = int(options["--size"])
     trace, found = read_trace("sweep", names, options)
     accesses = [
-        (it[0], it[2], it[1]) for it in case_of(trace, settings_of(options), options).accesses
+        (access[0], access[2], access[1])
+        for access in case_of(trace, settings_of(options), options).accesses
     ]
     totals = []
     for shift in range(0, size, 4):
@@ -327,7 +328,8 @@ def main(words):
         if name not in LACKS and (name not in ("move", "convert") or HAS_MOVE)
     }
     works = {
-        it.__name__: it for it in (run, replay, check, misses, blame, explain, place, sweep, caches)
+        work.__name__: work
+        for work in (run, replay, check, misses, blame, explain, place, sweep, caches)
     }
     if not words or words[0] not in known:
         print(*(f"usage: predator {name} {told}" for name, told in known.items()), sep="\n")

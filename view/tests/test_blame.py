@@ -65,8 +65,8 @@ class Shown(unittest.TestCase):
         return os.path.join(self.folder, name)
 
     def shows(self, text, *parts):
-        for it in parts:
-            self.assertIn(it, joined(text))
+        for part in parts:
+            self.assertIn(part, joined(text))
 
     def calls(self, *words, program=STAND_IN, **more):
         """The status of a call of view, its text, and the commands of the program that it made."""
@@ -113,13 +113,13 @@ class Guests(Traces):
         for name in ("ring", "arena", "flags"):
             self.record(name, "--pcs")
             _, found = self.found("--program", built(f"{name}.elf"), "--words")
-            for thing in found["objects"]:
+            for obj in found["objects"]:
                 base = max(
-                    thing["lines"],
-                    key=lambda it: (
-                        it["false_sharing"],
-                        it["reported_invalidations"] or 0,
-                        -int(it["base"], 16),
+                    obj["lines"],
+                    key=lambda line: (
+                        line["false_sharing"],
+                        line["reported_invalidations"] or 0,
+                        -int(line["base"], 16),
                     ),
                 )["base"]
                 words = ["explain", built(f"{name}.elf"), base, "64", "0", *TURNS]
@@ -128,20 +128,20 @@ class Guests(Traces):
                 ).stdout.split("\n")
                 pairs = [it.split()[1:] for it in rows if it.startswith("pair ")]
                 wanted = sorted(
-                    (int(it[5]) - int(it[3]), -int(it[3]), it[0], it[1]) for it in pairs
+                    (int(pair[5]) - int(pair[3]), -int(pair[3]), pair[0], pair[1]) for pair in pairs
                 )[:8]
                 fights = [
                     (
-                        it["same_word"] - it["invalidations"],
-                        -it["invalidations"],
-                        *(it[one]["address"] for one in ROLES),
+                        conflict["same_word"] - conflict["invalidations"],
+                        -conflict["invalidations"],
+                        *(conflict[one]["address"] for one in ROLES),
                     )
-                    for it in thing["conflicts"]
+                    for conflict in obj["conflicts"]
                 ]
-                self.assertEqual(sorted(fights), wanted, (name, thing["name"]))
+                self.assertEqual(sorted(fights), wanted, (name, obj["name"]))
                 harts = [
-                    f"from {it['victim']} to {it['invalidator']} taken {it['invalidations']}"
-                    for it in thing["harts"]
+                    f"from {pair['victim']} to {pair['invalidator']} taken {pair['invalidations']}"
+                    for pair in obj["harts"]
                 ]
                 self.assertEqual(harts, [it for it in rows if it.startswith("from ")])
 
@@ -258,9 +258,9 @@ class Predictions(Shown):
                 with open(self.path("json"), encoding="utf-8") as file:
                     shown.append(
                         [
-                            (it["base"], it["size"], it["false_sharing"])
-                            for it in json.load(file)["predicted"]
-                            if it["shown"]
+                            (line["base"], line["size"], line["false_sharing"])
+                            for line in json.load(file)["predicted"]
+                            if line["shown"]
                         ]
                     )
             self.assertEqual(*shown, name)

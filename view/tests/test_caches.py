@@ -100,8 +100,8 @@ class CachesOfShapes(unittest.TestCase):
     def test_the_page_has_what_the_table_has(self):
         status, text, said = self.call("--shape", "64x16x2", "--shape=64x64x8", "--html", "-")
         self.assertEqual((status, said), (0, ""))
-        for it in (r"<script", r"https?:", r"""(src|href)=""", "<i>", "<b>&"):
-            self.assertNotRegex(text, it)
+        for pattern in (r"<script", r"https?:", r"""(src|href)=""", "<i>", "<b>&"):
+            self.assertNotRegex(text, pattern)
         self.assertIn("<h1>&lt;i&gt;t: 64-byte lines: 58 invalidations on 2 lines", text)
         self.assertIn("<th>2 KiB (64x16x2)</th><th>32 KiB (64x64x8)</th>", text)
         asked = [self.asked(it) for it in ("64x16x2", "64x64x8")]
@@ -136,8 +136,8 @@ class CachesOfShapes(unittest.TestCase):
         self.assertEqual(
             [(int(it[2]), int(it[3])) for it in found], [(it.bounded, it.evicted) for it in own]
         )
-        for it, (fill, frame, _, _) in zip(own, found):
-            drawn = bar(it.bounded, it.unbounded, greatest)
+        for count, (fill, frame, _, _) in zip(own, found):
+            drawn = bar(count.bounded, count.unbounded, greatest)
             self.assertEqual((int(fill), int(frame)), (drawn["fill"], drawn["frame"]))
         self.assertIn(f'<td class="n" data-of="infinite caches">{own[0].unbounded}</td>', row)
         self.assertEqual(
@@ -163,9 +163,9 @@ class CachesOfShapes(unittest.TestCase):
         self.assertNotIn("none in these", text)
         # (each write behind a read of another line, by the same hart)
         alone = [
-            it
+            access
             for at in range(20)
-            for it in (Access(at % 2, True, 0x2000, 4), Access(at % 2, False, 0x2040, 4))
+            for access in (Access(at % 2, True, 0x2000, 4), Access(at % 2, False, 0x2040, 4))
         ]
         self.write(alone)
         status, text, _ = self.call("--shape", "64x1x1", "--html", "-")
@@ -278,8 +278,8 @@ class Texts(unittest.TestCase):
 
     def test_a_million_lines(self):
         lines = "".join(
-            f"line {64 * it:#010x} bounded {it % 3} unbounded {2_000_000 - it} evicted 1\n"
-            for it in range(1_000_000)
+            f"line {64 * number:#010x} bounded {number % 3} unbounded {2_000_000 - number} evicted 1\n"
+            for number in range(1_000_000)
         )
         text = TEXT.format(1_000_000, lines, 999_999, 1_500_000_500_000)
         own = Sized([Caches(text, shape_of("64x1x1"), LINES)], {0: "n" * 300})

@@ -62,10 +62,10 @@ class Completion(unittest.TestCase):
         } - {*bare, *(f"--{it}" for it in FORMER)}
         for way in WAYS:
             taken = {
-                it
+                option
                 for own, has_value in ((bare, False), (valued, True))
-                for it in own
-                if takes(way, it, has_value)
+                for option in own
+                if takes(way, option, has_value)
             }
             self.assertEqual(sorted(self.offered("view", way, "subject", "--")), sorted(taken), way)
 

@@ -43,7 +43,8 @@ def sarif(path):
 def places(result):
     """The files and lines of a result."""
     found = [
-        it["physicalLocation"] for it in result["locations"] + result.get("relatedLocations", [])
+        location["physicalLocation"]
+        for location in result["locations"] + result.get("relatedLocations", [])
     ]
     return [(it["artifactLocation"]["uri"], it["region"]["startLine"]) for it in found]
 
@@ -107,23 +108,23 @@ class Files(unittest.TestCase):
                 jsonschema.validate(one, former, cls=jsonschema.Draft202012Validator)
                 jsonschema.validate(two, schema(), cls=jsonschema.Draft202012Validator)
                 self.assertEqual(list(one), former["required"])
-                for it in one["objects"]:
+                for obj in one["objects"]:
                     self.assertEqual(
-                        sorted(it), sorted([*former["$defs"]["object"]["required"], "repaired"])
+                        sorted(obj), sorted([*former["$defs"]["object"]["required"], "repaired"])
                     )
                 numbers = [
-                    (it["useless"], it["useful"], it["count"], it["beside"], len(it["fights"]))
-                    for it in one["objects"]
+                    (obj["useless"], obj["useful"], obj["count"], obj["beside"], len(obj["fights"]))
+                    for obj in one["objects"]
                 ]
                 wanted = [
                     (
-                        it["false_sharing"],
-                        it["true_sharing"],
-                        it["reported_invalidations"],
-                        it["neighbours"],
-                        len(it["conflicts"]),
+                        obj["false_sharing"],
+                        obj["true_sharing"],
+                        obj["reported_invalidations"],
+                        obj["neighbours"],
+                        len(obj["conflicts"]),
                     )
-                    for it in two["objects"]
+                    for obj in two["objects"]
                 ]
                 self.assertEqual(numbers, wanted)
             self.assertEqual(
@@ -148,8 +149,8 @@ class Files(unittest.TestCase):
         self.assertFalse(run["invocations"][0]["executionSuccessful"])
         self.assertEqual({it["level"] for it in run["results"]}, {"warning"})
         # (from this folder on, where the source is below it)
-        for it in run["results"]:
-            for uri, line in places(it):
+        for result in run["results"]:
+            for uri, line in places(result):
                 self.assertTrue(os.path.isfile(os.path.join(HERE, uri)), uri)
                 self.assertIn(line, range(1, 61))
         self.assertIn(("programs/odd.c", 22), places(run["results"][0]))
@@ -230,9 +231,9 @@ class Predicted(unittest.TestCase):
             with open(path, encoding="utf-8") as file:
                 found = json.load(file)["predicted"]
             self.assertTrue(found)
-            for it in found:
-                more = it["false_sharing"] > it["observed_false_sharing"]
-                self.assertEqual(it["shown"], more and not it["reason"])
+            for line in found:
+                more = line["false_sharing"] > line["observed_false_sharing"]
+                self.assertEqual(line["shown"], more and not line["reason"])
             self.assertEqual({it["kind"] for it in found if it["shown"]}, {"doubled"})
             self.assertTrue(
                 any("the data's alignment rules it out" in it["reason"] for it in found)
@@ -241,13 +242,13 @@ class Predicted(unittest.TestCase):
                 "with 128-byte lines at 0x00011000, 1,189 false-sharing misses instead of 0", text
             )
             told = [
-                it
-                for it in sarif(f"{path}.sarif")["results"]
-                if it["ruleId"] == "predicted-sharing"
+                result
+                for result in sarif(f"{path}.sarif")["results"]
+                if result["ruleId"] == "predicted-sharing"
             ]
             self.assertTrue(told)
-            for it in told:
-                self.assertEqual([uri for uri, _ in places(it)], ["file://" + built("apart.c")])
+            for result in told:
+                self.assertEqual([uri for uri, _ in places(result)], ["file://" + built("apart.c")])
 
 
 # Work of the same kind as view's with a report: a pattern for each row, its numbers, and an object that keeps them.
@@ -291,17 +292,17 @@ class Large(unittest.TestCase):
                 if at % 8:
                     rows.append(f"object symbol table 0x00010000 {64 * lines}")
                 else:
-                    for it in range(2):
+                    for number in range(2):
                         rows.append(
-                            f"object block 0x{base + 32 * it:08x} 32 born {at} died {at + 9}"
+                            f"object block 0x{base + 32 * number:08x} 32 born {at} died {at + 9}"
                         )
                         rows += [
-                            f"site 0x{0x10400 + 4 * (it + at // 8 % 10):08x} work",
+                            f"site 0x{0x10400 + 4 * (number + at // 8 % 10):08x} work",
                             "site 0x00010ab8 begin",
                         ]
                 rows += [
-                    f"word 0x{base + 32 * it:08x} reads 10 writes {it + 1} hart {it}"
-                    for it in range(2)
+                    f"word 0x{base + 32 * number:08x} reads 10 writes {number + 1} hart {number}"
+                    for number in range(2)
                 ]
                 file.write("\n".join(rows) + "\n")
             file.write("end\n")
@@ -354,12 +355,12 @@ class Program(unittest.TestCase):
                     self.seen(folder, name, **more)
                     for more in ({"STAND_IN_HAS": "move" * is_tried}, {"program": PROGRAM})
                 )
-                for it in (
+                for obj in (
                     (*found["objects"], *wanted["objects"])
                     if not is_tried and has(PROGRAM, "move")
                     else ()
                 ):
-                    it["fix"] = it["tried"] = it["who"] = None
+                    obj["fix"] = obj["tried"] = obj["who"] = None
                 if is_tried:
                     self.assertEqual(text, told)
                 if is_tried and name == "shards":
@@ -368,12 +369,13 @@ class Program(unittest.TestCase):
                         " ".join(told.split()),
                     )
                 by_name = [
-                    sorted(it.pop("objects"), key=lambda it: it["key"]) for it in (found, wanted)
+                    sorted(record.pop("objects"), key=lambda it: it["key"])
+                    for record in (found, wanted)
                 ]
                 self.assertEqual(*by_name, name)
                 notes = [
-                    [row for row in it.pop("notes") if not row.startswith("all fixes together")]
-                    for it in (found, wanted)
+                    [row for row in record.pop("notes") if not row.startswith("all fixes together")]
+                    for record in (found, wanted)
                 ]
                 self.assertEqual((one, found, notes[0]), (other, wanted, notes[1]), name)
 

@@ -45,7 +45,7 @@ def knows_filtered_traces(program):
                 file.write(content)
         calls = (["replay", "--size", "16", "--shift", "0", trace], ["move", trace, table, out])
         return all(
-            subprocess.run([program, *it], capture_output=True).returncode == 0 for it in calls
+            subprocess.run([program, *call], capture_output=True).returncode == 0 for call in calls
         )
 
 
@@ -99,8 +99,8 @@ class Traces(unittest.TestCase):
         lines = [
             sorted(
                 (line["base"], line["false_sharing"], line["true_sharing"], line["invalidations"])
-                for it in found["objects"]
-                for line in it["lines"]
+                for obj in found["objects"]
+                for line in obj["lines"]
             )
             for found in (whole, filtered)
         ]

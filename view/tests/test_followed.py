@@ -61,8 +61,8 @@ class Following(unittest.TestCase):
         text = self.source(name)
         before = self.look(self.build(name, text, flags), *words)
         first = next(it for it in before["objects"] if it["tried"])
-        for it in says:
-            self.assertIn(it, first["fix"].replace("`", ""), name)
+        for sentence in says:
+            self.assertIn(sentence, first["fix"].replace("`", ""), name)
         for old, new in edits:
             self.assertIn(old, text)
             text = text.replace(old, new)
@@ -259,8 +259,8 @@ class Followed(Following):
                 (
                     "produced, consumed, sent, received, most_sent, most_received;",
                     ", ".join(
-                        f"{it} {LINE}"
-                        for it in ("produced", "consumed", "sent", "received", "most_sent")
+                        f"{field} {LINE}"
+                        for field in ("produced", "consumed", "sent", "received", "most_sent")
                     )
                     + f", most_received {LINE};",
                 )

@@ -107,7 +107,8 @@ class Versions(OfBytes):
                 self.assertEqual(self.frames_of(Made("1.16", way, has_module=False)), FRAMES)
                 for version in ("1.18", "1.20"):
                     wanted = {
-                        at: [("", *it[0][1:])] if len(it) > 1 else it for at, it in FRAMES.items()
+                        at: [("", *frames[0][1:])] if len(frames) > 1 else frames
+                        for at, frames in FRAMES.items()
                     }
                     self.assertEqual(self.frames_of(Made(version, way, has_module=False)), wanted)
 
@@ -138,8 +139,12 @@ class Versions(OfBytes):
         self.assertIsNotNone(self.table(made))
         # (of another machine)
         self.assertIsNone(self.table(made, machine=183))
-        for it in ("/bin/sh", sys.executable, os.path.join(TOP, "guest", "built", "counters.elf")):
-            self.assertIsNone(find_table(it))
+        for path in (
+            "/bin/sh",
+            sys.executable,
+            os.path.join(TOP, "guest", "built", "counters.elf"),
+        ):
+            self.assertIsNone(find_table(path))
 
 
 class Strange(OfBytes):
@@ -211,14 +216,14 @@ class Strange(OfBytes):
             deep = inner + size
             for place, value in (
                 *(
-                    (it + name_at, value)
-                    for it in (inner, deep)
+                    (begin + name_at, value)
+                    for begin in (inner, deep)
                     for value in (12, 0x7FFFFFF, 0xFFFFFFFF)
                 ),
                 # (outside of the function; in itself; in one that isn't reported)
                 *(
-                    (it + place_at, value)
-                    for it in (inner, deep)
+                    (begin + place_at, value)
+                    for begin in (inner, deep)
                     for value in (64, 0xFFFFFFFF, 0x7FFFFFFF)
                 ),
                 *(
@@ -312,7 +317,7 @@ class Strange(OfBytes):
                 found = value_or_default(functools.partial(table.frames, TEXT + at), [])
                 # (all, or the line alone, or the function alone, or nothing)
                 line, function = [("", *it[1:]) for it in FRAMES[at][:1]], [
-                    (it[0], "", 0) for it in FRAMES[at][-1:]
+                    (frame[0], "", 0) for frame in FRAMES[at][-1:]
                 ]
                 self.assertIn(
                     [tuple(it) for it in found], (FRAMES[at], line, function, []), (size, at)
@@ -335,8 +340,8 @@ class Strange(OfBytes):
                         file.write(data)
                     native.go_tables = {}
                     for at in FRAMES:
-                        for it in native.go_frames(mock.Mock(path=self.path), TEXT + at):
-                            self.assertTrue(it.function or it.file)
+                        for frame in native.go_frames(mock.Mock(path=self.path), TEXT + at):
+                            self.assertTrue(frame.function or frame.file)
 
     def test_segments_without_end(self):
         """Few segments that repeat the whole file are read, and relocations of too many words end."""
@@ -411,7 +416,8 @@ class Native:
             path="/bin/sh", debug="/bin/sh"
         )
         self.go_table, self.go_frames = (
-            functools.partial(it, self) for it in (NativeProgram.go_table, NativeProgram.go_frames)
+            functools.partial(method, self)
+            for method in (NativeProgram.go_table, NativeProgram.go_frames)
         )
 
     def file(self, addr):
@@ -539,8 +545,8 @@ class Names(OfBytes):
 
     def test_memory_of_a_file(self):
         naming, native = self.naming()
-        thing = DataObject(FileKey("file", self.path), None)
-        self.assertTrue(is_unnamed(thing, naming))
+        obj = DataObject(FileKey("file", self.path), None)
+        self.assertTrue(is_unnamed(obj, naming))
         for pcs, wanted in (
             (
                 [TEXT, TEXT + 48],
@@ -552,9 +558,9 @@ class Names(OfBytes):
             ),
             ([TEXT + 176, TEXT + 176], f"memory of program, used at program+{TEXT + 176:#x}"),
         ):
-            thing.name = naming.object_name(thing.key, None)
-            name_by_users(thing, pcs, naming)
-            self.assertEqual(thing.name, wanted)
+            obj.name = naming.object_name(obj.key, None)
+            name_by_users(obj, pcs, naming)
+            self.assertEqual(obj.name, wanted)
 
     def test_what_counts_as_named(self):
         for name, wanted in (
@@ -644,9 +650,9 @@ class OfGo(unittest.TestCase):
         ).stdout.split("\n\n")
         found = [it for it in rows if re.match(rf"[0-9a-f]+ <{wanted}", it)]
         return [
-            int(it, 16)
+            int(addr, 16)
             for own in found
-            for it in re.findall(
+            for addr in re.findall(
                 r"^ +([0-9a-f]+):\s+(?!int3|nop|xchg|data16|cs )", own, re.MULTILINE
             )
         ]
@@ -658,8 +664,8 @@ class OfGo(unittest.TestCase):
         ).stdout.splitlines()
         for row in rows:
             yield [
-                (it["FunctionName"], os.path.normpath(it["FileName"]), it["Line"])
-                for it in json.loads(row)["Symbol"]
+                (frame["FunctionName"], os.path.normpath(frame["FileName"]), frame["Line"])
+                for frame in json.loads(row)["Symbol"]
             ]
 
     def test_the_same_as_by_debug_information(self):
@@ -671,7 +677,8 @@ class OfGo(unittest.TestCase):
             different, chains = [], set()
             for at, frames in zip(places, self.symbolized(whole, places), strict=True):
                 own = [
-                    (SHOWN.sub("[...]", it.function), it.file, it.line) for it in table.frames(at)
+                    (SHOWN.sub("[...]", frame.function), frame.file, frame.line)
+                    for frame in table.frames(at)
                 ]
                 chains.add(len(own))
                 wanted = [

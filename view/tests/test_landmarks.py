@@ -154,9 +154,9 @@ def functions(path):
     with open(path, "rb") as file:
         symbols = ELFFile(file).get_section_by_name(".symtab").iter_symbols()
         return {
-            it.name: (it["st_value"], it["st_value"] + it["st_size"])
-            for it in symbols
-            if it["st_size"]
+            symbol.name: (symbol["st_value"], symbol["st_value"] + symbol["st_size"])
+            for symbol in symbols
+            if symbol["st_size"]
         }
 
 
@@ -338,8 +338,8 @@ class Ways(Built):
         """A function with more than a few callers isn't named by any of them."""
         for count, more in ((16, 14), (17, None)):
             calls = "".join(
-                f'FUNCTION void f{it}(int *it) {{ called(it); said = "text number {it:02} of some"; }}'
-                for it in range(count)
+                f'FUNCTION void f{number}(int *it) {{ called(it); said = "text number {number:02} of some"; }}'
+                for number in range(count)
             )
             source = f"""
             #define FUNCTION __attribute__((noinline, noclone))
@@ -362,8 +362,8 @@ class Ways(Built):
     def test_where_nothing_is_called(self):
         """Without the unwind table a function that nothing calls is separated from the one before, and one with branches stays whole."""
         cases = " ".join(
-            f"case {it}: it[{it % 7}] += {it * it + 3}; return n * {it + 5} + it[{it}];"
-            for it in range(12)
+            f"case {number}: it[{number % 7}] += {number * number + 3}; return n * {number + 5} + it[{number}];"
+            for number in range(12)
         )
         source = f"""
         #define FUNCTION __attribute__((noinline, noclone))

@@ -56,8 +56,8 @@ class Messages(unittest.TestCase):
     def setUp(self):
         self.folder = tempfile.mkdtemp()
         self.addCleanup(shutil.rmtree, self.folder)
-        for it in ("ring", "arena"):
-            shutil.copy(built(f"{it}.elf"), self.folder)
+        for name in ("ring", "arena"):
+            shutil.copy(built(f"{name}.elf"), self.folder)
         with open(self.path("own"), "wb") as file:
             file.write(OWN)
         os.chmod(self.path("own"), 0o755)

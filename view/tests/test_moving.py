@@ -34,9 +34,9 @@ def whole():
     text, before, pcs = head + bytes.fromhex(SYMBOL), 0, {}
     for part in (FIRST, REST):
         own = head + bytes.fromhex(part) + end
-        for begin, end_of, it in traces.located_records(own):
-            text += moving.spelled(3, (own[begin], own[end_of - 1]), it, before, pcs)
-            before = it.addr
+        for begin, end_of, access in traces.located_records(own):
+            text += moving.spelled(3, (own[begin], own[end_of - 1]), access, before, pcs)
+            before = access.addr
     return text + end
 
 

@@ -69,8 +69,8 @@ def word(addr, reads, writes, hart):
 def made(useless, *lines, functions=("malloc", "make", "main"), useful=0):
     """A record of blocks that are made at some lines of ring.c."""
     sites = [
-        {"function": it, "file": "/src/ring.c" if it != "malloc" else "", "line": at}
-        for it, at in zip(functions, (0, *lines))
+        {"function": function, "file": "/src/ring.c" if function != "malloc" else "", "line": at}
+        for function, at in zip(functions, (0, *lines))
     ]
     key = "block " + " < ".join(functions[1:])
     return {
@@ -178,17 +178,15 @@ def used(name, at, useful, kind=WordKind(True, False), hart="many"):
 
 
 class Advised(unittest.TestCase):
-    def thing(self, useless, useful):
-        thing = DataObject(LOCK, Symbol("lock", 0x1000, 64))
-        thing.name, thing.useless, thing.useful = "lock", useless, useful
-        thing.lines.append(
-            ObjectLine(0x1000, None, SimpleNamespace(useless=useless, useful=useful))
-        )
-        return thing
+    def make_object(self, useless, useful):
+        obj = DataObject(LOCK, Symbol("lock", 0x1000, 64))
+        obj.name, obj.useless, obj.useful = "lock", useless, useful
+        obj.lines.append(ObjectLine(0x1000, None, SimpleNamespace(useless=useless, useful=useful)))
+        return obj
 
     def todo(self, *words, useless=0, useful=300, turns=100):
         return advice.sentence(
-            self.thing(useless, useful), words, {}, 64, True, lambda _: "", turns
+            self.make_object(useless, useful), words, {}, 64, True, lambda _: "", turns
         )
 
     def test_several_fields_in_a_word(self):
@@ -308,8 +306,8 @@ class Advised(unittest.TestCase):
             used("lock.b", 4, 90),
             used("near", 8, 0, hart="1")._replace(key=SymbolKey("symbol", "near", 8)),
         ]
-        thing = self.thing(200, 90)
-        told = advice.sentence(thing, words, {words[2].key: "near"}, 64, True, lambda _: "")
+        obj = self.make_object(200, 90)
+        told = advice.sentence(obj, words, {words[2].key: "near"}, 64, True, lambda _: "")
         self.assertIn(
             f"lock and near share lines: put {ALIGNED} after each name, and separate these groups",
             told,
@@ -317,7 +315,7 @@ class Advised(unittest.TestCase):
         self.assertIn("lock.a (several threads); lock.b (several threads)", told)
         self.assertNotIn(
             "separate these groups",
-            advice.sentence(thing, words[1:], {words[2].key: "near"}, 64, True, lambda _: ""),
+            advice.sentence(obj, words[1:], {words[2].key: "near"}, 64, True, lambda _: ""),
         )
 
 
@@ -329,16 +327,16 @@ class Objects(unittest.TestCase):
             "object symbol tail 0x00001004 4",
         ]
         view = view_of([*rows, word(0x1000, 1, 50, "hart 0"), word(0x1004, 9, 80, "hart 1")])
-        (thing,) = view.objects
+        (obj,) = view.objects
         self.assertEqual(
-            (thing.name, thing.count, [view.name_of(it) for it in thing.neighbours]),
+            (obj.name, obj.count, [view.name_of(it) for it in obj.neighbours]),
             ("tail", 200, ["head"]),
         )
         self.assertEqual(
-            view.details(thing).fix,
+            view.details(obj).fix,
             f"tail and head share lines: put {ALIGNED} after each name",
         )
-        self.assertIn("head", view.names_of(thing))
+        self.assertIn("head", view.names_of(obj))
 
     def test_lines_that_only_have_misses_count(self):
         rows = [
@@ -425,15 +423,15 @@ class Objects(unittest.TestCase):
             *words,
         ]
         view = view_of([], counted, each=each)
-        (thing,) = view.objects
-        self.assertEqual((thing.name, thing.count, thing.useless), ("b", 0, 500))
+        (obj,) = view.objects
+        self.assertEqual((obj.name, obj.count, obj.useless), ("b", 0, 500))
         self.assertEqual(
-            [(it.name, it.reads, it.writes, it.hart) for it in view.details(thing).words],
+            [(it.name, it.reads, it.writes, it.hart) for it in view.details(obj).words],
             [("a", 9, 1, "0"), ("b", 30, 40, "1")],
         )
         told = f"b and a share lines: put {ALIGNED} after each name; saves up to 500 of 501 misses"
-        self.assertEqual(view.details(thing).fix, told)
-        self.assertEqual((view.invalidations(thing), thing.count), (40, 0))
+        self.assertEqual(view.details(obj).fix, told)
+        self.assertEqual((view.invalidations(obj), obj.count), (40, 0))
 
     def test_one_row_for_a_call_site_that_makes_and_frees(self):
         rows = []
@@ -449,9 +447,9 @@ class Objects(unittest.TestCase):
                 ]
             rows += [word(0x2000 + 64 * at, 5, 50, "many")]
         view = view_of(rows)
-        (thing,) = view.objects
+        (obj,) = view.objects
         self.assertEqual(
-            (thing.name, len(thing.lines), len(thing.block_ids), thing.count),
+            (obj.name, len(obj.lines), len(obj.block_ids), obj.count),
             ("block made in make", 40, 1200, 40 * 300 - 780),
         )
         (shown,) = [it for it in screen(view, Paint(io.StringIO())) if "blocks)" in it]
@@ -530,8 +528,8 @@ class Objects(unittest.TestCase):
 
     def test_what_is_folded_is_found_once(self):
         rows = [
-            f"line observed {it:#010x} 64 start 0 count 9 verdict false"
-            for it in range(0x1000, 0x9000, 0x1000)
+            f"line observed {base:#010x} 64 start 0 count 9 verdict false"
+            for base in range(0x1000, 0x9000, 0x1000)
         ]
         view, calls = view_of(rows), []
         view.runtime_keys, folded = {view.objects[1].key, view.objects[4].key}, view.folded_objects
@@ -559,9 +557,9 @@ class Objects(unittest.TestCase):
             )
             text = "\n".join(screen(view_of(rows, misses), Paint(io.StringIO())))
             return [
-                " ".join(it.split())
-                for it in text.split("note: ")
-                if "true sharing of one object" in it
+                " ".join(note.split())
+                for note in text.split("note: ")
+                if "true sharing of one object" in note
             ]
 
         four = 9000 * 4 - 0x1000 * 4 - 0x40 * 6
@@ -619,8 +617,8 @@ class Objects(unittest.TestCase):
                 "site 0x00000300 _start",
             ]
         rows += [word(at, 5, 50, f"hart {at // 16 % 4}") for at in range(0x2000, 0x2040, 16)]
-        (thing,) = view_of(rows).objects
-        self.assertEqual((thing.name, len(thing.block_ids)), ("block made in make", 4))
+        (obj,) = view_of(rows).objects
+        self.assertEqual((obj.name, len(obj.block_ids)), ("block made in make", 4))
 
     def test_a_call_site_is_known_by_its_name_on_the_screen(self):
         rows = [
@@ -787,7 +785,7 @@ class Objects(unittest.TestCase):
         )
         self.assertEqual(len(group_predicted_lines(found)), 2)
         view.misses, view.objects_by_key = native, {
-            it: SimpleNamespace(name=f"o{it}") for it in range(5)
+            key: SimpleNamespace(name=f"o{key}") for key in range(5)
         }
         self.assertIn(
             "o0, o1, o2 and 2 more: with lines starting at 0x00001020, 10 false-sharing misses instead of 9; ",

@@ -30,10 +30,10 @@ def word(at, name, reads, writes, hart="many", useful=None, key=KEY):
 class Who(unittest.TestCase):
     def who(self, *words, uses=None, beside=()):
         """The row of an object that has some words; `uses` has of each word its reads and writes by its threads."""
-        thing = DataObject(KEY, Symbol("own", 0x1000, 64))
-        thing.name = "own"
-        thing.lines.append(ObjectLine(0x1000, None, None))
-        thing.neighbours.update(beside)
+        obj = DataObject(KEY, Symbol("own", 0x1000, 64))
+        obj.name = "own"
+        obj.lines.append(ObjectLine(0x1000, None, None))
+        obj.neighbours.update(beside)
         view = SimpleNamespace(
             filtered=None,
             trials=None,
@@ -50,7 +50,7 @@ class Who(unittest.TestCase):
             view.trials = {
                 KEY: SimpleNamespace(uses=SimpleNamespace(users_of=lambda it: own.get(it, {})))
             }
-        return describe_owners(view, thing)
+        return describe_owners(view, obj)
 
     def test_words_of_one_thread_each(self):
         words = [word(4 * it, f"own+{4 * it}" if it else "own", 3, 9, str(it)) for it in range(8)]
@@ -72,9 +72,9 @@ class Who(unittest.TestCase):
 
     def test_elements_of_one_thread_each(self):
         fields = [
-            word(16 * at + 4 * it, f"own[{at}].{name}", 0, 9, str(at))
+            word(16 * at + 4 * offset, f"own[{at}].{name}", 0, 9, str(at))
             for at in range(2)
-            for it, name in enumerate("ab")
+            for offset, name in enumerate("ab")
         ]
         self.assertEqual(
             self.who(*fields),

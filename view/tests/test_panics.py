@@ -113,9 +113,9 @@ def functions(path):
     with open(path, "rb") as file:
         symbols = ELFFile(file).get_section_by_name(".symtab").iter_symbols()
         return {
-            it.name: (it["st_value"], it["st_value"] + it["st_size"])
-            for it in symbols
-            if it["st_size"] or it.name == "bare"
+            symbol.name: (symbol["st_value"], symbol["st_value"] + symbol["st_size"])
+            for symbol in symbols
+            if symbol["st_size"] or symbol.name == "bare"
         }
 
 
@@ -349,22 +349,16 @@ class Names(unittest.TestCase):
             ([], False),
         ):
             block = Block(0x1000, 64, 0, None, tuple(Site(*it) for it in sites))
-            thing = DataObject(BlocksKey("block", ("0x40",)), block)
-            thing.name = naming.block_name(block.sites)
-            own = (
-                "block used at"
-                if not sites
-                else thing.name
-                if is_told
-                else f"{thing.name}, used at"
-            )
+            obj = DataObject(BlocksKey("block", ("0x40",)), block)
+            obj.name = naming.block_name(block.sites)
+            own = "block used at" if not sites else obj.name if is_told else f"{obj.name}, used at"
             self.assertEqual(
-                (naming.is_identified(block.sites), unnamed_memory.is_unnamed(thing, naming)),
+                (naming.is_identified(block.sites), unnamed_memory.is_unnamed(obj, naming)),
                 (is_told, not is_told),
             )
-            unnamed_memory.name_by_users(thing, [0x70, 0x10], naming)
+            unnamed_memory.name_by_users(obj, [0x70, 0x10], naming)
             used = "" if is_told else " fd+0x70 and fd+0x10 (near a panic at src/a.rs:7)"
-            self.assertEqual(thing.name, own + used)
+            self.assertEqual(obj.name, own + used)
 
     def test_what_counts_as_named(self):
         made = "block made in fd+0x40 < fd+0x10"

@@ -96,8 +96,8 @@ class Pictures(unittest.TestCase):
         with open(os.path.join(TOP, "README.md"), encoding="utf-8") as file:
             named = re.findall(r"\]\(docs/pictures/(\w+)\.png\)", file.read())
         self.assertEqual(sorted(named), sorted(pictures.PICTURES))
-        for it in named:
-            path = os.path.join(TOP, "docs/pictures", f"{it}.png")
+        for name in named:
+            path = os.path.join(TOP, "docs/pictures", f"{name}.png")
             with open(path, "rb") as file:
                 self.assertEqual(file.read(8), b"\x89PNG\r\n\x1a\n")
             self.assertLessEqual(os.path.getsize(path), pictures.MOST)

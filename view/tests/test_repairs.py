@@ -102,8 +102,8 @@ class Following(unittest.TestCase):
     def patched(self, name, *parts, turns=None):
         """Follows a patch."""
         found = self.start(name, turns)
-        for it in parts:
-            self.assertIn(it, self.fixes(found))
+        for part in parts:
+            self.assertIn(part, self.fixes(found))
         ran = subprocess.run(
             ["patch", "-p1"], cwd=self.folder, input=self.text(), capture_output=True, text=True
         )
@@ -113,8 +113,8 @@ class Following(unittest.TestCase):
     def told(self, name, *parts):
         """Makes the fixes, as the source has them under -DREPAIRED."""
         found = self.start(name)
-        for it in parts:
-            self.assertIn(it, self.fixes(found))
+        for part in parts:
+            self.assertIn(part, self.fixes(found))
         self.assertIn("its fix changes more than declarations", " ".join(found["notes"]))
         self.comes_to(name, found, self.missed(self.look(self.build(name, "-DREPAIRED"))))
         return found

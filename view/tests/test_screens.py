@@ -17,8 +17,8 @@ OF_STACK = "other threads use variables on this stack: put __attribute__((aligne
 
 class Shown(unittest.TestCase):
     def shows(self, text, *parts):
-        for it in parts:
-            self.assertIn(it, joined(text))
+        for part in parts:
+            self.assertIn(part, joined(text))
 
 
 class Screens(Shown):
@@ -106,14 +106,14 @@ class Screens(Shown):
                 f"fix {OF_STACK}; saves up to 77 of 77 misses address ",
                 "60 61 0 threads 0x0100fff8, 8 bytes below its top",
             )
-            for it in (
+            for part in (
                 "several fields",
                 "separate these",
                 "padding",
                 "group the fields",
                 "memory at",
             ):
-                self.assertNotIn(it, joined(text), program)
+                self.assertNotIn(part, joined(text), program)
             # (what is said of a variable whose words are fields)
             self.assertRegex(
                 joined(view(*words, "flags", program=program)[1]),
@@ -458,8 +458,8 @@ class Pipes(Shown):
             os.mkfifo(fifo)
             # (but for the name of what is read)
             texts = {
-                self.call(it, trace).partition(": ")[2]
-                for it in (
+                self.call(command, trace).partition(": ")[2]
+                for command in (
                     'cat "$1" | $view replay -',
                     '$view replay - <"$1"',
                     f'cat "$1" >{fifo} & $view replay - <{fifo}; wait',
@@ -606,7 +606,7 @@ class Repairs(Shown):
         )
 
     def test_what_the_screen_says_mends_it(self):
-        for name, thing in (
+        for name, start in (
             ("ring", "stats"),
             ("arena", "block"),
             ("shards", "shards"),
@@ -619,9 +619,9 @@ class Repairs(Shown):
                 view("run", built(f"{name}-repaired.elf"), *TURNS, "--explain", "0", "--json", path)
                 with open(path, encoding="utf-8") as file:
                     left = [
-                        it["false_sharing"]
-                        for it in json.load(file)["objects"]
-                        if it["name"].startswith(thing)
+                        obj["false_sharing"]
+                        for obj in json.load(file)["objects"]
+                        if obj["name"].startswith(start)
                     ]
                 self.assertEqual(sum(left), 0, name)
 
@@ -673,7 +673,7 @@ class Against(unittest.TestCase):
             )
             self.assertEqual((status, "stats (gone)" in text), (0, True))
             head = '{"format": "predator view 1", "outcome": "exit 0", "total": null, "objects": '
-            things = (
+            bad_objects = (
                 "3",
                 "[3]",
                 '[{"key": "symbol a"}]',
@@ -687,7 +687,7 @@ class Against(unittest.TestCase):
                 '{"format": "predator view 3"}',
                 head.replace("view 1", "view 2") + "3}",
                 '{"a":' * 99999,
-                *(f"{head}{it}}}" for it in things),
+                *(f"{head}{it}}}" for it in bad_objects),
             ):
                 with open(old, "w", encoding="utf-8") as file:
                     file.write(bad)

@@ -61,9 +61,9 @@ class Bytes(unittest.TestCase):
             sum(isinstance(it, Accessed) for *_, it in located_records(data)),
         )
         return [
-            (it.hart, it.writes, it.addr)
-            for *_, it in located_records(data)
-            if isinstance(it, Accessed)
+            (record.hart, record.writes, record.addr)
+            for *_, record in located_records(data)
+            if isinstance(record, Accessed)
         ]
 
     def test_each_byte_as_a_word(self):

@@ -25,7 +25,7 @@ TEXT = "sweep 8\naccesses 9\nshift 0 total {} lines 1\nshift 4 total {} lines 1\
 def cells_of(text):
     """The cells of each row of a page's tables that names no shift first."""
     rows = [
-        re.findall(r"<td[^>]*>(.*?)</td>", it) for it in re.findall(r"(?s)<tr>(.*?)</tr>", text)
+        re.findall(r"<td[^>]*>(.*?)</td>", row) for row in re.findall(r"(?s)<tr>(.*?)</tr>", text)
     ]
     return [it for it in rows if it and not it[0].isdigit()]
 
@@ -92,8 +92,8 @@ class Sweeps(unittest.TestCase):
         )
         self.assertEqual((status, said), (0, ""))
         self.assertTrue(text.startswith("<!DOCTYPE html>"))
-        for it in (r"<script", r"https?:", r"""(src|href)=""", "<i>"):
-            self.assertNotRegex(text, it)
+        for pattern in (r"<script", r"https?:", r"""(src|href)=""", "<i>"):
+            self.assertNotRegex(text, pattern)
         self.assertIn(f"<h1>&lt;i&gt;t: {TITLE}</h1>", text)
         told = re.findall(r"<rect .*?</svg> (.*?); <svg .*?<circle .*?</svg> (.*?)</p>", text)
         self.assertEqual(told, [("as placed: 39", "fewest, shift 4: 0")])
@@ -116,11 +116,11 @@ class Sweeps(unittest.TestCase):
         words = [self.program, "sweep", self.trace, "--size", "8"]
         told = subprocess.run(words, capture_output=True, text=True).stdout
         wanted = [
-            list(it)
-            for it in re.findall(r"^shift (\d+) total (\d+) lines (\d+)$", told, re.MULTILINE)
+            list(numbers)
+            for numbers in re.findall(r"^shift (\d+) total (\d+) lines (\d+)$", told, re.MULTILINE)
         ]
         rows = [
-            re.findall(r"<td[^>]*>(.*?)</td>", it) for it in re.findall(r"<tr>(.*?)</tr>", text)
+            re.findall(r"<td[^>]*>(.*?)</td>", row) for row in re.findall(r"<tr>(.*?)</tr>", text)
         ]
         self.assertEqual([it[:3] for it in rows if it and it[0].isdigit()], wanted)
         # The file has the same.
@@ -176,8 +176,8 @@ class Sweeps(unittest.TestCase):
             ]
             report = subprocess.run(words, capture_output=True, text=True).stdout
             counts = [
-                int(it)
-                for it in re.findall(r"^line observed .* count (\d+) ", report, re.MULTILINE)
+                int(count)
+                for count in re.findall(r"^line observed .* count (\d+) ", report, re.MULTILINE)
             ]
             self.assertEqual(
                 sorted(counts),

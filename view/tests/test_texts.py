@@ -52,9 +52,9 @@ end
 
 class Texts(unittest.TestCase):
     def fault(self, text, said):
-        with self.assertRaises(Fault) as it:
+        with self.assertRaises(Fault) as caught:
             Report(text, "r")
-        self.assertIn(said, str(it.exception))
+        self.assertIn(said, str(caught.exception))
 
     def test_report(self):
         report = Report(WHOLE)
@@ -173,9 +173,9 @@ class Texts(unittest.TestCase):
 
 class Words(unittest.TestCase):
     def refused(self, *words):
-        with self.assertRaises(Fault) as it:
+        with self.assertRaises(Fault) as caught:
             Call(words)
-        return str(it.exception)
+        return str(caught.exception)
 
     def test_run(self):
         call = Call(

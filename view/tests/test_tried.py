@@ -155,7 +155,8 @@ class Used(Folder):
 class Cut(Folder):
     def test_the_first_part_of_a_trace(self):
         accesses = [
-            Access(it % 3, bool(it % 2), 0x1000 + 4 * (it * it % 999), 4) for it in range(5000)
+            Access(number % 3, bool(number % 2), 0x1000 + 4 * (number * number % 999), 4)
+            for number in range(5000)
         ]
         others = [
             (0, Symbol(1, 0x1000, 64, b"n\x11\x24")),
@@ -408,7 +409,7 @@ class Sentences(unittest.TestCase):
         study = importlib.util.module_from_spec(found)
         found.loader.exec_module(study)
         before, after = (
-            TrialCount({"useless": it, "useful": 10, "cold": 4}, 9) for it in (1900, 0)
+            TrialCount({"useless": useless, "useful": 10, "cold": 4}, 9) for useless in (1900, 0)
         )
         self.assertEqual(study.COUNTED.findall(before.beside(after)), [("1,900", "0", "10", "10")])
 
@@ -448,7 +449,7 @@ class Sentences(unittest.TestCase):
     def test_an_object_that_threads_share_alone(self):
         """A repair of what lies beside it isn't its fix."""
         shared = self.trial_of("shared", 100, [(0x1000, 16)], "pad it")
-        shared.thing.useless = 0
+        shared.obj.useless = 0
         self.assertFalse(shared.is_named())
         self.assertEqual(
             self.named(self.trial_of("own", 100, [(0x1000, 16)], "pad it"), shared), [None, None]

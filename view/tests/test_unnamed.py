@@ -123,23 +123,23 @@ class Unnamed(unittest.TestCase):
                 ),
                 sources,
             )
-            thing = SimpleNamespace(key=key, lines=[SimpleNamespace(base=it) for it in bases])
-            found = go_runtime_keys([thing], SimpleNamespace(invalidations=taken.get), naming)
+            obj = SimpleNamespace(key=key, lines=[SimpleNamespace(base=it) for it in bases])
+            found = go_runtime_keys([obj], SimpleNamespace(invalidations=taken.get), naming)
             self.assertEqual(found, {key} if wanted else set())
         guest = Naming(None, SimpleNamespace(), sources)
         self.assertEqual(
-            go_runtime_keys([thing], SimpleNamespace(invalidations=taken.get), guest), set()
+            go_runtime_keys([obj], SimpleNamespace(invalidations=taken.get), guest), set()
         )
         for has_runtime, whose in (
             (False, "the C library"),
             (True, "the C library or Go's runtime"),
         ):
             self.assertEqual(
-                foreign_objects.row_of([thing] * 1200, has_runtime),
+                foreign_objects.row_of([obj] * 1200, has_runtime),
                 f"1,200 objects of {whose} (--library shows them)",
             )
             self.assertEqual(
-                foreign_objects.row_of([thing], has_runtime),
+                foreign_objects.row_of([obj], has_runtime),
                 f"1 object of {whose} (--library shows it)",
             )
 

@@ -137,8 +137,8 @@ class Last(unittest.TestCase):
                 f"note: {'waiting' if outcome == 'deadlock' else 'running'} at the end: hart 0 at "
             )
             self.assertIn(said, text)
-            for it in wanted:
-                self.assertRegex(text, it)
+            for pattern in wanted:
+                self.assertRegex(text, pattern)
             self.assertNotIn("hart 1 ", text.partition(said)[2].partition(" false ")[0])
 
 

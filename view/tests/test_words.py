@@ -28,22 +28,22 @@ def sentences(tree):
     docs = {id(it.body[0].value) for it in documented if isinstance(it.body[0], ast.Expr)}
     parts = {
         id(part)
-        for it in ast.walk(tree)
-        if isinstance(it, ast.JoinedStr)
-        for part in it.values
+        for node in ast.walk(tree)
+        if isinstance(node, ast.JoinedStr)
+        for part in node.values
         if isinstance(part, ast.Constant)
     }
-    for it in ast.walk(tree):
-        if isinstance(it, ast.JoinedStr):
+    for node in ast.walk(tree):
+        if isinstance(node, ast.JoinedStr):
             text = "".join(
-                str(part.value) if isinstance(part, ast.Constant) else "X" for part in it.values
+                str(part.value) if isinstance(part, ast.Constant) else "X" for part in node.values
             )
-        elif isinstance(it, ast.Constant) and id(it) not in docs | parts:
-            text = it.value
+        elif isinstance(node, ast.Constant) and id(node) not in docs | parts:
+            text = node.value
         else:
             continue
         if isinstance(text, str) and re.search(r"[a-z] [a-z]", text):
-            yield it.lineno, text
+            yield node.lineno, text
 
 
 class Words(unittest.TestCase):

@@ -126,8 +126,8 @@ def vars_of(words):
     )
     call.words, call.subject, call.named, call.program = [*words[1:]], words[1], words[1], None
     own = {
-        it: getattr(call, it)
-        for it in (
+        name: getattr(call, name)
+        for name in (
             "action",
             "options",
             "guest_words",
@@ -141,8 +141,8 @@ def vars_of(words):
         )
     }
     return own | {
-        it: getattr(call, it)
-        for it in (
+        name: getattr(call, name)
+        for name in (
             "number_option",
             "settings_words",
             "option_value",
