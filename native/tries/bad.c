@@ -35,7 +35,8 @@ static int delete_it(const char *path, const struct stat *about, int kind, struc
 int main(int count, char **words)
 {
     share();
-    if (count > 1 && strcmp(words[1], "folder") == 0) { /* deletes the folder that it is in, and itself */
+    if (count > 1 &&
+        strcmp(words[1], "folder") == 0) { /* deletes the folder that it is in, and itself */
         if (unlink("bad") != 0 || rmdir("../own") != 0)
             return 8;
         share();
@@ -47,6 +48,9 @@ int main(int count, char **words)
         share();
         puts("gone");
     }
+    while (count > 1 && strcmp(words[1], "bomb") == 0) /* for ever, and so do those that it makes */
+        if (fork() < 0)
+            usleep(10000);
     while (count > 1 && strcmp(words[1], "forks") == 0) { /* for ever */
         pid_t child = fork();
         if (child == 0)
