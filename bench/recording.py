@@ -1,10 +1,10 @@
 #!/usr/bin/env python3
 """Measures what recording a program of this machine costs, beside tools of valgrind: recording.py [PROGRAM ..].
 
-Prints a row for each program: its own processor time and that under `none`, `lackey` (with all accesses), `helgrind`, and
-`predator native` at quanta of 1000, 100 and 10, whole and filtered, with the trace on disk. Each is user and system time of
-all processes, the least of three runs; the last line says how busy the machine was. (Debian: apt-get install gcc pigz
-valgrind zstd, and `predator native --build`)"""
+Prints a row for each program: its own processor time and that under `none`, `lackey` (with all accesses),
+`helgrind`, and `predator native` at quanta of 1000, 100 and 10, whole and filtered, with the trace on disk. Each
+is user and system time of all processes, the least of three runs; the last line says how busy the machine was.
+(Debian: apt-get install gcc pigz valgrind zstd, and `predator native --build`)"""
 
 import os
 import shutil

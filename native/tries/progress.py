@@ -1,10 +1,10 @@
 #!/usr/bin/env python3
 """Says what a recording shows on a terminal: progress.py SECONDS COMMAND ..
 
-The command has a new terminal as its outputs, and gets SIGTERM so many seconds after it has first shown how far it is, or
-after a minute. What is printed: how often its
-progress was shown; whether that began in the second second or later, whether its three numbers rise, whether the line was
-cleared at the end; and all else that came, as one word a line."""
+The command has a new terminal as its outputs, and gets SIGTERM so many seconds after it has first shown how far it
+is, or after a minute. What is printed: how often its progress was shown; whether that began in the second second or
+later, whether its three numbers rise, whether the line was cleared at the end; and all else that came, as one word a
+line."""
 
 import os
 import pty

@@ -70,7 +70,8 @@ def read_version(trace: str) -> bytes:
 
 
 def write_batches(data: mmap.mmap, begins: Sequence[int], path: str) -> Iterator[None]:
-    """Writes the accesses of as many parts as there is room for, with harts of their own, to a file; and again, until all were written."""
+    """Writes the accesses of as many parts as there is room for, with harts of their own, to a file; and again,
+    until all were written."""
     count = 1 + max((max(piece[1::ACCESS]) for _, piece in access_pieces(data)), default=0)
     room, at, accesses = MAX_HARTS // count, 0, 0
     out: list[bytes] = []
