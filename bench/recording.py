@@ -1,11 +1,13 @@
 #!/usr/bin/env python3
-"""Measures what recording a program of this machine costs, beside tools of valgrind: recording.py [PROGRAM ..].
+"""Measures what recording a program of this machine costs, beside tools of valgrind: recording.py [--runs N]
+[PROGRAM ..].
 
 Prints a row for each program: its own processor time and that under `none`, `lackey` (with all accesses),
 `helgrind`, and `predator native` at quanta of 1000, 100 and 10, whole and filtered, with the trace on disk. Each
-is user and system time of all processes, the least of three runs; the last line says how busy the machine was.
+is user and system time of all processes, the least of N runs (3); the last line says how busy the machine was.
 (Debian: apt-get install gcc pigz valgrind zstd, and `predator native --build`)"""
 
+import argparse
 import os
 import shutil
 import subprocess
@@ -18,7 +20,7 @@ sys.path.insert(0, os.path.join(TOP, "native", "others"))
 from study import make_text  # noqa: E402
 
 RECORDER = os.path.join(TOP, "native", "predator-native")
-QUANTA, RUNS = (1000, 100, 10), 3
+QUANTA = (1000, 100, 10)
 # A program's words; TEXT is a file of so many bytes.
 TEXT_BYTES = 2_000_000
 PROGRAMS = {
@@ -56,21 +58,25 @@ def processor_seconds(words: list[str]) -> float:
     return used.ru_utime + used.ru_stime
 
 
-def measure(words: list[str]) -> dict[str, float]:
+def measure(words: list[str], count: int) -> dict[str, float]:
     calls = commands(words)
-    runs = [{name: processor_seconds(call) for name, call in calls.items()} for _ in range(RUNS)]
+    runs = [{name: processor_seconds(call) for name, call in calls.items()} for _ in range(count)]
     return {name: min(it[name] for it in runs) for name in calls}
 
 
-def main(names: list[str]) -> None:
+def main() -> None:
+    words = argparse.ArgumentParser(usage=__doc__)
+    words.add_argument("--runs", type=int, default=3)
+    words.add_argument("names", nargs="*", metavar="PROGRAM")
+    given = words.parse_args()
     with tempfile.TemporaryDirectory() as folder:
         os.chdir(folder)
         source = os.path.join(TOP, "native", "tries", "counters.c")
         subprocess.run(["gcc", "-O1", "-g", "-pthread", source, "-o", "counters"], check=True)
         with open("TEXT", "wb") as file:
             file.write(make_text(TEXT_BYTES))
-        for at, name in enumerate(names or PROGRAMS):
-            found = measure(PROGRAMS[name])
+        for at, name in enumerate(given.names or PROGRAMS):
+            found = measure(PROGRAMS[name], given.runs)
             if at == 0:
                 print(f"| Program | {' | '.join(found)} |\n|---{len(found) * '|---'}|")
             print(f"| {name} | {' | '.join(f'{it:.2f}' for it in found.values())} |", flush=True)
@@ -80,4 +86,4 @@ def main(names: list[str]) -> None:
 
 
 if __name__ == "__main__":
-    main(sys.argv[1:])
+    main()
