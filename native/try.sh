@@ -183,7 +183,6 @@ if [ "${1:-}" = --short ]; then
 fi
 
 . "$here/tries/spans.sh"
-. "$here/tries/switch.sh"
 
 # What is refused before the program runs.
 refused() { # NAME STATUS PART WORDS ..
@@ -418,6 +417,7 @@ expect_between "pipe: killed: accesses" 300000 1000000000 "$("$judge" accesses f
 . "$here/tries/pcs.sh"
 . "$here/tries/nameless.sh"
 . "$here/tries/ends.sh"
+. "$here/tries/switch.sh"
 . "$here/tries/child.sh"
 . "$here/tries/core.sh"
 . "$here/tries/again.sh"

@@ -30,8 +30,9 @@ http {
 """
 # Its sorter gives each 250 pages of an index to a thread.
 SQL = (
-    "PRAGMA page_size=512; PRAGMA cache_size=20; PRAGMA threads=4; CREATE TABLE t(a, b); WITH RECURSIVE c(x) AS (SELECT 1 UNION ALL"
-    " SELECT x + 1 FROM c WHERE x < 20000) INSERT INTO t SELECT x * 7919 % 10007, hex(x * 104729) FROM c;"
+    "PRAGMA page_size=512; PRAGMA cache_size=20; PRAGMA threads=4; CREATE TABLE t(a, b);"
+    " WITH RECURSIVE c(x) AS (SELECT 1 UNION ALL SELECT x + 1 FROM c WHERE x < 20000)"
+    " INSERT INTO t SELECT x * 7919 % 10007, hex(x * 104729) FROM c;"
     " CREATE INDEX i ON t(b, a); SELECT count(*) FROM t;"
 )
 
