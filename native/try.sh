@@ -417,6 +417,7 @@ expect_between "pipe: killed: accesses" 300000 1000000000 "$("$judge" accesses f
 . "$here/tries/pcs.sh"
 . "$here/tries/nameless.sh"
 . "$here/tries/ends.sh"
+. "$here/tries/switch.sh"
 . "$here/tries/child.sh"
 . "$here/tries/core.sh"
 . "$here/tries/again.sh"
@@ -502,6 +503,16 @@ if /usr/bin/python3 -c 'import elftools, jinja2' 2>/dev/null && command -v llvm-
     expect_part "view: no table" "few isn't an address map" "$said"
     expect_part "view: a table that isn't there" "No such file" "$(view replay t --back nowhere)"
     expect_part "view: a run has no table" "'--map' applies to" "$(view run x --back t.table)"
+    # Misses at the beginning of windows, which are the same once redundant accesses are left out.
+    gcc -O1 -g -pthread "$here/tries/spans.c" -o spans
+    first=()
+    for way in --whole --filtered; do
+        said=$(view native $way --windows 10K/1M --explain 0 ./spans -- 500000 | tr -s '\n ' ' ')
+        expect_part "view: windows $way: their number" "5 parts of the run, each of which begins with cold misses" "$said"
+        first+=("$(grep -o "[0-9,]* of these misses are a thread's first access of a line in a part" <<<"$said")")
+    done
+    expect_part "view: windows: misses at their beginning" "of these misses are" "${first[0]}"
+    expect_equal "view: windows: the same, filtered" "${first[0]}" "${first[1]}"
     # What ends a call that records ends the program, and its screen is shown; an interrupt comes to the program from the terminal.
     for number in TERM HUP INT; do
         mkdir view-$number

@@ -5,6 +5,8 @@ filtered trace must have these bytes.
     judge_filter.py TRACE FILE [--near N]   writes the filtered trace of TRACE, which is of version 3, to FILE
                                             (N, the bytes of a region, is 4096 where it isn't given), and prints
                                             `filter ACCESSES KEPT`
+    judge_filter.py .. --parts TABLE        the same, with each part filtered by itself that begins at a row
+                                            `resume` of the address map TABLE, as the recorder does it
     judge_filter.py --check [COUNT [SEED]]  holds the one pass against the definition: over lists that were
                                             worked by hand, and COUNT (500) random ones from SEED (1)
 
@@ -60,7 +62,24 @@ def keep_in_one_pass(accesses: Iterable[Touch], k: int) -> list[int]:
     return kept
 
 
-def filter_trace(trace: bytes, k: int) -> tuple[int, int, bytes]:
+def keep_by_parts(accesses: Sequence[Touch], k: int, begins: Sequence[int]) -> list[int]:
+    """The positions that are kept where each part is filtered by itself."""
+    borders = [0, *begins, len(accesses)]
+    return [
+        begin + it
+        for begin, end in zip(borders, borders[1:])
+        for it in keep_in_one_pass(accesses[begin:end], k)
+    ]
+
+
+def part_begins(table: str) -> list[int]:
+    """Behind how many accesses recording began or went on, by an address map."""
+    with open(table, encoding="utf-8", errors="surrogateescape") as file:
+        rows = (it.split() for it in file if it.startswith("resume "))
+        return [int(words[1]) for words in rows]
+
+
+def filter_trace(trace: bytes, k: int, begins: Sequence[int] = ()) -> tuple[int, int, bytes]:
     """How many accesses a trace has, how many of them its filtered trace, and that trace."""
     if trace[:8] != b"PRDTRC03":
         sys.exit("judge_filter.py: this is no trace of version 3")
@@ -73,7 +92,7 @@ def filter_trace(trace: bytes, k: int) -> tuple[int, int, bytes]:
             sizes.append(trace[start] % 16)
         else:  # (with the number of the accesses before it)
             others.append((len(accesses), trace[start:place]))
-    kept = keep_in_one_pass((it[:3] for it in accesses), k)
+    kept = keep_by_parts([it[:3] for it in accesses], k, begins)
     parts = [b"PRDTRC04" + bytes(8) + trace[16:18] + struct.pack("<H", k)]
     addr, pcs, at = 0, dict[int, int](), 0
     for position in [*kept, len(accesses)]:
@@ -200,14 +219,16 @@ def main() -> int:
     words.add_argument("names", nargs="*")
     words.add_argument("--near", type=int, default=NEAR, choices=[2**k for k in range(6, 17)])
     words.add_argument("--check", action="store_true")
+    words.add_argument("--parts")
     given = words.parse_args()
     if given.check:
         count, seed, *_ = [*map(int, given.names), *(500, 1)[len(given.names) :]]
         return check(count, seed)
     if len(given.names) != 2:
         words.error("a trace and a file are wanted")
+    begins = part_begins(given.parts) if given.parts else []
     with open(given.names[0], "rb") as file:
-        accesses, kept, trace = filter_trace(file.read(), given.near.bit_length() - 1)
+        accesses, kept, trace = filter_trace(file.read(), given.near.bit_length() - 1, begins)
     with open(given.names[1], "wb") as file:
         file.write(trace)
     print(f"filter {accesses} {kept}")

@@ -37,6 +37,7 @@ from view.names.source_lines import Sources  # noqa: E402
 from view.model.explained_lines import explain  # noqa: E402
 from view.model.filter_notes import note_filter  # noqa: E402
 from view.model.fine_grain import begin_fine_run, note_fine_run  # noqa: E402
+from view.model.part_misses import note_first_misses  # noqa: E402
 from view.model.miss_rates import Worth  # noqa: E402
 
 if TYPE_CHECKING:
@@ -224,6 +225,7 @@ def found(call: Call, predator: Predator | None, passes: Passes | None) -> View:
     trial = trial_of(view, predator, reading)
     note_filter(view)
     view.count_misses(predator, passes)
+    note_first_misses(view, predator)
     count_bytes(view, predator, reading)
     view.look_for_overflow(predator)
     if report.outcome in ("deadlock", "budget"):

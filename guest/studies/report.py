@@ -20,8 +20,8 @@ from recount import recount_lines  # noqa: E402
 from traces import read_accesses  # noqa: E402
 
 
-def parse_studies(description, studies):
-    """The studies that a call names, or all, and whether it renews the document, which is for all."""
+def study_parser(description):
+    """A parser of a script's words: studies, and whether it renews the document."""
     parser = argparse.ArgumentParser(
         description=description, formatter_class=argparse.RawDescriptionHelpFormatter
     )
@@ -29,13 +29,25 @@ def parse_studies(description, studies):
         "--renew", action="store_true", help="put the tables into the document: of all studies"
     )
     parser.add_argument("names", nargs="*", metavar="STUDY", help="the studies (all)")
+    return parser
+
+
+def parse_call(parser, studies):
+    """The words of a call, whose `names` are the studies that it names, or all."""
     call = parser.parse_args()
     unknown = [it for it in call.names if it not in studies]
     if unknown:
         parser.error(f"{unknown[0]}: the studies are {', '.join(studies)}")
     if call.renew and call.names:
         parser.error("--renew is for all studies")
-    return call.names or list(studies), call.renew
+    call.names = call.names or list(studies)
+    return call
+
+
+def parse_studies(description, studies):
+    """The studies that a call names, or all, and whether it renews the document, which is for all."""
+    call = parse_call(study_parser(description), studies)
+    return call.names, call.renew
 
 
 def study_builds():

@@ -48,6 +48,15 @@ ULong bytes_free(Int fd)
     return is ? (ULong)disk.f_bavail * disk.f_bsize : NO_DISK;
 }
 
+Bool is_deleted(Int fd)
+{
+    struct stat about;
+    int before = errno;
+    Bool is = fstat(fd, &about) == 0 && S_ISREG(about.st_mode) && about.st_nlink == 0;
+    errno = before;
+    return is;
+}
+
 Int predator_safe_fd(Int fd)
 {
     int least;

@@ -157,6 +157,7 @@ UInt predator_get_StackTrace(ThreadId, Addr *calls, UInt most, Addr *, Addr *, W
 
 #include "../tool/trace.h"
 
+Bool is_deleted(Int fd); /* a file without a name any more */
 static inline Bool is_terminal(Int fd)
 {
     UChar settings[64];

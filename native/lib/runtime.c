@@ -21,7 +21,6 @@ __thread unsigned long steps LOCAL;
 volatile int holder, recording;
 static int records_all, stopped;
 static volatile int busy;
-static unsigned long turns;  /* were given so far */
 static volatile int ends_by; /* the signal that is to end the program */
 static void end_now(void);
 static long quantum = 100, own_process;
@@ -57,7 +56,7 @@ int next_of(int me)
 
 void give(int hart)
 {
-    turns++;
+    trace_turns++;
     if (hart >= 0)
         harts[hart].turn = 1;
     __atomic_store_n(&holder, hart, __ATOMIC_RELEASE);
@@ -142,7 +141,7 @@ static void look_at_holder(int me, Look *last)
 {
     enter();
     int it = holder;
-    Look now = {.turns = turns, .left = left, .ran = -1};
+    Look now = {.turns = trace_turns, .left = left, .ran = -1};
     if (harts[me].state == AWAY) /* its turn was taken in a signal's handler */
         harts[me].state = WANTS;
     if (it >= 0 && it != me && harts[it].turn == 0 && harts[it].steps && next_of(it) == me) {
@@ -266,7 +265,7 @@ void come_back(void)
     harts[me].state = WANTS;
     is_free = holder < 0;
     if (is_free) {
-        turns++;
+        trace_turns++;
         holder = me;
         left = quantum;
     }

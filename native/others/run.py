@@ -2,9 +2,10 @@
 """Builds and records programs of this machine, each as it is and with its repair, and prints the table of
 docs/STUDIES.md, and of each program the first three rows of its screen.
 
-fetch.sh has fetched the sources; build.sh builds them. --renew puts the table into the page, and the rows
-into first_rows.txt. What is counted is what `predator misses` prints, and an object's part of it what
-`predator view` puts together. It ends with 1 where a program doesn't end as it should."""
+fetch.sh has fetched the sources; build.sh builds them. --renew puts the table into the page, but for the
+programs of debian.py, and the rows of all into first_rows.txt; --rows puts only those of the named studies
+there. What is counted is what `predator misses` prints, and an object's part of it what `predator view` puts
+together. It ends with 1 where a program doesn't end as it should."""
 
 import json
 import os
@@ -14,22 +15,20 @@ import subprocess
 import sys
 import tempfile
 import time
-from typing import NamedTuple, Sequence
+from typing import Sequence
 
 HERE = os.path.dirname(os.path.abspath(__file__))
 TOP = os.path.join(HERE, "..", "..")
 PREDATOR = os.path.join(TOP, "bin", "predator")
-sys.path.insert(0, os.path.join(TOP, "guest", "studies"))
-from report import markdown_table, parse_studies, renew_document  # noqa: E402
+sys.path[:0] = [HERE, os.path.join(TOP, "guest", "studies")]
+from debian import LIBC, PROGRAMS  # noqa: E402
+from report import markdown_table, parse_call, renew_document, study_parser  # noqa: E402
+from study import CONFIG, FILM, FOLDER, OBJECTS, TEXT, TREE, Study, make_files  # noqa: E402
 
 OUT = os.path.join(HERE, "out")
 ROWS = os.path.join(HERE, "first_rows.txt")
 # A row of a screen: its place, four numbers, and the object.
 ROW = re.compile(r"^ *([123])(?: +[0-9,]+){4}  (.*(?:\n {30,}.*)*)$", re.MULTILINE)
-# What stands for a new folder, for a text in it, a folder of a thousand texts, sixty objects to be linked, a
-# short film, and a server's settings.
-FOLDER, TEXT, TREE, OBJECTS, FILM, CONFIG = "FOLDER", "TEXT", "TREE", "OBJECTS", "FILM", "CONFIG"
-LIBC = "-L/usr/lib/x86_64-linux-gnu"
 # Four threads answer by themselves.
 HAPROXY = """global
     nbthread 4
@@ -58,24 +57,6 @@ UNBOUND = """server:
 remote-control:
     control-enable: no
 """
-
-
-class Study(NamedTuple):
-    """A program's builds or Debian's command, its words, and what is looked at in it; `status` is what it
-    ends with, `text` how many bytes its text has, `reads_text` whether that is its input, and `most` how many
-    accesses are recorded at most. Of a server `clients` are the words of tools/clients.py, and `config` its
-    settings."""
-
-    builds: Sequence[str]
-    words: Sequence[str] = ()
-    looked_at: Sequence[str] = ()
-    clients: Sequence[str] = ()
-    status: int = 0
-    is_debian: bool = False
-    text: int = 400_000
-    reads_text: bool = False
-    most: int = 0
-    config: str = ""
 
 
 STUDIES = {
@@ -152,75 +133,13 @@ STUDIES = {
 }
 
 
+ALL = {**STUDIES, **PROGRAMS}
+
+
 def build_path(names: Sequence[str]) -> None:
-    own = [it for it in names if not STUDIES[it].is_debian]
+    own = [it for it in names if not ALL[it].is_debian]
     if own:
         subprocess.run([os.path.join(HERE, "build.sh"), *own], check=True)
-
-
-def make_text(size: int) -> bytes:
-    """A text that is the same each time, and that can be made smaller."""
-    words = [f"{it * 7919 % 1009:o}" for it in range(4096)]
-    return " ".join(words[it * it % 4096] for it in range(size // 4)).encode()[:size]
-
-
-def make_film(count: int) -> bytes:
-    """So many pictures of 176 times 144 points, in which a text wanders."""
-    size, line = 176 * 144, make_text(1 << 16)
-    pictures = (
-        b"FRAME\n" + line[2 * number : 2 * number + size] + bytes([128]) * (size // 2)
-        for number in range(count)
-    )
-    return b"YUV4MPEG2 W176 H144 F25:1 Ip A1:1 C420jpeg\n" + b"".join(pictures)
-
-
-def make_files(study: Study, folder: str) -> dict[str, str]:
-    """The files that a study's words stand for."""
-    found = {it: os.path.join(folder, it.lower()) for it in (TEXT, TREE, CONFIG)}
-    found |= {
-        OBJECTS: "@" + os.path.join(folder, "objects"),
-        FILM: os.path.join(folder, "film.y4m"),
-    }
-    for name, data in (
-        (TEXT, make_text(study.text)),
-        (CONFIG, study.config.encode()),
-        (FILM, make_film(8) if FILM in study.words else b""),
-    ):
-        with open(found[name], "wb") as file:
-            file.write(data)
-    for own in range(40) if TREE in study.words else ():
-        os.makedirs(os.path.join(found[TREE], f"folder{own}"))
-        for at in range(25):
-            with open(os.path.join(found[TREE], f"folder{own}", f"file{at}.txt"), "wb") as file:
-                file.write(make_text(60_000)[own * 1000 + at * 37 :][:8192])
-    if OBJECTS in study.words:
-        compile_all(folder, found[OBJECTS][1:])
-    return found
-
-
-def compile_all(folder: str, listed: str) -> None:
-    """Compiles sixty sources, and lists their objects."""
-    names = [f"m{it}.c" for it in range(60)]
-    for program, name in enumerate(names):
-        with open(os.path.join(folder, name), "w") as file:
-            for own in range(30):
-                other = f"f{(program * 7 + 1) % 60}_{own * 3 % 30}"
-                file.write(
-                    f"int {other}(int);\nint f{program}_{own}(int x) {{ return x > 1 ? {other}(x -"
-                    f" {own + 1}) + {program * own} : x; }}\n"
-                )
-            file.write("int main(void) { return f0_0(3); }\n" if program == 0 else "")
-    subprocess.run(["gcc", "-c", "-g", "-O1", *names], cwd=folder, check=True)
-    with open(listed, "w") as file:
-        file.write(
-            "\n".join(
-                [
-                    "/usr/lib/x86_64-linux-gnu/crt1.o",
-                    *(os.path.join(folder, it[:-2] + ".o") for it in names),
-                ]
-            )
-            + "\n"
-        )
 
 
 def record_trace(study: Study, program: str, folder: str) -> str:
@@ -231,6 +150,9 @@ def record_trace(study: Study, program: str, folder: str) -> str:
         sys.exit(f"run.py: {program} isn't installed")
     most = ["--most", str(study.most)] if study.most else []
     words = [files.get(it, it.replace(FOLDER, folder)) for it in study.words]
+    if study.before:
+        before = [files.get(it, it) for it in study.before]
+        subprocess.run(before, check=True, stdout=subprocess.DEVNULL, stderr=subprocess.DEVNULL)
     command = [PREDATOR, "native", *most, "--trace", trace, "--", path, *words]
     with (
         open(files[TEXT] if study.reads_text else os.devnull, "rb") as own,
@@ -309,22 +231,40 @@ def table_row(study: Study, program: str) -> tuple[list[object], str]:
     return cells, f"{cells[0]}{': no change is worth it' if is_clean else ''}\n{rows}"
 
 
+def renew_rows(rows: dict[str, str]) -> None:
+    """Puts the rows of some programs into first_rows.txt, in the place of their former ones or behind all."""
+    with open(ROWS, encoding="utf-8") as file:
+        head, _, rest = file.read().partition("\n\n")
+    known = {block.partition("\n")[0].partition(":")[0]: block for block in blocks_of(rest)}
+    with open(ROWS, "w", encoding="utf-8") as file:
+        file.write(head + "\n\n" + "".join({**known, **rows}.values()))
+
+
+def blocks_of(text: str) -> list[str]:
+    """The text of each program in first_rows.txt: a line with its name, and its rows, which begin with blanks."""
+    return re.findall(r"^\S.*\n(?:  .*\n)*", text, re.MULTILINE)
+
+
 def main() -> int:
-    names, renews = parse_studies(__doc__, STUDIES)
+    parser = study_parser(__doc__)
+    parser.add_argument("--rows", action="store_true", help="put the rows of these studies there")
+    call = parse_call(parser, ALL)
+    names: list[str] = call.names
     build_path(names)
     heads = ["Program", "Accesses", "Bytes each", "True", "False", "Of the object", "Named"]
-    found = [table_row(STUDIES[name], build) for name in names for build in STUDIES[name].builds]
-    text, rows = markdown_table(heads, [cells for cells, _ in found]), "".join(
-        row for _, row in found
-    )
-    print(text, rows, sep="\n")
-    if renews:
-        renew_document({"others of this machine": text})
-        with open(ROWS, "w", encoding="utf-8") as file:
-            file.write(
-                "The first three rows of each program's screen, as native/others/run.py has"
-                f" recorded and shown it.\n\n{rows}"
-            )
+    cells: dict[str, list[list[object]]] = {}
+    rows: dict[str, str] = {}
+    for name in names:
+        for build in ALL[name].builds:
+            own, screen = table_row(ALL[name], build)
+            cells.setdefault(name, []).append(own)
+            rows[str(own[0])] = screen
+    print(markdown_table(heads, sum(cells.values(), [])), *rows.values(), sep="\n")
+    if call.renew:
+        tabled = sum((cells[it] for it in STUDIES), list[list[object]]())
+        renew_document({"others of this machine": markdown_table(heads, tabled)})
+    if call.renew or call.rows:
+        renew_rows(rows)
     return 0
 
 

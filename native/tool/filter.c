@@ -75,16 +75,34 @@ static void forget(UInt region)
     nears[region].number = 0;
 }
 
+static void raise_number(UInt region)
+{
+    Near *it = &nears[(Int)region];
+    if (it->number == LAST_NUMBER)
+        forget(region);
+    it->number += STAMP_NUMBER;
+    publish(region);
+}
+
 static void come_near(UInt region, UInt thread)
 {
     Near *it = &nears[(Int)region];
     if (it->last == thread)
         return;
     it->last = thread;
-    if (it->number == LAST_NUMBER)
-        forget(region);
-    it->number += STAMP_NUMBER;
-    publish(region);
+    raise_number(region);
+}
+
+void filter_part(void)
+{
+    UInt index, region;
+    for (index = 0; index < region_count; index++) {
+        UInt place = regions[index].place;
+        if (regions[index].chunk)
+            for (region = place >> trace_near; region <= (place + REGION - 1) >> trace_near;
+                 region++)
+                raise_number(region);
+    }
 }
 
 UInt *filter_stamps(UInt index, UInt place)

@@ -6,7 +6,8 @@
    Each region has a number, which rises when a thread comes near that isn't the last one that came
    near, and each word has a stamp of its last access that was kept: its thread, whether it wrote,
    and its region's number then. An access is redundant where a look at these two says so, which
-   translated code does by itself (native/tool/looks.c). */
+   translated code does by itself (native/tool/looks.c). Where parts of a run are recorded, each
+   part is filtered by itself. */
 #ifndef PREDATOR_FILTER_H
 #define PREDATOR_FILTER_H
 
@@ -31,6 +32,7 @@ extern Chunk *no_chunk; /* where nothing was kept */
 Bool filter_begin(void);
 UInt *filter_stamps(UInt region, UInt place); /* those of a page, or none where no memory is left */
 Bool filter_keeps(UInt hart, Bool writes, UInt place, UInt *stamp);
+void filter_part(void); /* no access before this one makes a later one redundant */
 
 #ifndef PREDATOR_RUNTIME
 /* By an address of the program less than 2^37, as all are under valgrind. */

@@ -13,8 +13,10 @@
    killed, the program is killed with it; or the guard gets a signal, and kills all of them.
 
    Where one of the words is `--switch=?`, SIGUSR2 is counted in a file of memory, whose descriptor
-   takes the place of the `?`. */
+   takes the place of the `?`; elsewhere it is said that the signal does nothing. One that came
+   before this process was blocked by who started it, and is taken here. */
 #define _GNU_SOURCE
+#include <dirent.h>
 #include <errno.h>
 #include <fcntl.h>
 #include <signal.h>
@@ -24,6 +26,7 @@
 #include <sys/mman.h>
 #include <sys/prctl.h>
 #include <sys/wait.h>
+#include <time.h>
 #include <unistd.h>
 
 #define LEFT_ALONE    SIGRTMAX /* what the guard gets where this process is killed */
@@ -78,20 +81,94 @@ static int was_told(pid_t child)
     return 0;
 }
 
+/* Whether it is the first signal for that child. */
+static int send(pid_t child, int number, int again)
+{
+    int is_first = !was_told(child);
+    if (is_first || again)
+        kill(child, number);
+    if (is_first && told_count < MOST_CHILDREN)
+        told_of[told_count++] = child;
+    return is_first;
+}
+
 /* A signal to each child, or to those alone that it wasn't handed on to before. */
 static void to_children(int number, int again)
 {
     FILE *list = fopen("/proc/thread-self/children", "r");
     int child;
-    while (list && fscanf(list, "%d", &child) == 1) {
-        if (!again && was_told(child))
-            continue;
-        kill(child, number);
-        if (!was_told(child) && told_count < MOST_CHILDREN)
-            told_of[told_count++] = child;
-    }
+    while (list && fscanf(list, "%d", &child) == 1)
+        send(child, number, again);
     if (list)
         fclose(list);
+}
+
+static pid_t stopped[MOST_CHILDREN];
+static int stopped_count;
+
+static int is_stopped(pid_t child)
+{
+    int it;
+    for (it = 0; it < stopped_count; it++)
+        if (stopped[it] == child)
+            return 1;
+    return 0;
+}
+
+/* Stops what a process has started, and what these have. */
+static void stop_below(pid_t parent)
+{
+    char path[64];
+    snprintf(path, sizeof path, "/proc/%d/task", (int)parent);
+    DIR *tasks = opendir(path);
+    struct dirent *task;
+    int child;
+    while (tasks && (task = readdir(tasks))) {
+        char name[512];
+        snprintf(name, sizeof name, "%s/%s/children", path, task->d_name);
+        FILE *list = task->d_name[0] == '.' ? 0 : fopen(name, "r");
+        while (list && fscanf(list, "%d", &child) == 1) {
+            if (!is_stopped(child) && stopped_count < MOST_CHILDREN) {
+                kill(child, SIGSTOP);
+                stopped[stopped_count++] = child;
+            }
+            stop_below(child);
+        }
+        if (list)
+            fclose(list);
+    }
+    if (tasks)
+        closedir(tasks);
+}
+
+/* A signal to each process below this one, or to those alone that it wasn't handed on to before:
+ * how many these are. All of them are stopped meanwhile, so that none starts another one that
+ * doesn't get it. */
+static int to_all(int number, int again)
+{
+    int it, count, fresh = 0;
+    stopped_count = 0;
+    do {
+        count = stopped_count;
+        stop_below(getpid());
+    } while (stopped_count > count);
+    for (it = 0; it < stopped_count; it++)
+        fresh += send(stopped[it], number, again);
+    for (it = 0; it < stopped_count; it++)
+        kill(stopped[it], SIGCONT);
+    return fresh;
+}
+
+/* A signal to what outlives the program. Where that goes on starting processes for two seconds, all
+ * of it is killed. */
+static void end_rest(int *number)
+{
+    static time_t began;
+    struct timespec now;
+    clock_gettime(CLOCK_MONOTONIC, &now);
+    began = began ? began : now.tv_sec;
+    if (to_all(*number, *number == SIGKILL) > 0 && now.tv_sec - began > 2)
+        to_all(*number = SIGKILL, 1);
 }
 
 /* The guard: it ends with the program's status, once no process is left that came of it. */
@@ -105,16 +182,23 @@ static void guard(char **words)
         one = sigwaitinfo(&taken, 0);
         if (one == SIGTERM || one == SIGHUP || one == LEFT_ALONE) {
             ended = one == LEFT_ALONE ? SIGKILL : one;
-            to_children(ended, 1);
+            if (program > 0 && ended != SIGKILL)
+                to_children(ended, 1);
+            else
+                to_all(ended, 1);
         } else if (one == SIGCHLD) {
             int how;
             while ((child = waitpid(-1, &how, WNOHANG)) > 0)
-                if (child == program)
+                if (child == program) {
                     status = status_of(how);
+                    program = 0;
+                }
             if (child < 0)
                 exit(status);
-            if (ended)
-                to_children(ended, ended == SIGKILL);
+            if (ended && program > 0)
+                to_children(ended, 0);
+            else if (ended)
+                end_rest(&ended);
         }
     }
 }
@@ -161,13 +245,19 @@ static void open_switch(char **words)
     }
     snprintf(word, sizeof word, "--switch=%d", switch_file);
     *words = word;
-    sigaddset(&taken, SIGUSR2);
 }
 
 static void flip_switch(void)
 {
     static unsigned flips;
     flips++;
+    if (switch_file < 0) {
+        if (flips == 1)
+            fputs("predator native: SIGUSR2 does nothing here: with --child and --built recording "
+                  "isn't switched\n",
+                  stderr);
+        return;
+    }
     if (pwrite(switch_file, &flips, sizeof flips, 0) != sizeof flips)
         perror("predator native: a file of memory");
 }
@@ -184,11 +274,14 @@ int main(int argc, char **argv)
     replayed = atoi(argv[4]);
     fcntl(replayed, F_SETFD, FD_CLOEXEC); /* the program must not inherit it */
     sigemptyset(&taken);
-    for (int it = 0; it < 6; it++)
-        sigaddset(&taken, (int[]){SIGTERM, SIGHUP, SIGINT, SIGQUIT, SIGCHLD, LEFT_ALONE}[it]);
+    for (int it = 0; it < 7; it++)
+        sigaddset(&taken,
+                  (int[]){SIGTERM, SIGHUP, SIGINT, SIGQUIT, SIGUSR2, SIGCHLD, LEFT_ALONE}[it]);
     open_switch(argv + 5);
     sigprocmask(SIG_BLOCK, &taken, &before);
-    sigaction(SIGCHLD, &(struct sigaction){.sa_handler = SIG_DFL}, &child_before);
+    sigdelset(&before, SIGUSR2);
+    sigaction(SIGCHLD, &(struct sigaction){.sa_handler = SIG_DFL, .sa_flags = SA_NOCLDSTOP},
+              &child_before);
     program = token < 0 ? start_program(argv + 5) : start(LEFT_ALONE);
     if (program == 0)
         guard(argv + 5);

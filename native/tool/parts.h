@@ -31,6 +31,7 @@ typedef struct {
     UInt count;
     ULong length; /* what stands in the file, without the end */
     Bool seeks;
+    Bool has_name; /* and wasn't handed over open */
 } File;
 
 extern File trace_file;

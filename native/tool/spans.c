@@ -41,6 +41,7 @@ void spans_resume(void)
     if (!spans_are_asked())
         return;
     table_text("resume %llu\n", trace_accesses);
+    filter_part();
     if (!is_known)
         began = VG_(read_millisecond_timer)();
     is_known = True;

@@ -23,7 +23,20 @@ void write_noted(void) { notes_write(noted_of); }
 static void begin_turn(void)
 {
     notes_turn(noted_of, trace_records ? quantum : 0);
+    trace_turns += trace_records;
     turn_is_over = False;
+}
+
+#define TICKS 100000000 /* between two looks at the terminal, of the processor's */
+
+static void show_progress(void)
+{
+    static ULong last;
+    ULong now = __builtin_ia32_rdtsc();
+    if (now - last < TICKS)
+        return;
+    last = now;
+    trace_show();
 }
 
 static void translate(UInt does)
@@ -87,6 +100,8 @@ static void on_start(ThreadId tid, ULong blocks)
         spans_look(would_record());
         judge_recording();
     }
+    if (trace_records)
+        show_progress();
     if (tid > MOST_HARTS && trace_records)
         trace_stop("threads", "more than 256 threads live at a time");
     if (code != RUNS && !trace_is_open()) { /* nothing is written any more: the program goes on as

@@ -15,7 +15,7 @@
 #define PROGRAM_PATH program_path()
 #endif
 
-ULong trace_accesses, trace_whole, trace_most, trace_max_bytes;
+ULong trace_accesses, trace_whole, trace_turns, trace_most, trace_max_bytes;
 Bool trace_records, trace_pcs;
 
 File trace_file = {-1};
@@ -64,6 +64,7 @@ static Bool file_open(File *it, const HChar *path, Bool seeks)
     }
     it->fd = VG_(safe_fd)(given >= 0 ? given : (Int)sr_Res(opened));
     KEEP_FILE(it->fd);
+    it->has_name = given < 0;
     it->path = given < 0 ? VG_(strdup)("predator.path", path)
                : seeks   ? "the trace's pipe"
                          : "the table's pipe";
@@ -108,6 +109,13 @@ ULong bytes_free(Int fd)
         sr_isError(CALL(__NR_fstatfs, fd, &disk, 0, 0)) || disk.blocks == 0)
         return NO_DISK;
     return disk.blocks_available * disk.block_size;
+}
+
+static Bool is_deleted(Int fd)
+{
+    struct vki_stat about;
+    return !sr_isError(CALL(__NR_fstat, fd, &about, 0, 0)) && VKI_S_ISREG(about.st_mode) &&
+           about.st_nlink == 0;
 }
 
 static Bool is_terminal(Int fd)
@@ -200,14 +208,15 @@ static void judge_room(void)
 /* How far the recording is, on a terminal, from the second second on. */
 static UInt began, shown; /* in milliseconds; `shown` is when it was last */
 
-static void show_progress(void)
+void trace_show(void)
 {
     UInt now = milliseconds();
     if (!shown || now - began < 1000 || now - shown < 250)
         return;
     shown = now;
     VG_(printf)
-    ("\rrecording: %llu accesses, %llu MB\033[K\r", trace_whole, trace_file.length / 1000000);
+    ("\rrecording: %llu accesses, %llu MB, %llu turns\033[K\r", trace_whole,
+     (trace_file.length + trace_file.count) / 1000000, trace_turns);
 }
 
 static void end_progress(void)
@@ -238,7 +247,7 @@ static void trace_piece(Bool is_last, UInt outcome, UInt value)
         written_accesses = trace_accesses;
         written_whole = trace_whole;
         if (!is_last) {
-            show_progress();
+            trace_show();
             if (trace_file.seeks)
                 judge_room();
         }
@@ -355,12 +364,22 @@ void trace_flush(void)
     trace_piece(False, OUTCOME_PART, 0);
 }
 
+/* A program may delete its own folder, and the trace with it. */
+static void look_for_file(void)
+{
+    if (trace_file.has_name && is_deleted(trace_file.fd))
+        VG_(printf)
+    ("predator native: %s: the file was deleted while the program ran, so the trace is lost\n",
+     trace_file.path);
+}
+
 /* What the table says last: how many accesses the trace has, and why it ends. */
 static void finish(UInt outcome, UInt value, const HChar *word)
 {
     if (trace_file.fd < 0)
         return;
     end_progress();
+    look_for_file();
     tell_made_code();
     table_text("end %llu %s\n", trace_accesses, word);
     file_flush(&table);

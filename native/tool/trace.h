@@ -7,6 +7,7 @@
 
 extern ULong trace_accesses; /* so many stand in the trace */
 extern ULong trace_whole;    /* and so many were made: more where it is filtered */
+extern ULong trace_turns;    /* so many turns have begun */
 /* False where a file can't be written. Without a table's path it is that of the trace with
  * `.table`; a path /dev/fd/N is taken over. */
 Bool trace_begin(const HChar *path, const HChar *table);
@@ -20,6 +21,7 @@ void trace_thread(UInt hart, Addr stack, Addr own); /* a thread has begun, with 
                                                        its stack and to what it has for itself */
 void trace_stack(UInt hart, Addr from, Addr to);    /* where a stack lies */
 void trace_flush(void);
+void trace_show(void); /* how far the recording is, on a terminal */
 void trace_end(Bool by_exit, Int code);
 void trace_stop(const HChar *word, const HChar *why); /* the trace ends here; the program goes on */
 void trace_becomes(Bool another); /* the program is about to become another one, or did not */

@@ -49,6 +49,14 @@ rm -f o o.* same same.table vgcore.*
 # How far a recording is stands on a terminal alone.
 "$run" --trace o -- ./long >shown 2>&1
 expect_equal "progress: only on a terminal" "sum 600000" "$(cat shown)"
+gcc -O1 -g -pthread "$here/tries/forever.c" -o forever
+for way in "" --filtered "--skip 1s"; do
+    # (the words of a row)
+    # shellcheck disable=SC2086
+    said=$("$here/tries/progress.py" 2 "$run" --quantum 10 $way --trace o -- ./forever)
+    expect_between "progress $way: on a terminal" 1 9 "$(sed -n 's/^shown //p' <<<"$said")"
+    expect_equal "progress $way: from the second second on, and gone in the end" "later rises cleared" "$(sed -n 2,4p <<<"$said" | tr '\n' ' ' | sed 's/ $//')"
+done
 
 # Why a recording ended stands in its address map.
 why() { awk '$1 == "end" { word = $3 } END { print word }' "$1.table"; }
@@ -87,4 +95,4 @@ refused "--max-disk without a trace" 125 "'--max-disk' is for '--trace'" --max-d
 refused "--max-disk 0" 125 "'--max-disk' is a number of bytes" --max-disk 0 --trace o -- ./odd
 refused "--max-disk 1023K" 125 "'--max-disk' is a number of bytes" --max-disk 1023K --trace o -- ./odd
 refused "--max-disk 1T" 125 "'--max-disk' is a number of bytes" --max-disk 1T --trace o -- ./odd
-rm -f o o.* whole whole.table
+rm -f o o.* shown whole whole.table

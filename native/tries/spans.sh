@@ -26,8 +26,8 @@ span "paused" "$sum" "exit 0 exit" 0 0 0 --paused
 # (both end windows where a turn ends)
 "$run" --windows 10K/1M --trace p -- ./spans 500000 >/dev/null 2>&1
 "$run" --windows 10K/1M --filtered --trace f -- ./spans 500000 >/dev/null 2>&1
-"$here/../tools/judge_filter.py" p defined >/dev/null
-expect_equal "a part: windows, filtered: the same bytes" same "$(cmp -s f defined && echo same)"
+"$here/../tools/judge_filter.py" p defined --parts p.table >/dev/null
+expect_equal "a part: windows, filtered: the same bytes, each part by itself" same "$(cmp -s f defined && echo same)"
 timeout 20 "$run" --quantum 1 --skip 500ms --for 300ms --trace p -- ./spans 1000 ever >/dev/null 2>p.log
 expect_equal "a part: by time" "part for" "$("$judge" end p) $(awk '$1 == "end" { word = $3 } END { print word }' p.table)"
 expect_between "a part: by time: accesses" 1000 100000000 "$("$judge" accesses p)"

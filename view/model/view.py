@@ -103,6 +103,8 @@ class View:
         self.filtered = call.filtered
         self.misses: Misses | None = None
         self.word_misses: Misses | None = None
+        # How many misses are a thread's first access of a line in a part, where several parts of a run were recorded.
+        self.first_misses: int | None = None
         self.every_line: Report | None = None
         self.misses_by_layout: dict[Layout, Misses] = {}
         self.notes: list[str] = []
@@ -133,6 +135,10 @@ class View:
     def accesses(self) -> int:
         """How many accesses the program made. A filtered trace has fewer."""
         return self.filtered.whole if self.filtered else self.report.accesses
+
+    def part_begins(self) -> list[int]:
+        """Behind how many accesses a recorder began or went on; none where it recorded the whole run."""
+        return list(getattr(getattr(self.naming.program, "map", None), "resumes", ()))
 
     def count_misses(self, predator: Predator | None, passes: Passes | None) -> None:
         """Counts the misses, under the report's layout, for each word, and under the layouts of predicted lines."""

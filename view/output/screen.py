@@ -111,7 +111,7 @@ def summary(view: View) -> str:
         did.insert(0, counted(report.steps, "instruction"))
     offset = f" at offset {report.offset}" if report.offset else ""
     layout = f"{report.size}-byte lines{offset}{interleaving(view)}"
-    parts = len(getattr(getattr(view.naming.program, "map", None), "resumes", ()))
+    parts = len(view.part_begins())
     if parts:
         what = (
             "a part of the run, which"
@@ -130,7 +130,13 @@ def totals(view: View) -> str:
         f"{counted(total['useless'], 'false-sharing miss')}, "
         f"{total['useful']:,} true-sharing, {total['cold']:,} cold"
     )
-    return numbers + (f": {rate}" if rate else "")
+    first = (
+        f"; {view.first_misses:,} of these misses are a thread's first access of a line in a part, which"
+        " the gap may have caused"
+        if view.first_misses is not None
+        else ""
+    )
+    return numbers + (f": {rate}" if rate else "") + first
 
 
 def outcome(view: View, paint: Paint, width: int) -> Iterator[str]:

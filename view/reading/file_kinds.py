@@ -46,6 +46,8 @@ def describe_other_text(text: str) -> str:
         return "a trace: use `predator view replay -` to read one from standard input"
     if text.startswith("PRDSTA"):
         return "a saved state: use `predator replay --resume`"
+    if text.startswith("#!"):
+        return "a script: record the program that runs it, as `predator view native bash -- SCRIPT`"
     if text.startswith("{"):
         return "JSON of `predator view --json`: use `--against` to compare with it"
     return ""

@@ -156,8 +156,21 @@ def file_stamp(path: str) -> tuple[int, int]:
     return 0, 0
 
 
+def is_gone(folder: str) -> bool:
+    """Whether a folder was deleted; the current one may still be used then."""
+    with contextlib.suppress(OSError):
+        return os.stat(folder).st_nlink == 0
+    return True
+
+
 def check_trace(trace: str, old: tuple[int, int], status: int) -> None:
     """Refuses to go on where nothing was recorded, and gives a trace an end that was cut by a kill."""
+    folder = os.path.dirname(trace) or "."
+    if is_gone(folder):
+        raise Fault(
+            f"{folder}: this folder was deleted while the program ran, and the trace with it: name another"
+            " one by TMPDIR or `--trace`"
+        )
     if file_stamp(trace) == old or file_stamp(trace)[0] == 0:
         if status in REFUSAL_STATUSES or 0 < status < 128:
             raise Fault(

@@ -95,6 +95,7 @@ class Texts(unittest.TestCase):
             '{"format": 1}', "r isn't a report but JSON of `predator view --json`: use `--against`"
         )
         self.fault("PRDSTA01", "r isn't a report but a saved state: use `predator replay --resume`")
+        self.fault("#!/bin/sh\n", "r isn't a report but a script: record the program that runs it")
         self.fault("predator: trace BadMagic\n", "r isn't a report: ")
         for cut in range(30, len(WHOLE) - 4, 11):
             self.fault(WHOLE[:cut], "r is cut short: the last line `end` is missing")
