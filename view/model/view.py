@@ -113,6 +113,8 @@ class View:
         self.fine: View | None = None
         # How many misses of a line are false sharing by bytes and true sharing by words.
         self.byte_changes: dict[int, int] = {}
+        # Whether false sharing by bytes may matter and the filtered trace can't tell, while a whole one would.
+        self.has_unknown_bytes = False
         self.blame: Blame | None = None
         self.invalidations_by_line: dict[int, LineInvalidations] = {}
         self.placements: dict[Key, Placement] = {}
