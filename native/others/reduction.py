@@ -32,7 +32,7 @@ REFERENCE, READS = f"{FOLDER}/reference.fa", f"{FOLDER}/reads.fa"
 # Programs that aren't in the table of run.py.
 MORE = {
     "minimap2": Study(["minimap2"], ["-t4", "-a", REFERENCE, READS], is_debian=True),
-    "pigz": Study(["pigz"], ["-p4", "-b128", "-c", TEXT], is_debian=True, text=2_000_000),
+    "pigz": Study(["pigz"], ["-p4", "-b128", "-c", TEXT], is_debian=True, text=2_300_000),
 }
 ALL = {**STUDIES, **MORE}
 

@@ -61,8 +61,9 @@ def count_by_bytes(
 def mixed_lines(view: View, uses: WordUses) -> list[int]:
     """The lines with true-sharing misses on which threads use different bytes of a word."""
     lines, size = view.misses.lines if view.misses else {}, view.report.size
-    found = {it // size * size for it in uses.words if uses.may_be_mixed(it)}
-    return sorted(it for it in found if it in lines and lines[it].useful)[:MAX_LINES]
+    shared = {base for base, line in lines.items() if line.useful}
+    words = [it for it, own in uses.words.items() if len(own) > 1 and it // size * size in shared]
+    return sorted({it // size * size for it in words if uses.may_be_mixed(it)})[:MAX_LINES]
 
 
 def note_unknown_bytes(view: View, bases: Sequence[int]) -> None:
