@@ -10,6 +10,7 @@ xz-utils ripgrep). A benchmark, no test: it ends with 1 only where a program fai
 
 import argparse
 import functools
+import glob
 import os
 import shutil
 import statistics
@@ -22,18 +23,19 @@ TOP = os.path.abspath(os.path.join(os.path.dirname(os.path.abspath(__file__)), "
 sys.path[:0] = [TOP, os.path.join(TOP, "native", "others"), os.path.join(TOP, "guest", "studies")]
 from reduction import MORE, REFERENCE, write_genomes  # noqa: E402
 from report import markdown_table  # noqa: E402
-from run import FOLDER, STUDIES, Study, make_files  # noqa: E402
+from run import FOLDER, STUDIES, TEXT, Study, make_files  # noqa: E402
 from view.reading.filtered_traces import read_filter  # noqa: E402
 
 PREDATOR = os.path.join(TOP, "bin", "predator")
-# The study's programs, with input for so many accesses that a run takes longer than it takes to begin.
+# Programs of the study, three of which compress so many bytes of this repository's pages and sources.
 PROGRAMS = {
     "minimap2": MORE["minimap2"],
-    "pigz": MORE["pigz"],
-    "zstd": STUDIES["zstd"]._replace(text=20_000_000),
+    "pigz": MORE["pigz"]._replace(text=1_030_000),
+    "zstd": STUDIES["zstd"]._replace(text=2_300_000),
     "xz": STUDIES["xz"],
     "ripgrep": STUDIES["ripgrep"],
 }
+SOURCES = ("docs/*.md", "crates/*/src/*.rt")
 MB = 1 << 20
 # The aims: recording and a first screen, times helgrind; recording at the long quantum, times `none`; bytes of
 # trace for each access of the program; the recorder's memory, times the program's, and so many bytes more.
@@ -119,6 +121,16 @@ def measure_call(words: Sequence[str], rounds: int) -> Cost:
     return Cost(statistics.median(it.seconds for it in found), max(it.memory for it in found))
 
 
+def read_sources() -> bytes:
+    """The pages and sources of the program, one after the other."""
+    paths = sorted(it for own in SOURCES for it in glob.glob(os.path.join(TOP, own)))
+    found = []
+    for path in paths:
+        with open(path, "rb") as file:
+            found.append(file.read())
+    return b"".join(found)
+
+
 def command_of(study: Study, folder: str) -> list[str]:
     """A program and its words, whose files are in a folder from then on."""
     program = shutil.which(study.builds[0])
@@ -127,6 +139,9 @@ def command_of(study: Study, folder: str) -> list[str]:
     if REFERENCE in study.words:
         write_genomes(folder)
     files = make_files(study, folder)
+    if TEXT in study.words:
+        with open(files[TEXT], "wb") as file:
+            file.write(read_sources()[: study.text])
     return [program, *(files.get(it, it.replace(FOLDER, folder)) for it in study.words)]
 
 

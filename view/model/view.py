@@ -99,8 +99,8 @@ class View:
 
     def __init__(self, call: Call, report: Report, naming: Naming) -> None:
         self.call, self.report, self.naming = call, report, naming
-        # Of a filtered trace what it says of itself, or none.
-        self.filtered = call.filtered
+        # Of a filtered trace what it says of itself, or none; and whether a whole one would show sharing by bytes that may matter.
+        self.filtered, self.has_unknown_bytes = call.filtered, False
         self.misses: Misses | None = None
         self.word_misses: Misses | None = None
         self.every_line: Report | None = None
@@ -113,8 +113,6 @@ class View:
         self.fine: View | None = None
         # How many misses of a line are false sharing by bytes and true sharing by words.
         self.byte_changes: dict[int, int] = {}
-        # Whether false sharing by bytes may matter and the filtered trace can't tell, while a whole one would.
-        self.has_unknown_bytes = False
         self.blame: Blame | None = None
         self.invalidations_by_line: dict[int, LineInvalidations] = {}
         self.placements: dict[Key, Placement] = {}
