@@ -76,12 +76,10 @@ def run_predator(*words: str) -> str:
 
 
 def read_misses(trace: str, size: int, shift: int) -> list[str]:
-    """What `misses` prints of each line and in all, without the number of accesses and the births of blocks,
-    which are positions."""
+    """What `misses` prints of each line and in all. (Births of blocks are positions, and a block in whose life
+    no access is kept has no row.)"""
     text = run_predator("misses", trace, "--size", str(size), "--shift", str(shift))
-    return re.sub(r" born.*", "", re.sub(r"^(accesses|whole) .*\n", "", text, flags=re.M)).split(
-        "\n"
-    )
+    return re.findall(r"^(?:line|total) .*", text, flags=re.M)
 
 
 def read_sweep(trace: str) -> list[str]:
@@ -91,6 +89,11 @@ def read_sweep(trace: str) -> list[str]:
 
 def count_differences(whole: Sequence[str], found: Sequence[str]) -> int:
     return sum(one != other for one, other in zip(whole, found)) + abs(len(whole) - len(found))
+
+
+def widest_layout(near: int) -> tuple[int, int]:
+    """The compared layout with the widest lines that a filtered trace keeps."""
+    return max((it for it in LAYOUTS if it[0] <= near), key=lambda it: it[0])
 
 
 def study_program(name: str, most: int) -> Row:
@@ -111,7 +114,7 @@ def study_program(name: str, most: int) -> Row:
             accesses, kept[near] = int(numbers[1]), int(numbers[2])
             if near == USUAL_NEAR:
                 filtered_bytes = os.path.getsize(out)
-            for layout in (it for it in LAYOUTS if it[0] <= near):
+            for layout in LAYOUTS if near == USUAL_NEAR else [widest_layout(near)]:
                 compared += len(whole[layout])
                 differing += count_differences(whole[layout], read_misses(out, *layout))
             if near == USUAL_NEAR:
@@ -135,7 +138,7 @@ def main() -> int:
     for name in names:
         rows.append(study_program(name, options.most))
         print(*rows[-1].cells(), flush=True)
-    heads = ["Program", "Accesses", *map(str, NEAR_BYTES), "Bytes whole", "Filtered", "Compared"]
+    heads = ["Program", "Accesses", *map(str, NEAR_BYTES), "Whole", "Filtered", "Compared"]
     table = markdown_table(heads, [it.cells() for it in rows])
     print(table)
     if options.renew:

@@ -62,7 +62,7 @@ def mixed_lines(view: View, uses: WordUses) -> list[int]:
     """The lines with true-sharing misses on which threads use different bytes of a word."""
     lines, size = view.misses.lines if view.misses else {}, view.report.size
     shared = {base for base, line in lines.items() if line.useful}
-    words = [it for it, own in uses.words.items() if len(own) > 1 and it // size * size in shared]
+    words = [it for it in uses.words_of_several() if it // size * size in shared]
     return sorted({it // size * size for it in words if uses.may_be_mixed(it)})[:MAX_LINES]
 
 
