@@ -27,7 +27,7 @@ USUAL_NEAR = 4096
 LAYOUTS = ((16, 0), (64, 0), (64, 36), (256, 132), (1024, 516), (1024, 0))
 SWEPT = 64
 # So many accesses of each program are recorded at most.
-MAX_ACCESSES = 30_000_000
+MAX_ACCESSES = 10_000_000
 REFERENCE, READS = f"{FOLDER}/reference.fa", f"{FOLDER}/reads.fa"
 # Programs that aren't in the table of run.py.
 MORE = {
