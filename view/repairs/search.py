@@ -182,8 +182,8 @@ class Search:
         )
 
     def bound(self) -> Repair | None:
-        """All words of the objects apart by their threads, the better of two ways. (Words from far apart stay on lines of their own, so that
-        a filtered trace can say what that comes to.)"""
+        """All words of the objects apart by their threads, the better of two ways. (Words from far apart stay on lines of their own, so
+        that a filtered trace can say what that comes to.)"""
         made = []
         for is_each in (False, True):
             with contextlib.suppress(Unmovable):
