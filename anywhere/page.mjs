@@ -263,12 +263,14 @@ const missesText = (misses) => `${counted(misses.falseSharing, "false-sharing mi
 /** What the report says of the whole trace: a sentence, and one of its misses if they are known. */
 function summaryOf(report, misses) {
   const size = report ?? misses;
-  const parts = [`${counted(size.accesses, "access")}; ${size.size}-byte lines${size.shift ? `, shifted by ${size.shift} bytes` : ""}`];
+  const whole = misses?.whole ?? size.accesses;
+  const recorded = whole > size.accesses ? ` (${shown(size.accesses)} recorded)` : "";
+  const parts = [`${counted(whole, "access")}${recorded}; ${size.size}-byte lines${size.shift ? `, shifted by ${size.shift} bytes` : ""}`];
   if (report?.steps) parts.unshift(counted(report.steps, "instruction"));
   if (report) parts.unshift(`Outcome: ${report.outcome}`);
   const sentence = `${parts.join(", ")}.`;
   if (!misses) return [sentence];
-  const of = report?.steps || misses.accesses;
+  const of = report?.steps || misses.whole;
   const rate = of ? ((1000 * misses.falseSharing) / of).toFixed(2) : "0.00";
   const counts = `${missesText(misses)}, ${shown(misses.cold)} cold: ${rate} false per 1,000 ${report?.steps ? "instructions" : "accesses"}.`;
   return [sentence, element("br"), element("b", "", counts)];

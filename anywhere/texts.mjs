@@ -121,7 +121,9 @@ export function readMisses(text) {
     .slice(1)
     .map(Number);
   const accesses = Number(head.get("accesses") ?? 0);
-  return { accesses, ...layoutOf(rows[0].slice("misses ".length)), lines, cold, trueSharing, falseSharing };
+  // (of a filtered trace the number before some were left out)
+  const whole = Number(head.get("whole") ?? accesses);
+  return { accesses, whole, ...layoutOf(rows[0].slice("misses ".length)), lines, cold, trueSharing, falseSharing };
 }
 
 /** The pairs of each line, by its base. */

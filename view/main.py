@@ -1,5 +1,6 @@
 """From a report to the source: `predator view ..`. docs/VIEW.md describes its output."""
 
+import contextlib
 import functools
 import gc
 import io
@@ -29,14 +30,14 @@ from view.model.objects import DataObject  # noqa: E402
 from view.reading.passes import Passes, layout_of, start_passes  # noqa: E402
 from view.reading.pipes import open_as_pipe, copy_pipes  # noqa: E402
 from view.reading.engine import Predator  # noqa: E402
-from view.reading.recording import record_program, keep_run_trace  # noqa: E402
+from view.reading.recording import keep_run_trace, record_all, record_program  # noqa: E402
 from view.reading.reports import Report, Symbol  # noqa: E402
 from view.reading.settings import USUAL  # noqa: E402
 from view.output.screen import Paint, counted, screen, width_of_screen  # noqa: E402
 from view.names.source_lines import Sources  # noqa: E402
 from view.model.explained_lines import explain  # noqa: E402
 from view.model.filter_notes import note_filter  # noqa: E402
-from view.model.fine_grain import begin_fine_run, note_fine_run  # noqa: E402
+from view.model.fine_grain import begin_fine_run, note_fine_run, wants_all_accesses  # noqa: E402
 from view.model.part_misses import note_first_misses  # noqa: E402
 from view.model.miss_rates import Worth  # noqa: E402
 
@@ -199,8 +200,13 @@ def look(call: Call) -> View:
         templates()
     predator = Predator() if call.action != "file" else None
     call.check_filtered_trace((layout_of(call) or (USUAL["line"], 0))[0])
-    with start_passes(call, predator) as passes:
+    with start_passes(call, predator) as passes, contextlib.suppress(RecordedAgain):
         return found(call, predator, passes)
+    return look(call)
+
+
+class RecordedAgain(Exception):
+    """The call names another trace from now on, which has all accesses."""
 
 
 def found(call: Call, predator: Predator | None, passes: Passes | None) -> View:
@@ -221,12 +227,18 @@ def found(call: Call, predator: Predator | None, passes: Passes | None) -> View:
     view = View(call, report, Naming(report, program, sources, call.options["type"], memory))
     view.worth = Worth(view, miss_rates.begin_count(call, predator, (report.size, report.offset)))
     reading = read_ahead(view, predator)
-    fine = begin_fine_run(call, report, view.accesses, look_again)
+    begin_fine = functools.partial(begin_fine_run, call, report, view.accesses, look_again)
+    # (a filtered recording may be replaced by a whole one first)
+    fine = begin_fine() if view.filtered is None else None
     trial = trial_of(view, predator, reading)
     note_filter(view)
     view.count_misses(predator, passes)
     note_first_misses(view, predator)
     count_bytes(view, predator, reading)
+    if wants_all_accesses(view) and record_all(call):
+        raise RecordedAgain
+    if view.filtered is not None:
+        fine = begin_fine()
     view.look_for_overflow(predator)
     if report.outcome in ("deadlock", "budget"):
         from view.model.waiting_harts import note_waiting

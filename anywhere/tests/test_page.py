@@ -49,6 +49,11 @@ class Page(unittest.TestCase):
         for name in ("queue.trace", "heap.trace"):
             shutil.copy(os.path.join(EXAMPLES, name), cls.folder)
         cls.native("run", PROGRAM, "--trace", "pcs.trace", "--pcs", "--output", "out")
+        cls.native("filter", "pcs.trace", "filtered.trace")
+        # (a recorded program has no steps: the last three numbers are steps, accesses and all accesses)
+        with open(cls.path("filtered.trace"), "rb") as file:
+            trace = file.read()
+        cls.write("filtered.trace", trace[:-24] + bytes(8) + trace[-16:])
         cls.native("gen", f"{LARGE_ACCESSES}", "large.trace")
         cls.write("report.txt", cls.native("replay", "queue.trace"))
         cls.write("notes.txt", b"no report")
@@ -123,6 +128,20 @@ class Page(unittest.TestCase):
         self.check_controls(
             "pcs.trace", True, {"size": 128, "shift": 8, "tracking": 1, "report": 1000}
         )
+
+    def test_says_how_many_accesses_a_filtered_trace_leaves_out(self) -> None:
+        misses = self.native("misses", "filtered.trace").decode("latin-1").split("\n")
+        kept, whole = (int(it.split()[1]) for it in misses[1:3])
+        self.assertGreater(whole, kept)
+        self.browser.choose_file(self.path("filtered.trace"))
+        self.wait_for_count()
+        self.browser.wait_for("texts.misses && !current.isCounting")
+        self.assertIn(f"{whole:,} accesses ({kept:,} recorded)", self.text_of("summary"))
+        rate = f"{1000 * 4000 / whole:.2f} false per 1,000 accesses"
+        self.assertIn(rate, self.text_of("summary"))
+        self.browser.choose_file(self.path("pcs.trace"))
+        self.browser.wait_for("texts.misses && !current.isCounting")
+        self.assertNotIn("recorded", self.text_of("summary"))
 
     def rows_of(self, selector: str) -> list[list[str]]:
         """The cells of the rows of a table."""

@@ -4,13 +4,14 @@ is a word."""
 import contextlib
 import os
 import tempfile
-from typing import Iterable, NamedTuple, cast
+from typing import Iterable, NamedTuple, Sequence, cast
 
-from view.model.view import View
+from view.model.view import MIN_ACCESS_SHARE_DIVISOR, View
 from view.reading.byte_traces import MAX_ACCESSES, WORD, write_stretched
 from view.reading.engine import Predator, Refused, misses_reader
 from view.reading.reports import Misses
 from view.reading.trace_files import NarrowedWords, WordUses
+from view.repairs.advice import LITTLE
 
 # So many lines are counted by bytes.
 MAX_LINES = 4096
@@ -60,8 +61,23 @@ def count_by_bytes(
 def mixed_lines(view: View, uses: WordUses) -> list[int]:
     """The lines with true-sharing misses on which threads use different bytes of a word."""
     lines, size = view.misses.lines if view.misses else {}, view.report.size
-    found = {it // size * size for it in uses.words if uses.may_be_mixed(it)}
-    return sorted(it for it in found if it in lines and lines[it].useful)[:MAX_LINES]
+    shared = {base for base, line in lines.items() if line.useful}
+    words = [it for it in uses.words_of_several() if it // size * size in shared]
+    return sorted({it // size * size for it in words if uses.may_be_mixed(it)})[:MAX_LINES]
+
+
+def note_unknown_bytes(view: View, bases: Sequence[int]) -> None:
+    """Notes on how many lines a filtered trace can't be counted by bytes, where they have a large part of the misses."""
+    own = sum(view.misses.lines[it].useful for it in bases) if view.misses else 0
+    if own * LITTLE < view.total() or own * MIN_ACCESS_SHARE_DIVISOR < view.accesses:
+        return
+    is_long = view.accesses > MAX_ACCESSES
+    view.has_unknown_bytes = not is_long
+    why = "the trace is too long to count by bytes" if is_long else "--whole counts them by bytes"
+    view.notes.append(
+        f"threads may use different bytes of words on {len(bases):,} lines, whose misses are counted by"
+        f" words: {why}"
+    )
 
 
 def count_mixed_lines(view: View, predator: Predator | None, uses: WordUses | None) -> None:
@@ -73,10 +89,7 @@ def count_mixed_lines(view: View, predator: Predator | None, uses: WordUses | No
     if not bases or view.report.offset:
         return
     if view.filtered is not None:
-        view.notes.append(
-            f"threads may use different bytes of words on {len(bases):,} lines, whose misses are counted by"
-            " words: --whole counts them by bytes"
-        )
+        note_unknown_bytes(view, bases)
         return
     if view.report.accesses > MAX_ACCESSES:
         view.notes.append(

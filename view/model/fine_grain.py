@@ -14,7 +14,7 @@ from view.model.objects import DataObject
 from view.model.view import MIN_ACCESS_SHARE_DIVISOR, View
 from view.reading.calls import Call, option_width
 from view.reading.engine import Predator, Stream, setting_value
-from view.reading.recording import keep_run_trace, record_again
+from view.reading.recording import keep_run_trace, option_value, record_again
 from view.reading.reports import Report
 
 # The quantum of the fine run, and the least one beside which it is made.
@@ -68,6 +68,21 @@ def why_not_again(call: Call, report: Report) -> str:
         if stat.S_ISREG(kind) or stat.S_ISFIFO(kind) or stat.S_ISSOCK(kind):
             return "its standard input can be read once"
     return ""
+
+
+def wants_all_accesses(view: View) -> bool:
+    """Whether a program of this machine is recorded once more with all accesses, since only they show what threads share by bytes, and the
+    call doesn't want the others."""
+    recording = view.call.recording
+    return (
+        view.has_unknown_bytes
+        and recording is not None
+        and not any(it.startswith("--filtered") for it in view.call.recorder_flags)
+        and not view.call.is_again
+        and "no-fine" not in view.call.options
+        and option_value(recording.options, "--trace") is None
+        and not why_not_again(view.call, view.report)
+    )
 
 
 def wants_fine_recording(call: Call, report: Report, accesses: int) -> bool:

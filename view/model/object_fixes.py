@@ -6,6 +6,7 @@ from typing import TYPE_CHECKING, Sequence
 from view.model.object_keys import StackKey
 from view.model.objects import DataObject, WordUse, field_name_at
 from view.names.unnamed_memory import HEAP
+from view.reading.byte_traces import MAX_ACCESSES
 from view.reading.reports import Block, Symbol
 from view.repairs import advice
 
@@ -40,6 +41,9 @@ class ObjectFixes:
             ]
             fix = tried.fix(list(dict.fromkeys(mixed)), self.view.quantum())
             hint = "" if tried.is_saving() else advice.naming_fields(words, obj)
+            is_done = tried.is_saving() or tried.is_rare()
+            if not is_done and (unknown := self.unknown_bytes(obj, words)):
+                hint = f"; {unknown}"
             return fix + hint + self.view.worth.warning(obj, words)
         if self.view.is_little(obj):
             return advice.little(obj, self.view.total())
@@ -72,6 +76,8 @@ class ObjectFixes:
     def true_sharing(self, obj: DataObject, words: Sequence[WordUse]) -> str:
         """The advice for an object without a false-sharing miss."""
         own = [it for it in words if advice.is_shared(it) and it.key == obj.key]
+        if unknown := self.unknown_bytes(obj, own):
+            return f"unknown: {unknown}"
         if advice.mostly_packed(own) and own:
             turns = "" if self.view.fine else advice.in_turns(obj, words, self.view.quantum())
             return advice.true_sharing_sentence(obj, words, own, True) + turns
@@ -80,6 +86,21 @@ class ObjectFixes:
         return (
             f"none: all its misses are true sharing; write {what} less often, or give each thread its"
             f" own copy{turns}"
+        )
+
+    def unknown_bytes(self, obj: DataObject, words: Sequence[WordUse]) -> str:
+        """That the misses of an object may be false sharing by bytes, where a filtered trace can't tell; or nothing."""
+        uses = self.view.word_uses
+        if self.view.filtered is None or uses is None:
+            return ""
+        mixed = [it.addr for it in words if it.key == obj.key and uses.may_be_mixed(it.addr)]
+        if not mixed:
+            return ""
+        names = [field_name_at(it, obj.example, self.view.naming) for it in mixed]
+        more = "" if self.view.accesses > MAX_ACCESSES else "; --whole counts them by bytes"
+        return (
+            f"threads may use different bytes of {advice.listing(names)}, and misses are counted per"
+            f" 4-byte word{more}"
         )
 
     def numbers(self, obj: DataObject) -> str:

@@ -99,8 +99,8 @@ class View:
 
     def __init__(self, call: Call, report: Report, naming: Naming) -> None:
         self.call, self.report, self.naming = call, report, naming
-        # Of a filtered trace what it says of itself, or none.
-        self.filtered = call.filtered
+        # Of a filtered trace what it says of itself, or none; and whether a whole one would show sharing by bytes that may matter.
+        self.filtered, self.has_unknown_bytes = call.filtered, False
         self.misses: Misses | None = None
         self.word_misses: Misses | None = None
         # How many misses are a thread's first access of a line in a part, where several parts of a run were recorded.

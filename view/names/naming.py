@@ -449,7 +449,7 @@ class Naming:
         """The type of a block's elements, as the call says it or by the pointer that the source assigns it to; or none."""
         if self.program is None or not block.sites:
             return None
-        known = self.names_of_site(block)
+        known = self.names_of_site(block) if self.types else set()
         said = next((self.program.type_named(it) for site, it in self.types if site in known), None)
         if said is not None:
             return said

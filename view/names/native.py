@@ -6,6 +6,7 @@ import functools
 import json
 import os
 import re
+import struct
 import subprocess
 from typing import Iterable, Iterator, NamedTuple
 
@@ -29,7 +30,8 @@ from elftools.elf.sections import SymbolTableSection
 PAGE, LINE = 4096, 64
 # Where Debian's packages of debug information put it.
 DEBUG = "/usr/lib/debug/.build-id"
-
+# The type of a symbol of data (STT_OBJECT), in the low bits of its `st_info`.
+DATA_SYMBOL = 1
 
 # What follows `site` and `frame` in a table back; a file's name may have blanks.
 SITE, FRAME = re.compile(r"(0x\S+) (0x\S+) (\S+) (-|.*?:\d+) .*"), re.compile(
@@ -128,6 +130,18 @@ class AddressMap:
         return self.native_pcs.get(addr) if page is None else page + addr % PAGE
 
 
+def data_symbols(elf: ELFFile, table: SymbolTableSection) -> Iterator[tuple[str, int, int]]:
+    """The symbols of data in a table, without their versions: name, address and size. (A library has tens of thousands.)"""
+    names = elf.get_section(table["sh_link"]).data()
+    order, is_wide = "<" if elf.little_endian else ">", elf.elfclass == 64
+    row = struct.Struct(order + ("IBBHQQ" if is_wide else "IIIBBH"))
+    for own in row.iter_unpack(table.data()):
+        name, kind, addr, size = (own[it] for it in ((0, 1, 4, 5) if is_wide else (0, 3, 1, 2)))
+        if kind & 15 == DATA_SYMBOL:
+            text = names[name : names.index(b"\0", name)].decode("utf-8", "replace")
+            yield text.partition("@")[0], addr, size
+
+
 class NativeFile:
     """The program or a library, with its debug information, which may stand in a file of its own."""
 
@@ -149,21 +163,12 @@ class NativeFile:
             ]
             self.debug = self.debug_of(elf)
         with contextlib.suppress(Exception), open(self.debug, "rb") as file:
-            tables = [
-                section
-                for section in ELFFile(file).iter_sections()
-                if isinstance(section, SymbolTableSection)
-            ]
+            elf = ELFFile(file)
+            tables = [it for it in elf.iter_sections() if isinstance(it, SymbolTableSection)]
             self.is_stripped = all(it.name != ".symtab" for it in tables)
-            for symbol in (
-                symbol
-                for table in tables
-                for symbol in table.iter_symbols()
-                if symbol["st_info"]["type"] == "STT_OBJECT"
-            ):
-                name = symbol.name.partition("@")[0]
-                self.names.setdefault(symbol["st_value"], name)
-                self.extents.setdefault(name, []).append((symbol["st_value"], symbol["st_size"]))
+            for name, addr, size in (it for table in tables for it in data_symbols(elf, table)):
+                self.names.setdefault(addr, name)
+                self.extents.setdefault(name, []).append((addr, size))
 
     def debug_of(self, elf: ELFFile) -> str:
         note = elf.get_section_by_name(".note.gnu.build-id")

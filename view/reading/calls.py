@@ -39,8 +39,8 @@ Options:
   --no-predicted     count and show no predicted lines
   --explain N        find the conflicting instructions of the first N objects (3), with one run each; 0 for none. A trace with program
                      counters names those of all objects
-  --whole            record all accesses of a program of this machine, as is usual
-  --filtered[=N]     leave out those that change no cache: lines of at most N / 2 bytes keep their counts, N a power of two (4096)
+  --whole            record all accesses of a program of this machine; usually those that change no cache are left out
+  --filtered[=N]     leave them out in any case: lines of at most N / 2 bytes keep their counts, N a power of two (4096)
   --fine             also run a program of more than 4,000,000 accesses at a quantum of 3, to find what is contended only there, and
                      say why where that can't be
   --no-fine          run a program at the given quantum only

@@ -21,8 +21,6 @@ from view.reading.file_kinds import is_report
 REFUSAL_STATUSES = (125, 126, 127)
 # How much of a disk a trace takes that is kept for the call alone.
 MAX_DISK = "2G"
-# Whether accesses that change no cache are left out where the call doesn't say.
-IS_FILTERED_BY_DEFAULT = False
 # Signals that end a program: the first two are handed on to it, and the others come to it from the terminal.
 FORWARDED_SIGNALS, TERMINAL_SIGNALS = (signal.SIGTERM, signal.SIGHUP), (
     signal.SIGINT,
@@ -71,13 +69,13 @@ def recorder_flags(call: Call) -> list[str]:
 
 
 def is_filtered(call: Call) -> bool:
-    """Whether a program is recorded without the accesses that change no cache: where the call wants that, and usually where nothing that it
-    asks for needs the others."""
+    """Whether a program is recorded without the accesses that change no cache: where the call wants that, or nothing that it asks for needs
+    the others."""
     names = {it.partition("=")[0] for it in call.recorder_flags}
     if "--filtered" in names:
         return True
     thresholds = {"tracking", "prediction", "report"}
-    needs_all = (
+    return not (
         not names.isdisjoint({"--whole", "--no-pcs"})
         or "live" in call.options
         or call.options.get("by") == "count"
@@ -85,7 +83,6 @@ def is_filtered(call: Call) -> bool:
         or call.option_value("--settings") is not None
         or is_report(call.options.get("against", ""))
     )
-    return IS_FILTERED_BY_DEFAULT and not needs_all
 
 
 @contextlib.contextmanager
@@ -191,10 +188,10 @@ def check_trace(trace: str, old: tuple[int, int], status: int) -> None:
         )
 
 
-def record_again(recording: Recording, quantum: int) -> str | None:
+def record_again(recording: Recording, quantum: int, name: str = "again") -> str | None:
     """The trace of another recording, at a quantum, in processors that nothing else wants; or none where the program ended otherwise than
     with status 0, or took far longer. It has no input, and what it prints is lost."""
-    trace = os.path.join(recording.folder, "again")
+    trace = os.path.join(recording.folder, name)
     options = without(recording.options, ("--quantum", "--trace"))
     words = [launcher(), "native", *options, "--quantum", str(quantum), "--trace", trace]
     if option_value(options, "--max-disk") is None:
@@ -229,6 +226,22 @@ def without(words: Sequence[str], names: Sequence[str]) -> list[str]:
     return kept
 
 
+def record_all(call: Call) -> bool:
+    """Records the program of a call once more, with all accesses, and has the call name that trace; or not, where the program did something
+    else."""
+    recording, quantum = call.recording, call.recorded_quantum
+    if recording is None or quantum is None:
+        return False
+    rest = [it for it in recording.options if it.partition("=")[0] != "--filtered"]
+    trace = record_again(recording._replace(options=rest), quantum, "whole")
+    if trace is None:
+        return False
+    call.recording = recording._replace(options=["--no-pcs", *rest])
+    call.subject, call.words = trace, [trace, *recording.replay]
+    call.__dict__.pop("filtered", None)
+    return True
+
+
 @contextlib.contextmanager
 def record_program(call: Call) -> Iterator[None]:
     """Records the program of a call, where it is one of this machine, and has the call name its trace as long as that is there. What the
@@ -255,10 +268,10 @@ def record_program(call: Call) -> Iterator[None]:
         command, began = [name, *call.guest_words[1:]], time.monotonic()
         status = run_recorder([*words, *recorder, "--", *command])
         check_trace(trace, old, status)
-        left_out = ("--pcs", "--no-pcs", "--filtered")
-        flags = [it for it in recorder_flags(call) if it.partition("=")[0] not in left_out]
+        flags = [it for it in recorder_flags(call) if it not in ("--pcs", "--no-pcs")]
+        flags += [] if is_filtered(call) else ["--no-pcs"]
         call.recording = Recording(
-            [*flags, "--no-pcs", *recorder], command, replay, folder, time.monotonic() - began
+            [*flags, *recorder], command, replay, folder, time.monotonic() - began
         )
         call.recorded_quantum = int(option_value(recorder, "--quantum") or RECORDER_QUANTUM)
         call.action, call.subject, call.guest_words = "replay", trace, []

@@ -27,6 +27,8 @@ SIZES = {3: 25, 4: 5, 5: 12}
 SYMBOL = 5
 # A hart that makes fewer than one in so many of the accesses that another makes to a word, or no more than so many, only looks.
 SELDOM, LOOKS = 20, 2
+# The bits of an access's key that are its word's, once it is moved.
+WORD_MASK = 0xFFFFFFFC
 # A word of which fewer than one in so many accesses writes is read only.
 STEADY = 100
 READ = 1
@@ -127,29 +129,37 @@ class WordUses:
             running = ThreadPhase(data)
         self.front, self.front_accesses = running.front, running.front_accesses
         self.is_filtered = is_filtered
-        self.words: dict[int, ByHart] = {}
+        self.counts, self.kinds = running.counts, dict[int, list[int]]()
+        for key in self.counts:
+            self.kinds.setdefault(key >> 24 & WORD_MASK, []).append(key)
+        self.narrowed = narrow_atomics(self.counts) if has_wide_atomics else {}
+        self.by_hart: dict[int, ByHart] = {}
         self.cached: dict[int, ByHart] = {}
-        for key, much in running.counts.items():
-            addr = key >> 24 & 0xFFFFFFFF
-            self.add(addr & ~3, key, addr & 3, much)
-        self.narrowed = narrow_atomics(running.counts) if has_wide_atomics else {}
-        for (hart, word), (at, size) in self.narrowed.items():
-            use = self.words[word][hart]
-            self.words[word][hart] = use._replace(bytes=((1 << size) - 1) << at)
 
-    def add(self, word: int, key: int, at: int, much: int) -> None:
-        hart, is_read, size = key >> 8 & 0xFFFF, key & 0xFF == READ, key >> 56
-        own = self.words.setdefault(word, {})
-        reads, writes, used = own.get(hart, (0, 0, 0))
-        own[hart] = HartUse(
-            reads + much * is_read, writes + much * (not is_read), used | ((1 << size) - 1) << at
-        )
+    def words_of_several(self) -> Iterator[int]:
+        """The words with accesses of several kinds, as all have that several harts use."""
+        return (word for word, keys in self.kinds.items() if len(keys) > 1)
+
+    def uses_of(self, word: int) -> ByHart:
+        """How each hart uses a word."""
+        if word not in self.by_hart:
+            own = self.by_hart[word] = {}
+            for key in self.kinds.get(word, ()):
+                hart, is_read, size = key >> 8 & 0xFFFF, key & 0xFF == READ, key >> 56
+                much, (reads, writes, used) = self.counts[key], own.get(hart, (0, 0, 0))
+                used |= ((1 << size) - 1) << (key >> 24 & 3)
+                own[hart] = HartUse(reads + much * is_read, writes + much * (not is_read), used)
+            for hart in own:
+                if (hart, word) in self.narrowed:
+                    at, size = self.narrowed[hart, word]
+                    own[hart] = own[hart]._replace(bytes=((1 << size) - 1) << at)
+        return self.by_hart[word]
 
     def users_of(self, word: int) -> ByHart:
         """The harts that use a word, without those that only look at it."""
-        if word in self.cached or word not in self.words:
+        if word in self.cached or word not in self.kinds:
             return self.cached.get(word, {})
-        own = self.words[word]
+        own = self.uses_of(word)
         most = max((it.accesses() for it in own.values()), default=0)
         found = {
             hart: use

@@ -7,6 +7,7 @@ from typing import Callable, Iterator, Sequence
 from view.names.fields import alignment_of
 from view.repairs.advice import all_of, attribute
 from view.repairs.layouts import (
+    ADDRESS_END,
     Array,
     LayoutChange,
     MovedRange,
@@ -135,16 +136,20 @@ def words_of(subjects: Sequence[Subject], uses: WordUses) -> Iterator[tuple[int,
 
 
 def separate_words(
-    subjects: Sequence[Subject], uses: WordUses, line: int, is_each: bool
+    subjects: Sequence[Subject],
+    uses: WordUses,
+    line: int,
+    is_each: bool,
+    region: int = ADDRESS_END,
 ) -> Repair | None:
-    """The words of some objects apart by their threads: those of each thread together, those that are only read together, and the shared
-    ones each alone or by their threads. None where they are too many."""
+    """The words of some objects apart by their threads: those of each thread and region together, those that are only read together, and
+    the shared ones each alone or by their threads. None where they are too many."""
     groups: dict[object, list[int]] = {}
     count = 0
     for word, own in words_of(subjects, uses):
         users = tuple(sorted(uses.users_of(word)))
         key: object = own if own.kind != "shared" else (word if is_each else users)
-        groups.setdefault(key, []).append(word)
+        groups.setdefault((key, word // region), []).append(word)
         count += 1
         if count > MAX_SINGLE_WORDS:
             return None

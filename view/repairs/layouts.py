@@ -17,6 +17,8 @@ from view.names.fields import (
 
 # So many ranges are moved at most, and so many bytes one by one.
 MAX_MOVED_RANGES, MAX_MOVED_BYTES = 100_000, 1 << 16
+# Addresses are below it.
+ADDRESS_END = 1 << 32
 STRUCTS = ("DW_TAG_structure_type", "DW_TAG_class_type")
 
 

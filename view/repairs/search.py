@@ -9,6 +9,7 @@ from view.repairs.layouts import Unmovable
 from view.repairs.repair import Repair
 from view.repairs.subjects import Subject
 from view.repairs.units import Unit, units_of
+from view.reading.filtered_traces import USUAL_NEAR
 from view.reading.trace_files import WordUses
 
 # So many layouts of one object are counted, units looked at, and times that the best one is varied.
@@ -181,11 +182,12 @@ class Search:
         )
 
     def bound(self) -> Repair | None:
-        """All words of the objects apart by their threads, the better of two ways."""
+        """All words of the objects apart by their threads, the better of two ways. (Words from far apart stay on lines of their own, so
+        that a filtered trace can say what that comes to.)"""
         made = []
         for is_each in (False, True):
             with contextlib.suppress(Unmovable):
-                repair = separate_words(self.subjects, self.uses, self.line, is_each)
+                repair = separate_words(self.subjects, self.uses, self.line, is_each, USUAL_NEAR)
                 if repair is not None:
                     made.append(repair)
         counts = zip(self.count(made), made)

@@ -24,7 +24,7 @@ from view.reading.filtered_traces import MOVED_NEAR
 from view.reading.trace_prefix import write_prefix
 from view.names.fields import value_or_default
 from view.repairs.far_parts import FAR_LAYOUTS, keep_far_apart
-from view.repairs.layouts import MovedRange, round_up
+from view.repairs.layouts import ADDRESS_END, MovedRange, round_up
 from view.model.view import View
 from view.model.objects import DataObject
 from view.reading.passes import is_brief
@@ -43,7 +43,6 @@ MAX_TRIED_OBJECTS, ACCESS_BUDGET = 5, 40_000_000
 # How many accesses of a long trace are counted, from where its first objects are contended; fewer choose a repair.
 PART_ACCESSES, FRONT_ACCESSES = 1 << 20, 1 << 16
 PAGE_BYTES = 4096
-ADDRESS_END = 1 << 32
 HIGH_ADDRESSES = (0xC000_0000, 0x8000_0000, 0x4000_0000)
 # So many places are tried for what is moved.
 MAX_PLACES = 3

@@ -18,7 +18,11 @@ from view.names.fields import (  # noqa: E402
     type_name,
     word_path,
 )
+from view.names.native import data_symbols  # noqa: E402
 from view.names.source_lines import Sources  # noqa: E402
+
+from elftools.elf.elffile import ELFFile  # noqa: E402
+from elftools.elf.sections import SymbolTableSection  # noqa: E402
 
 
 def built(name):
@@ -121,6 +125,22 @@ class Fields(unittest.TestCase):
         self.assertIsNone(sources.place(0x900000))
         self.assertTrue(sources.text("ring.c")[0].startswith("// A ring"))
         self.assertEqual(sources.text("moved/elsewhere.c"), [])
+
+    def test_symbols_of_data(self):
+        """The rows of a table of symbols are those that pyelftools finds, of 32 and of 64 bits."""
+        for path in (built("ring.elf"), sys.executable):
+            with open(path, "rb") as file:
+                elf = ELFFile(file)
+                tables = [it for it in elf.iter_sections() if isinstance(it, SymbolTableSection)]
+                wanted = [
+                    (it.name.partition("@")[0], it["st_value"], it["st_size"])
+                    for table in tables
+                    for it in table.iter_symbols()
+                    if it["st_info"]["type"] == "STT_OBJECT"
+                ]
+                found = [it for table in tables for it in data_symbols(elf, table)]
+            self.assertEqual(found, wanted)
+            self.assertTrue(found)
 
     def test_functions_that_were_discarded(self):
         program = Program(built("ring.elf"))

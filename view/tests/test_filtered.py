@@ -80,7 +80,9 @@ class Traces(unittest.TestCase):
         """What a call writes as JSON, with its screen."""
         status, text, said = self.view(*words, "--json", self.path("json"))
         # (the recorder says that it has recorded a part of the run)
-        said = re.sub(r"predator native: a part of the run was recorded: \d+ accesses\n", "", said)
+        said = re.sub(
+            r"predator native: (?:a part of the run was recorded|that many acc.*):.*\n", "", said
+        )
         self.assertEqual((status, said), (0, ""), words)
         with open(self.path("json"), encoding="utf-8") as file:
             return {**json.load(file), "screen": joined(text)}
@@ -298,20 +300,16 @@ class Files(Traces):
 
 
 class Options(unittest.TestCase):
-    def flags(self, *words, default=True):
-        with mock.patch.object(recording, "IS_FILTERED_BY_DEFAULT", default), mock.patch.object(
-            recording.Predator, "has_command", return_value=True
-        ):
+    def flags(self, *words):
+        with mock.patch.object(recording.Predator, "has_command", return_value=True):
             return recording.recorder_flags(Call(["native", *words, "./no_such_program"]))
 
     def test_what_is_recorded(self):
         self.assertEqual(self.flags(), ["--filtered"])
-        self.assertEqual(self.flags(default=False), [])
-        for default in (False, True):
-            self.assertEqual(self.flags("--whole", default=default), [])
-            self.assertEqual(self.flags("--filtered", default=default), ["--filtered"])
-            self.assertEqual(self.flags("--filtered=512", default=default), ["--filtered=512"])
-            self.assertEqual(self.flags("--no-pcs", default=default), ["--no-pcs"])
+        self.assertEqual(self.flags("--whole"), [])
+        self.assertEqual(self.flags("--filtered"), ["--filtered"])
+        self.assertEqual(self.flags("--filtered=512"), ["--filtered=512"])
+        self.assertEqual(self.flags("--no-pcs"), ["--no-pcs"])
         self.assertEqual(self.flags("--explain", "0"), ["--filtered"])
         self.assertEqual(self.flags("--explain", "0", "--whole"), ["--no-pcs"])
         self.assertEqual(self.flags("--windows", "1M/100M", "--all"), ["--all", "--filtered"])
@@ -394,6 +392,50 @@ int main(void)
 }
 """
 
+# Two threads count in neighbouring bytes.
+BYTES = """
+#include <pthread.h>
+static volatile char hits[2] __attribute__((aligned(64)));
+static void *work(void *own)
+{
+    for (int i = 0; i < 1000; i++)
+        hits[(long)own]++;
+    return 0;
+}
+int main(void)
+{
+    pthread_t threads[2];
+    for (long i = 0; i < 2; i++) pthread_create(&threads[i], 0, work, (void *)i);
+    for (int i = 0; i < 2; i++) pthread_join(threads[i], 0);
+    return 0;
+}
+"""
+# Three threads add to all of many blocks, each in an order of its own.
+NODES = """
+#include <pthread.h>
+#include <stdlib.h>
+struct node { volatile long count, own[3]; };
+static struct node *nodes[600];
+static void *work(void *own)
+{
+    long me = (long)own;
+    for (int i = 0; i < 3000; i++) {
+        struct node *it = nodes[(i * 7 + me * 13) % 600];
+        it->count++;
+        it->own[me]++;
+    }
+    return 0;
+}
+int main(void)
+{
+    pthread_t threads[3];
+    for (int i = 0; i < 600; i++) nodes[i] = calloc(1, sizeof *nodes[i]);
+    for (long i = 0; i < 3; i++) pthread_create(&threads[i], 0, work, (void *)i);
+    for (int i = 0; i < 3; i++) pthread_join(threads[i], 0);
+    return 0;
+}
+"""
+
 
 @unittest.skipUnless(
     os.path.exists(RECORDER) and KNOWS,
@@ -425,6 +467,51 @@ class OfThisMachine(Traces):
         self.assertNotIn("note", found["screen"])
         first = [own["objects"][0] for own in (whole, found)]
         self.assertEqual(*(it["tried"] for it in first))
+
+    def test_what_is_usual(self):
+        """Without an option the trace is filtered, and so is the one that is kept."""
+        with open(os.path.join(HERE, "..", "..", "examples", "hits.c"), encoding="utf-8") as file:
+            program = self.compile("hits", file.read().replace("10000", "1000"))
+        whole, found = (self.found("native", *it, program) for it in (("--whole",), ()))
+        self.same(whole, found)
+        self.assertEqual((whole["filtered"], found["filtered"]), (None, 4096))
+        # (a part of the run, and what needs all accesses)
+        found = self.found("native", "--skip", "2K", "--for", "2K", program)
+        self.assertEqual((found["filtered"], found["accesses"]), (4096, 2000))
+        found = self.found("native", "--set", "tracking=2", program)
+        self.assertEqual(found["filtered"], None)
+        found = self.found("native", "--trace", self.path("trace"), program)
+        again = self.found("replay", self.path("trace"))
+        self.same(found, again)
+        self.assertEqual(read_filter(self.path("trace")).whole, found["accesses"])
+
+    def test_bytes_of_words(self):
+        """Where threads use different bytes of a word, the program is recorded again with all accesses, if it may be run again."""
+        program = self.compile("bytes", BYTES)
+        whole = self.found("native", "--whole", program)
+        self.assertGreater(whole["total"]["false_sharing"], 20)
+        found = self.found("native", "--fine", program)
+        self.same(whole, found)
+        self.assertEqual(found["filtered"], None)
+        fix = "give each element of hits its own line"
+        for own in (whole, found):
+            self.assertIn(fix, own["objects"][0]["fix"])
+        for words in ((), ("--filtered", "--fine"), ("--fine", "--trace", self.path("trace"))):
+            found = self.found("native", *words, program)
+            self.assertEqual(found["filtered"], 4096)
+            self.assertLess(found["total"]["false_sharing"], 5, words)
+            self.assertIn("on 1 lines, whose misses are counted by words", found["screen"])
+            fixes = {it["name"]: it["fix"] for it in found["objects"]}
+            self.assertIn("unknown: threads may use different bytes of hits", fixes["hits"])
+
+    def test_separated_words_from_far_apart(self):
+        """What separating all words comes to is known where they are blocks from all over the heap."""
+        found = self.both(self.compile("nodes", NODES))
+        self.same(*found)
+        fixes = [[it["fix"] for it in own["objects"]] for own in found]
+        self.assertEqual(*fixes)
+        for own in found:
+            self.assertNotIn(FAR_LAYOUTS, own["screen"])
 
     def test_a_smaller_range(self):
         program = self.compile("far", FAR)

@@ -21,6 +21,7 @@ from view.faults import Fault  # noqa: E402
 from view.model.comparison import pair_objects, row  # noqa: E402
 from view.model.fine_grain import (  # noqa: E402
     set_quantum,
+    wants_all_accesses,
     wants_fine_recording,
     wants_fine_run,
     why_not_again,
@@ -183,6 +184,28 @@ class Recorded(unittest.TestCase):
             )
         os.close(reading)
         os.close(writing)
+
+    def test_what_is_recorded_with_all_accesses(self):
+        """A filtered recording is replaced where bytes may matter, and nothing speaks against another run."""
+
+        def wants(call, outcome="exit 0", is_unknown=True):
+            report = SimpleNamespace(outcome=outcome)
+            with open(os.devnull, "rb") as empty, stdin_of(empty.fileno()):
+                return wants_all_accesses(
+                    SimpleNamespace(call=call, report=report, has_unknown_bytes=is_unknown)
+                )
+
+        self.assertTrue(wants(self.call("--filtered")))
+        self.assertTrue(wants(self.call("--filtered", quantum=3)))
+        self.assertFalse(wants(self.call("--filtered"), is_unknown=False))
+        self.assertFalse(wants(self.call("--filtered"), "exit 1"))
+        self.assertFalse(wants(self.call("--filtered", "--windows", "1M/2M")))
+        self.assertFalse(wants(self.call("--filtered", "--trace", "t")))
+        for words in (["--no-fine"], ["--filtered"], ["--filtered=512"]):
+            self.assertFalse(wants(self.call("--filtered", words=words)), words)
+        again = self.call("--filtered")
+        again.is_again = True
+        self.assertFalse(wants(again))
 
     def test_options_of_another_recording(self):
         words = ["--no-pcs", "--quantum", "7", "--trace=t", "--all", "--max-disk", "1G"]

@@ -95,7 +95,7 @@ class Used(Folder):
         self.assertEqual(sharing_of(uses, 0x3000, 64), UNUSED)
 
     def test_one_hart_alone_is_no_thread(self):
-        self.assertEqual(self.uses(*[(0, W, 0x1000, 4)] * 9).words, {})
+        self.assertEqual(self.uses(*[(0, W, 0x1000, 4)] * 9).kinds, {})
 
     def test_other_records_lie_between(self):
         sites = (0x100, 0, 0, 0)
