@@ -26,6 +26,7 @@ from view.faults import Fault, plain  # noqa: E402
 from view.model.view import View, stack_memory  # noqa: E402
 from view.names.naming import Naming  # noqa: E402
 from view.model.objects import DataObject  # noqa: E402
+from view.reading.file_kinds import has_pcs  # noqa: E402
 from view.reading.passes import Passes, layout_of, start_passes  # noqa: E402
 from view.reading.pipes import open_as_pipe, copy_pipes  # noqa: E402
 from view.reading.engine import Predator  # noqa: E402
@@ -141,13 +142,21 @@ def report_of(call: Call, predator: Predator | None) -> Report:
         return predator.read_report([call.action, *call.words_of_pipe()], stdin=trace)
 
 
+def has_variable(program: "Program | NativeProgram", name: str) -> bool:
+    """Whether debug information has a variable of a name, which may lie on a stack."""
+    native = native_of(program)
+    own = native.main if native else program
+    own.scan_variables()
+    return name in own.named_variables
+
+
 def check_name(name: str | None, naming: Naming) -> None:
     """Refuses the name of an object that the program hasn't: a test of it would always pass."""
     program = naming.program
     if name is None or program is None or ":" in name or " " in name:
         return
     known = {naming.readable_name(it) for it in program.symbols().values()}
-    if name not in known:
+    if name not in known and not has_variable(program, name):
         near = suggest_nearest(name, known).strip()
         raise Fault(f"{program.path} has no variable '{name}'{near and '; '}{near}")
 
@@ -159,6 +168,12 @@ def check_seen(view: View) -> None:
         if view.naming.program is None and "fail-above" in view.call.options:
             raise Fault(
                 f"'{name}' isn't in the report: add '--program' to check that there is such a variable"
+            )
+        program, trace = view.naming.program, view.call.trace_file()
+        is_local = program and view.call.action != "run" and name not in program.symbols().values()
+        if program and is_local and has_variable(program, name) and trace and not has_pcs(trace):
+            raise Fault(
+                f"'{name}' may lie on a stack, where nothing has a name without pcs: leave out '--explain 0' and '--no-pcs'"
             )
         check_name(name, view.naming)
 
@@ -176,6 +191,14 @@ def count_bytes(view: View, predator: Predator | None, reading: "UsesFuture") ->
     from view.model.trace_uses import read_uses_once
 
     count_mixed_lines(view, predator, read_uses_once(view, predator, reading))
+
+
+def find_stack_variables(view: View, predator: Predator | None) -> None:
+    """Looks for the variables that lie on contended lines of stacks."""
+    if view.naming.program is not None:
+        from view.model.stack_variables import note_stack_variables
+
+        note_stack_variables(view, predator)
 
 
 def trial_of(
@@ -230,6 +253,7 @@ def found(call: Call, predator: Predator | None, passes: Passes | None) -> View:
         from view.model.waiting_harts import note_waiting
 
         note_waiting(view, predator)
+    find_stack_variables(view, predator)
     view.group_by_objects()
     check_seen(view)
     first = view.listed_objects()[: call.number_option("top", TOP)]

@@ -220,6 +220,8 @@ class NativeProgram:
         self.panics: dict[str, Panics | None] = {}
         self.go_tables: dict[str, Table | None] = {}
         self.landmarks: dict[str, LandmarkFinder | None] = {}
+        # Variables that lie on stacks, by their addresses in the trace.
+        self.stack_variables: dict[int, NativeVariable] = {}
         self.path = back.program
         own = next(
             (it for it in self.files if os.path.realpath(it.path) == os.path.realpath(self.path)),
@@ -240,6 +242,8 @@ class NativeProgram:
         return {(it.bias + addr, 0): name for it in self.files for addr, name in it.names.items()}
 
     def variable(self, addr: int) -> NativeVariable | None:
+        if addr in self.stack_variables:
+            return self.stack_variables[addr]
         found = self.file(addr)
         return found[0].variable(found[1]) if found else None
 

@@ -320,8 +320,11 @@ def joined_arrays(columns: Sequence[Column], line: int) -> Repair:
     )
     before = sum(it.shape.size() * count for it in columns)
     moved, is_bytewise = to_parts(parts)
+    room = stride * count
     return Repair(
-        [how], moved, stride * count, None, (before, stride * count), is_bytewise=is_bytewise
+        *([how], moved, room, None, (before, room)),
+        is_bytewise=is_bytewise,
+        changes=len(columns),
     )
 
 

@@ -22,6 +22,8 @@ class Repair(NamedTuple):
     is_in_place: bool = False
     # Whether the parts are bytes, not whole words.
     is_bytewise: bool = False
+    # How many declarations change.
+    changes: int = 1
 
     def movable(self, line: int) -> "Repair":
         """The same with its parts behind the beginning of an area, where they went to places of the object itself."""

@@ -17,6 +17,9 @@ MAX_LAYOUTS, MAX_UNITS, MAX_ROUNDS = 48, 20, 3
 # too.
 ALIKE_DIVISOR, SIMILAR_DIVISOR = 50, 10
 
+# Two repairs take about as much memory that differ by fewer bytes.
+LITTLE_BYTES = 512
+
 # Counts the misses of some repairs, none of one that can't be counted.
 CountRepairs = Callable[[Sequence[Repair]], Sequence[int | None]]
 
@@ -62,7 +65,13 @@ def choose(found: Iterable[Counted], before: int) -> Counted | None:
     if best.misses >= before:
         return best
     alike = [it for it in counted if is_alike(it, best, before)]
-    return min(alike, key=lambda it: (it.repair.memory_growth(), it.changes, it.misses))
+    return min(alike, key=cost_of_change)
+
+
+def cost_of_change(counted: Counted) -> tuple[int, int, int, int]:
+    """What a repair costs beside its misses: memory where it is much, then changes, and then memory where it is little."""
+    growth = counted.repair.memory_growth()
+    return growth // LITTLE_BYTES, counted.changes, growth, counted.misses
 
 
 class Search:
@@ -149,7 +158,7 @@ class Search:
             with contextlib.suppress(Unmovable):
                 repair = value_or_default(make, None)
                 if repair is not None:
-                    yield repair, 1, None
+                    yield repair, repair.changes, None
 
     def best_choice(self) -> Counted | None:
         return choose((it for it in self.found.values() if it.choice), self.before)

@@ -353,6 +353,22 @@ class Followed(Following):
             words=("--set", "quantum=3"),
         )
 
+    def test_contexts(self):
+        """Variables on a stack, of a function that is inlined in another."""
+        before = self.follow(
+            "contexts",
+            [
+                f"give each element of contexts its own line: struct {LINE} context (contexts.c:7),"
+                " 12 → 64 bytes each"
+            ],
+            [("struct context {", f"struct {LINE} context {{")],
+        )
+        self.assertEqual(before["objects"][0]["name"], "contexts")
+        self.assertIn(
+            "contexts: struct context[4], contexts.c:23 (in main, on the stack of hart 0)",
+            before["screen"],
+        )
+
     def test_no_layout_helps(self):
         for name in ("broker", "ledger", "mailbox"):
             program = self.build(name, self.source(name))

@@ -26,10 +26,10 @@ class OfGuests(test_followed.Following):
         objects = {it["name"].partition(" made")[0]: it for it in found["objects"]}
         numbers = [(-it["false_sharing"], -it["true_sharing"]) for it in found["objects"][:4]]
         self.assertEqual(numbers, sorted(numbers))
-        stack = next(iter(objects))
-        self.assertEqual(stack, "stack of hart 0")
-        self.assertIn("likely tasks (struct task[4]) of main", objects[stack]["fix"])
-        own = re.search(r"who (hart 1: .*?) fix ", found["screen"])
+        self.assertEqual(next(iter(objects)), "tasks")
+        self.assertIn("each element of tasks its own line", objects["tasks"]["fix"])
+        self.assertIn("(in main, on the stack of hart 0)", found["screen"])
+        own = re.search(r"who .*?(hart 1: .*?)(?:; on the same lines.*?)? fix ", found["screen"])
         self.assertNotIn("hart 0", own[1])
         # (the numbers of single threads on the counter's line aren't named for it)
         self.assertNotIn("tries", objects)
@@ -98,6 +98,22 @@ class OfThisMachine(unittest.TestCase):
         usual, _, fine = joined(text).partition("only at fine interleaving (quantum 3), typical")
         self.assertNotIn("group the fields", usual)
         self.assertIn("group the fields of struct spsc (spsc.c:9)", fine)
+
+    def test_variables_of_a_stack(self):
+        """They have their names by the instructions of the trace, and the fix that is tried comes out; without pcs they have none."""
+        self.build("contexts.c", "gcc", "-g", "-O2", "-pthread")
+        for words in ((), ("--filtered",)):
+            found, text = self.look("contexts", "--no-fine", *words)
+            self.assertEqual(found[0]["name"], "contexts", words)
+            self.assertIn("(in main, on the stack of thread 0)", text)
+            self.assertIn("each element of contexts its own line", found[0]["fix"])
+            self.assertLess(found[0]["tried"]["after"]["false_sharing"], 30)
+        _, text = self.look("contexts", "--fine")
+        self.assertNotIn("stack of thread 0, used", text)
+        call = ("native", "./contexts", "--no-fine", "--explain", "0", "--object", "contexts")
+        status, _, said = view(*call, program=PROGRAM, cwd=self.folder)
+        self.assertEqual(status, 2)
+        self.assertIn("'contexts' may lie on a stack, where nothing has a name without pcs", said)
 
     def test_a_run_of_which_nothing_was_recorded(self):
         words = ("native", shutil.which("true"), "--fail-above", "0")
