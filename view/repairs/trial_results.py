@@ -131,7 +131,7 @@ class Trial:
             return False
         if set(other.repair.hows) < set(self.repair.hows):
             return True
-        own, its = ({it[:2] for it in one.repair.parts} for one in (self, other) if one.repair)
+        own, its = (one.repair.moved() for one in (self, other) if one.repair)
         saved = other.before.all_misses() - other.all_misses_left()
         lost = self.all_misses_left() - other.all_misses_left()
         return 2 * len(own & its) >= len(its) and lost * ALIKE_DIVISOR <= saved
