@@ -10,7 +10,7 @@ import shutil
 import subprocess
 from typing import Any, Iterator, NamedTuple
 
-from view.model.instruction_pairs import DISASSEMBLY_ROW
+from view.model.instruction_pairs import DISASSEMBLY_ROW, RISCV_EXTENSIONS
 from view.names.fields import (
     Die,
     Program,
@@ -177,7 +177,7 @@ class Frames:
 
     def operands(self, begin: int, end: int) -> dict[int, StackOperand]:
         """What each instruction of some code uses of the stack."""
-        more = ["--mattr=+m,+a,+f,+d,+c"] if self.pointer == STACK_POINTER["EM_RISCV"] else []
+        more = RISCV_EXTENSIONS if self.pointer == STACK_POINTER["EM_RISCV"] else []
         words = [f"--start-address={begin:#x}", f"--stop-address={end:#x}", self.path]
         ran = subprocess.run(
             ["llvm-objdump", "-d", "--no-show-raw-insn", *more, *words],

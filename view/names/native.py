@@ -20,7 +20,8 @@ from view.names.naming import Memory
 from view.names.rust import NearPanics, Panics
 from view.reading.reports import Block, Report, Symbol, name_bytes
 from view.reading.reports import Site as CallSite
-from view.names.source_lines import MAX_INSTRUCTIONS_BACK, SourceLine, Sources, parse_frames
+from view.names.control_flow import instructions_before
+from view.names.source_lines import SourceLine, Sources, parse_frames
 
 from elftools.elf.elffile import ELFFile
 from elftools.elf.sections import SymbolTableSection
@@ -514,9 +515,7 @@ class NativeSources(Sources):
         if where is None or where[0].is_stripped:
             return None
         own, at = where
-        for frames in self.symbolize(
-            (own, addr) for addr in range(at - 4, max(at - 4 * MAX_INSTRUCTIONS_BACK, 0) - 1, -4)
-        ):
+        for frames in self.symbolize((own, it) for it in instructions_before(own.path, at)):
             if not frames or frames[-1].function != function:
                 return None
             if has_line(frames):

@@ -8,8 +8,6 @@ from typing import Any, Iterable, NamedTuple, Sequence
 
 from view.faults import Fault
 
-# So many instructions before one without a line are looked at.
-MAX_INSTRUCTIONS_BACK = 64
 PACKAGES = "apt-get install llvm python3-pyelftools python3-jinja2"
 
 
@@ -84,14 +82,12 @@ class Sources:
         return next((it for it in self.frames(address) if it.file and it.line), None)
 
     def near(self, address: int) -> SourceLine | None:
-        """Where the compiler has made one instruction of several lines and so told none: the line of the nearest one before it in its
-        function."""
+        """Where the compiler has made one instruction of several lines and so told none: the line of the nearest one that runs before it in
+        its function."""
+        from view.names.control_flow import instructions_before
+
         function = next((it.function for it in reversed(self.frames(address))), "")
-        before = (
-            range(address - 4, max(address - 4 * MAX_INSTRUCTIONS_BACK, 0) - 1, -4)
-            if function
-            else range(0)
-        )
+        before = instructions_before(self.program, address) if function else []
         self.find(before)
         for addr in before:
             frames = self.frames(addr)

@@ -14,6 +14,7 @@ from calling import PROGRAM, TOP, has, joined, view
 from test_followed import FOLLOWED, LACKS
 from view.names.callers import calls_in
 
+KNOWN = os.path.join(os.path.dirname(FOLLOWED), "known")
 RECORDER = os.path.join(TOP, "native", "out", "predator-amd64-linux")
 
 
@@ -49,6 +50,32 @@ class OfGuests(test_followed.Following):
         self.assertIn(f"join sent and lost to one array of 4 elements of {wrapper}, alloc", fix)
         self.assertIn("each thread writes its own element: hart 1: [0]", found["screen"])
         self.assertLess(sum(first["tried"]["after"][it] for it in test_followed.MISSES), 40)
+
+
+    def known(self, name):
+        with open(os.path.join(KNOWN, f"{name}.c"), encoding="utf-8") as file:
+            return file.read()
+
+    def test_an_instruction_of_several_lines(self):
+        """Where debug information has line 0 the line is that of the nearest instruction that runs before, not of one that lies before."""
+        text = self.known("outcomes")
+        found = self.look(self.build("outcomes", text), "--explain", "1")
+        where = re.search(r"where (.*?) invalidates (.*?):? \d+ times", found["screen"])
+        for place in where.groups():
+            line = re.fullmatch(r"(?:near )?outcomes\.c:(\d+) \(work\)", place.removesuffix(":"))
+            source = text.splitlines()[int(line[1]) - 1]
+            self.assertRegex(source, r"outcomes\[me\]|draw & 0x10000", place)
+        self.assertIn("near outcomes.c:", where[0])
+
+    def test_a_loop_that_the_compiler_removed(self):
+        found = self.look(self.build("folded", self.known("folded")))
+        self.assertLess(found["accesses"], 1000)
+        self.assertEqual(found["total"]["false_sharing"], 0)
+        fixes = {it["fix"] for it in found["objects"]}
+        seen = f"only {found['accesses']:,} accesses were seen; did the compiler remove a loop?"
+        self.assertEqual(fixes, {f"none: {seen}"})
+        self.assertNotIn("tried", found["screen"])
+        self.assertNotIn("aligned", found["screen"])
 
 
 @unittest.skipUnless(
