@@ -11,7 +11,7 @@ from view.repairs.candidates import (
     other_repairs,
     separate_words,
 )
-from view.repairs.layouts import Unmovable
+from view.repairs.layouts import MAX_MEMBERS, Unmovable, wide_records
 from view.repairs.repair import Repair, join_repairs
 from view.repairs.subjects import Subject
 from view.repairs.units import Unit, units_of
@@ -108,6 +108,8 @@ class Search:
             self.units += own[: max(MAX_UNITS - len(self.units), 0)]
             if len(self.units) == MAX_UNITS and own:
                 self.left_out.append(f"parts of {subject.name}")
+            for name in wide_records(subject.shape) if subject.shape else ():
+                self.left_out.append(f"fields of {name}, which are more than {MAX_MEMBERS}")
         self.found: dict[tuple[object, ...], Counted] = {}
         self.seen: set[tuple[object, ...]] = set()
 
