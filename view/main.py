@@ -119,17 +119,19 @@ def table_of(call: Call) -> str | None:
     return find_address_map(call.subject)
 
 
-def stranger(program: "Program | NativeProgram", report: Report) -> str | None:
-    """A symbol of the report that the program hasn't, or none."""
+def stranger(call: Call, program: "Program | NativeProgram", report: Report) -> str | None:
+    """A symbol of the report or of its trace that the program hasn't, or none."""
     from view.names.fields import Program
+    from view.reading.trace_records import variables_of
 
     if not isinstance(program, Program):
         return program.mismatch(report)
     known = program.symbols()
-    for line in report.lines[:1000]:
-        for obj in line.objects():
-            if isinstance(obj, Symbol) and (obj.addr, obj.size) not in known:
-                return f"no symbol {obj.name} of {obj.size:,} bytes at {obj.addr:#010x}"
+    seen = [obj for line in report.lines[:1000] for obj in line.objects()]
+    trace = call.trace_file()
+    for obj in [*(variables_of(trace) if trace else ()), *seen]:
+        if isinstance(obj, Symbol) and (obj.addr, obj.size) not in known:
+            return f"no symbol {obj.name} of {obj.size:,} bytes at {obj.addr:#010x}"
     return None
 
 
@@ -230,7 +232,7 @@ def found(call: Call, predator: Predator | None, passes: Passes | None) -> View:
     if call.action == "run":
         check_name(call.options.get("object"), Naming(None, program))
     report = report_of(call, predator)
-    strange = stranger(program, report) if program and call.action != "run" else None
+    strange = stranger(call, program, report) if program and call.action != "run" else None
     if strange:
         named = (
             f"{call.program} isn't the program"

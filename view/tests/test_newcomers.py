@@ -3,6 +3,7 @@
 import json
 import os
 import re
+import resource
 import shutil
 import struct
 import subprocess
@@ -16,6 +17,29 @@ from view.names.callers import calls_in
 
 KNOWN = os.path.join(os.path.dirname(FOLLOWED), "known")
 RECORDER = os.path.join(TOP, "native", "out", "predator-amd64-linux")
+
+
+MANY_PARTS = """
+#include <pthread.h>
+#include <stdint.h>
+static DECLARED;
+static void *work(void *argument) {
+    for (int turn = 0; turn < 3; turn++)
+        for (int i = (int)(intptr_t)argument; i < 10000; i += 4) USE;
+    return 0;
+}
+int main(void) {
+    pthread_t threads[4];
+    for (int i = 0; i < 4; i++) pthread_create(&threads[i], 0, work, (void *)(intptr_t)i);
+    for (int i = 0; i < 4; i++) pthread_join(threads[i], 0);
+    return 0;
+}
+"""
+
+
+def children_seconds():
+    """The processor time of all processes that have ended."""
+    return sum(resource.getrusage(resource.RUSAGE_CHILDREN)[:2])
 
 
 @unittest.skipIf(LACKS, f"{' '.join(LACKS)} missing")
@@ -66,6 +90,39 @@ class OfGuests(test_followed.Following):
             source = text.splitlines()[int(line[1]) - 1]
             self.assertRegex(source, r"outcomes\[me\]|draw & 0x10000", place)
         self.assertIn("near outcomes.c:", where[0])
+
+    def test_a_trace_of_another_program(self):
+        """Its names aren't taken, though no line of the report names a variable."""
+        self.build("folded", self.known("folded"))
+        self.build("outcomes", self.known("outcomes"))
+        subprocess.run(
+            [PROGRAM, "run", "folded.elf", "--trace", "trace"],
+            cwd=self.folder,
+            stdout=subprocess.DEVNULL,
+            check=True,
+        )
+        call = ("replay", "trace", "--program", "outcomes.elf")
+        status, text, said = view(*call, program=PROGRAM, cwd=self.folder)
+        self.assertEqual(status, 0)
+        self.assertIn("outcomes.elf isn't the program of this report and isn't used", said)
+        self.assertNotIn("outcomes", text)
+
+    def test_objects_of_many_parts(self):
+        """The search of an array of 10,000 elements and of a structure of 10,000 fields ends, and says what it left out."""
+        fields = ", ".join(f"f{at}" for at in range(10_000))
+        for name, declared, use in (
+            ("cells", "struct { volatile uint32_t used, value; } all[10000]", "all[i].used++"),
+            ("fields", f"struct wide {{ volatile uint32_t {fields}; }} all", "(&all.f0)[i]++"),
+        ):
+            text = MANY_PARTS.replace("DECLARED", declared).replace("USE", use)
+            program, began = self.build(name, text), children_seconds()
+            found = self.look(program)
+            self.assertLess(children_seconds() - began, 60)
+            (first,) = (it for it in found["objects"] if it["tried"])
+            self.assertLess(sum(first["tried"]["after"][it] for it in test_followed.MISSES), 3000)
+            if name == "fields":
+                left_out = "left out: fields of struct wide, which are more than 256"
+                self.assertIn(left_out, found["screen"])
 
     def test_a_loop_that_the_compiler_removed(self):
         found = self.look(self.build("folded", self.known("folded")))
