@@ -182,26 +182,27 @@ class FrameSearch:
             if any(found.is_on(it, self.view.report.size) for it in self.bases):
                 yield found
 
-    def foreign_uses(self, variable: StackVariable, span: Span) -> int:
-        """How many kinds of accesses other threads make to a variable while its frame is there."""
-        return sum(
-            hart != variable.hart
-            and variable.addr <= addr < variable.addr + variable.size
-            and first <= span[1]
-            and span[0] <= last
+    def foreign_uses(self, variable: StackVariable, span: Span) -> tuple[int, int]:
+        """How many kinds of accesses other threads make to a variable while its frame is seen, and how many in all: recording may have
+        begun behind a frame's beginning."""
+        found = [
+            span[0] <= last and first <= span[1]
             for (hart, _, addr, _), (first, last) in self.seen.kinds.items()
-        )
+            if hart != variable.hart and variable.addr <= addr < variable.addr + variable.size
+        ]
+        return sum(found), len(found)
 
     def chosen(self) -> list[StackVariable]:
         """The variables that lie on contended lines, those of frames whose variables other threads use most first; none over another."""
-        ranked: list[tuple[int, int, list[StackVariable]]] = []
+        ranked: list[tuple[int, int, int, list[StackVariable]]] = []
         for frame, span in self.frames.items():
             own = list(self.variables_of(frame))
-            uses = sum(self.foreign_uses(it, span) for it in own)
-            if uses:
-                ranked.append((-uses, span[0], own))
+            uses = [self.foreign_uses(it, span) for it in own]
+            meanwhile, all_uses = (sum(it) for it in zip(*uses)) if uses else (0, 0)
+            if all_uses:
+                ranked.append((-meanwhile, -all_uses, span[0], own))
         found: list[StackVariable] = []
-        for *_, own in sorted(ranked, key=lambda it: it[:2]):
+        for *_, own in sorted(ranked, key=lambda it: it[:3]):
             for variable in own:
                 if not any(it.is_on(variable.addr, variable.size) for it in found):
                     found.append(variable)

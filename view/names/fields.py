@@ -33,6 +33,9 @@ NAMES_FOR = (
     "DW_TAG_restrict_type",
 )
 POINTERS = ("DW_TAG_pointer_type", "DW_TAG_reference_type", "DW_TAG_rvalue_reference_type")
+# Rust's number in DWARF, and what its library and its compiler call atomic numbers and the fields of a tuple.
+RUST_LANGUAGE = 0x1C
+RUST_ATOMIC, TUPLE_FIELD = re.compile(r"Atomic(?:[A-Z]|<)"), re.compile(r"__\d+")
 # A unit's entry, by pyelftools, which has no types; a type is one, or none where it is void or isn't told.
 Die = Any
 A = TypeVar("A")
@@ -249,6 +252,8 @@ def record_parts(die: Die) -> Iterator[Part]:
         ):
             start, bits = member_place(child)
             own = die_name(child)
+            # (Rust's compiler names the fields of a tuple so)
+            own = own[2:] if TUPLE_FIELD.fullmatch(own) else own
             name = f".{own}" if own and child.tag == "DW_TAG_member" else ""
             yield name, start, 8 * size_of(type_of(child)) if bits is None else bits, type_of(child)
 
@@ -271,12 +276,20 @@ def array_elements(die: Die, low: int, high: int) -> Iterator[Part]:
         yield "".join(f"[{it}]" for it in [left, *indices]), at * wide, wide, element
 
 
+def is_rust_atomic(die: Die) -> bool:
+    """Whether a type is an atomic number of Rust's library, in which a program knows no fields."""
+    is_rust = attribute_value(die.cu.get_top_DIE(), "language", 0) == RUST_LANGUAGE
+    return is_rust and die.tag in RECORDS and bool(RUST_ATOMIC.match(die_name(die)))
+
+
 def field_paths(die: Die, low: int, high: int, depth: int = 0) -> list[str]:
     """The names of what lies in a value's bits from low up to high: fields, elements, each member of a union."""
     die = bare_type(die)
     if die is None or depth > DEEPEST:
         return [""]
     parts: Iterable[Part]
+    if is_rust_atomic(die):
+        return [""]
     if die.tag == "DW_TAG_array_type":
         parts = array_elements(die, low, high)
     elif die.tag in RECORDS:

@@ -40,7 +40,10 @@ FRAME_BASE = "DW_OP_call_frame_cfa"
 FRAME_ALIGNMENT = 16
 # Unwind tables of more bytes aren't read, nor functions of more bytes disassembled.
 MAX_TABLE_BYTES, MAX_FUNCTION_BYTES = 1 << 20, 1 << 16
-SUBPROGRAM = re.compile(r"^(0x[0-9a-f]+): +DW_TAG_subprogram", re.MULTILINE)
+# (the innermost function at an address may be one that is inlined there)
+FUNCTION = re.compile(
+    r"^(0x[0-9a-f]+): +DW_TAG_(?:subprogram|inlined_subroutine)", re.MULTILINE
+)
 INNER = ("DW_TAG_lexical_block", "DW_TAG_inlined_subroutine", "DW_TAG_try_block")
 VARIABLES = ("DW_TAG_variable", "DW_TAG_formal_parameter")
 
@@ -207,9 +210,12 @@ class Frames:
         ran = subprocess.run(
             ["llvm-dwarfdump", f"--lookup={begin:#x}", self.program.path], capture_output=True
         )
-        entry = SUBPROGRAM.search(ran.stdout.decode("utf-8", "replace"))
-        if entry is None:
+        entry = FUNCTION.search(ran.stdout.decode("utf-8", "replace"))
+        die = self.program.dwarf.get_DIE_from_refaddr(int(entry[1], 16)) if entry else None
+        while die is not None and die.tag != "DW_TAG_subprogram":
+            die = die.get_parent()
+        if die is None:
             return None
         found = FrameFunction(begin, self.rules_of(begin, end), self.operands(begin, end))
-        found.add_locals(self.program.dwarf.get_DIE_from_refaddr(int(entry[1], 16)))
+        found.add_locals(die)
         return found if found.locals else None

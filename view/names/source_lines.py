@@ -2,6 +2,7 @@
 
 import json
 import os
+import re
 import shutil
 import subprocess
 from typing import Any, Iterable, NamedTuple, Sequence
@@ -11,28 +12,59 @@ from view.faults import Fault
 PACKAGES = "apt-get install llvm python3-pyelftools python3-jinja2"
 
 
+# Functions without a name of their own, of C++ and Rust.
+UNNAMED = re.compile(
+    r"\{\{?closure|\$u7b\$closure|\{lambda|'lambda|^operator\(\)|::operator\(\)\(|<lambda"
+)
+# How Rust's former names spell signs.
+RUST_SIGNS = {
+    "$LT$": "<",
+    "$GT$": ">",
+    "$C$": ",",
+    "$u20$": " ",
+    "$RF$": "&",
+    "$BP$": "*",
+    "$LP$": "(",
+    "$RP$": ")",
+    "$u7b$": "{",
+    "$u7d$": "}",
+    "..": "::",
+}
+RUST_SIGN = re.compile("|".join(map(re.escape, RUST_SIGNS)))
+
+
+def rust_name(name: str) -> str:
+    """A function's name with the signs that Rust's former names spell."""
+    return RUST_SIGN.sub(lambda sign: RUST_SIGNS[sign[0]], name) if "$" in name else name
+
+
 class SourceLine(NamedTuple):
-    """A line of a source, and its function; the file is empty where nothing is known, the line then 0."""
+    """A line of a source, and its function; the file is empty where nothing is known, the line then 0. `begin` is the line where a
+    function without a name begins, or 0."""
 
     function: str
     file: str
     line: int
+    begin: int = 0
 
     def short(self) -> str:
         return f"{os.path.basename(self.file)}:{self.line}" if self.file and self.line else ""
 
+    def beginning(self) -> str:
+        """Where a function without a name begins, or else the line."""
+        return self._replace(line=self.begin or self.line).short()
+
 
 def parse_frames(answer: dict[str, Any]) -> list[SourceLine]:
     """The frames of an address as llvm-symbolizer tells them, the innermost first."""
-    frames = [
-        (frame.get("FunctionName", ""), frame.get("FileName", ""), frame.get("Line", 0))
-        for frame in answer.get("Symbol", [])
-    ]
-    return [
-        SourceLine(function, file and os.path.normpath(file), line)
-        for function, file, line in frames
-        if function or file
-    ]
+    found: list[SourceLine] = []
+    for frame in answer.get("Symbol", []):
+        function, file = frame.get("FunctionName", ""), frame.get("FileName", "")
+        begin = frame.get("StartLine", 0) if UNNAMED.search(function) else 0
+        if function or file:
+            path = file and os.path.normpath(file)
+            found.append(SourceLine(function, path, frame.get("Line", 0), begin))
+    return found
 
 
 class Sources:
