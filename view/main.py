@@ -5,6 +5,7 @@ import gc
 import io
 import os
 import sys
+import textwrap
 import traceback
 from typing import TYPE_CHECKING, Callable
 
@@ -46,6 +47,8 @@ if TYPE_CHECKING:
     from view.model.trace_uses import UsesFuture
 
 ABOVE, ENDED = 1, 3
+# Where the help of an option begins.
+HELP_INDENT = 21
 
 
 def read(path: str) -> str:
@@ -423,6 +426,23 @@ def tell(view: View, old: comparison.Before | None) -> None:
         print(*perf_rows(view, view.call.options["perf"]), sep="\n")
 
 
+def fold_help(text: str, width: int) -> str:
+    """The page of options in so many columns: what goes on in the next row is one row first."""
+    rows: list[str] = []
+    for row in text.split("\n"):
+        is_begin = not rows or not row or not rows[-1] or row.startswith(("  --", " " * 7 + "p"))
+        if is_begin or row.startswith(("usage", "Words", "Options", "Status")):
+            rows.append(row)
+        else:
+            rows[-1] += f" {row.strip()}"
+    found = []
+    for row in rows:
+        is_usage = row.startswith(("usage", " " * 7))
+        begin = " " * (HELP_INDENT if row.startswith("  --") else 11 if is_usage else 0)
+        found += textwrap.wrap(row, width, subsequent_indent=begin, break_on_hyphens=False) or [""]
+    return "\n".join(found)
+
+
 def main(words: list[str]) -> int:
     # (millions of lines live as long as the call, and none goes round in a ring)
     gc.disable()
@@ -441,7 +461,7 @@ def main(words: list[str]) -> int:
             return write_app(words[1:])
         call = Call(words)
         if "help" in call.options:
-            print(HELP)
+            print(fold_help(HELP, width_of_screen()) if sys.stdout.isatty() else HELP)
             return 0
         return show(call)
     except Fault as fault:

@@ -20,7 +20,7 @@ export PYTHONDONTWRITEBYTECODE=1
 work=$(mktemp -d)
 trap 'rm -rf "$work"' EXIT
 failed=0 children=()
-for it in test_screens.Screens test_screens.OfThisMachine test_screens.Pipes test_screens.PipesOfTheProgram test_screens.Repairs test_files test_places test_sweeps test_caches test_pictures test_screens.Against test_builds test_fields test_panics.Ways test_panics.Texts test_panics.Names test_panics.OfRust test_golang.Versions test_golang.Strange test_golang.Names test_golang.OfGo test_landmarks.Ways test_landmarks.Tables test_landmarks.Strange test_marks test_unnamed test_objects test_owners test_words test_texts test_blame test_worth test_moving test_waiting test_messages test_completion test_tried test_patches test_followed test_newcomers test_filtered test_shared_bytes test_repairs.Known test_repairs.OfThisMachine; do
+for it in test_screens.Screens test_screens.OfThisMachine test_screens.Pipes test_screens.PipesOfTheProgram test_screens.Repairs test_files test_places test_sweeps test_caches test_pictures test_screens.Against test_builds test_fields test_panics.Ways test_panics.Texts test_panics.Names test_panics.OfRust test_golang.Versions test_golang.Strange test_golang.Names test_golang.OfGo test_landmarks.Ways test_landmarks.Tables test_landmarks.Strange test_marks test_unnamed test_objects test_owners test_words test_texts test_blame test_worth test_moving test_reassigned test_waiting test_messages test_completion test_tried test_patches test_followed test_newcomers test_filtered test_shared_bytes test_repairs.Known test_repairs.OfThisMachine; do
     "$python" -W ignore -m unittest "$it" >"$work/$it" 2>&1 &
     children+=("$!:$it")
 done

@@ -13,7 +13,9 @@ import unittest
 import test_followed
 from calling import PROGRAM, TOP, has, joined, view
 from test_followed import FOLLOWED, LACKS
+from view.main import fold_help
 from view.names.callers import calls_in
+from view.reading.calls import HELP
 
 KNOWN = os.path.join(os.path.dirname(FOLLOWED), "known")
 RECORDER = os.path.join(TOP, "native", "out", "predator-amd64-linux")
@@ -221,6 +223,15 @@ class Streams(unittest.TestCase):
         ran = subprocess.run(["sh", "-c", command], stderr=subprocess.PIPE, text=True, env=own)
         self.assertEqual(ran.returncode, 2)
         self.assertEqual(ran.stderr, "predator view: standard output is closed\n")
+
+
+class Help(unittest.TestCase):
+    def test_the_page_of_a_terminal(self):
+        """No word is lost, and no row has more columns than the terminal."""
+        text = fold_help(HELP, 80)
+        self.assertLessEqual(max(map(len, text.split("\n"))), 80)
+        self.assertEqual(text.split(), HELP.split())
+        self.assertIn("\n  --top N            show N objects (10)\n", text)
 
 
 class Folders(unittest.TestCase):
