@@ -41,9 +41,7 @@ FRAME_ALIGNMENT = 16
 # Unwind tables of more bytes aren't read, nor functions of more bytes disassembled.
 MAX_TABLE_BYTES, MAX_FUNCTION_BYTES = 1 << 20, 1 << 16
 # (the innermost function at an address may be one that is inlined there)
-FUNCTION = re.compile(
-    r"^(0x[0-9a-f]+): +DW_TAG_(?:subprogram|inlined_subroutine)", re.MULTILINE
-)
+FUNCTION = re.compile(r"^(0x[0-9a-f]+): +DW_TAG_(?:subprogram|inlined_subroutine)", re.MULTILINE)
 INNER = ("DW_TAG_lexical_block", "DW_TAG_inlined_subroutine", "DW_TAG_try_block")
 VARIABLES = ("DW_TAG_variable", "DW_TAG_formal_parameter")
 
@@ -117,7 +115,9 @@ class FrameFunction:
             return 0
         register = int(name[9:]) if name[:9] == "DW_OP_reg" and name[9:].isdigit() else -1
         distances = [it.distance for it in self.rules if it.register == register]
-        return -max(distances) if distances else None
+        # (a stack pointer that isn't always what the top is told by may have been aligned anew)
+        is_aligned = register in STACK_POINTER.values() and len(distances) < len(self.rules)
+        return None if is_aligned or not distances else -max(distances)
 
     def add_locals(self, die: Die) -> None:
         base = self.base_place(die)
@@ -164,9 +164,7 @@ class Frames:
             sizes = [it["sh_size"] for it in sections if it is not None]
         if not sizes or max(sizes) > MAX_TABLE_BYTES:
             return []
-        ran = subprocess.run(
-            ["llvm-dwarfdump", "--debug-frame", self.path], capture_output=True
-        )
+        ran = subprocess.run(["llvm-dwarfdump", "--debug-frame", self.path], capture_output=True)
         rows = UNWIND_ROW.finditer(ran.stdout.decode("utf-8", "replace"))
         known = ((row, UNWIND_REGISTERS.get(row[2])) for row in rows)
         return sorted(FrameRule(int(row[1], 16), of, int(row[3] or 0)) for row, of in known if of)

@@ -222,7 +222,9 @@ def neighbouring_repair(subject: Subject, array: Array, uses: WordUses) -> Repai
     parts = [MovedRange(array.begins[it], wide, array.begins[to]) for it, to in places.items()]
     how = f"assign neighbouring elements{elements_name(subject, array)} to one thread"
     size = subject.size()
-    is_read = any(is_used_by_others(array.begins[it], wide, own, uses) for it, own in owners.items())
+    is_read = any(
+        is_used_by_others(array.begins[it], wide, own, uses) for it, own in owners.items()
+    )
     of = Reassignment(array.begins, wide, array.length, owners, places)
     return Repair(
         *([how], to_whole_words(parts), 0, None, (size, size)),

@@ -84,7 +84,9 @@ class Reassignment(NamedTuple):
 
 def is_used_by_others(begin: int, wide: int, hart: int, uses: WordUses) -> bool:
     """Whether other threads than its own use an element."""
-    return any(hart != other for at in range(begin, begin + wide, WORD) for other in uses.users_of(at))
+    return any(
+        hart != other for at in range(begin, begin + wide, WORD) for other in uses.users_of(at)
+    )
 
 
 def uses_neighbours(trace: str, of: Reassignment) -> bool:

@@ -77,7 +77,6 @@ class OfGuests(test_followed.Following):
         self.assertIn("each thread writes its own element: hart 1: [0]", found["screen"])
         self.assertLess(sum(first["tried"]["after"][it] for it in test_followed.MISSES), 40)
 
-
     def known(self, name):
         with open(os.path.join(KNOWN, f"{name}.c"), encoding="utf-8") as file:
             return file.read()

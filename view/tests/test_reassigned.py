@@ -36,7 +36,12 @@ def trace_of(accesses):
 def stencil():
     """Each thread reads the elements beside each of its own, and writes that."""
     for at, hart in OWNERS.items():
-        yield from ((hart, at, True), (hart, at - 1, False), (hart, at + 1, False), (hart, at, True))
+        yield from (
+            (hart, at, True),
+            (hart, at - 1, False),
+            (hart, at + 1, False),
+            (hart, at, True),
+        )
 
 
 def all_to_all():
@@ -64,7 +69,14 @@ class Reassigned(unittest.TestCase):
 
     def test_where_accesses_go(self):
         """A thread's own elements go together, and the uses of those beside them along; other threads use what they did."""
-        made = [(1, 3, True), (1, 6, False), (2, 6, True), (2, 7, False), (1, 0, False), (3, 3, False)]
+        made = [
+            (1, 3, True),
+            (1, 6, False),
+            (2, 6, True),
+            (2, 7, False),
+            (1, 0, False),
+            (3, 3, False),
+        ]
         self.write(made)
         write_reassigned(self.trace, self.out, [ARRAY])
         with open(self.out, "rb") as file:
