@@ -6,6 +6,7 @@ import gc
 import io
 import os
 import sys
+import textwrap
 import traceback
 from typing import TYPE_CHECKING, Callable
 
@@ -27,6 +28,7 @@ from view.faults import Fault, plain  # noqa: E402
 from view.model.view import View, stack_memory  # noqa: E402
 from view.names.naming import Naming  # noqa: E402
 from view.model.objects import DataObject  # noqa: E402
+from view.reading.file_kinds import has_pcs  # noqa: E402
 from view.reading.passes import Passes, layout_of, start_passes  # noqa: E402
 from view.reading.pipes import open_as_pipe, copy_pipes  # noqa: E402
 from view.reading.engine import Predator  # noqa: E402
@@ -47,6 +49,8 @@ if TYPE_CHECKING:
     from view.model.trace_uses import UsesFuture
 
 ABOVE, ENDED = 1, 3
+# Where the help of an option begins.
+HELP_INDENT = 21
 
 
 def read(path: str) -> str:
@@ -120,17 +124,19 @@ def table_of(call: Call) -> str | None:
     return find_address_map(call.subject)
 
 
-def stranger(program: "Program | NativeProgram", report: Report) -> str | None:
-    """A symbol of the report that the program hasn't, or none."""
+def stranger(call: Call, program: "Program | NativeProgram", report: Report) -> str | None:
+    """A symbol of the report or of its trace that the program hasn't, or none."""
     from view.names.fields import Program
+    from view.reading.trace_records import variables_of
 
     if not isinstance(program, Program):
         return program.mismatch(report)
     known = program.symbols()
-    for line in report.lines[:1000]:
-        for obj in line.objects():
-            if isinstance(obj, Symbol) and (obj.addr, obj.size) not in known:
-                return f"no symbol {obj.name} of {obj.size:,} bytes at {obj.addr:#010x}"
+    seen = [obj for line in report.lines[:1000] for obj in line.objects()]
+    trace = call.trace_file()
+    for obj in [*(variables_of(trace) if trace else ()), *seen]:
+        if isinstance(obj, Symbol) and (obj.addr, obj.size) not in known:
+            return f"no symbol {obj.name} of {obj.size:,} bytes at {obj.addr:#010x}"
     return None
 
 
@@ -143,13 +149,21 @@ def report_of(call: Call, predator: Predator | None) -> Report:
         return predator.read_report([call.action, *call.words_of_pipe()], stdin=trace)
 
 
+def has_variable(program: "Program | NativeProgram", name: str) -> bool:
+    """Whether debug information has a variable of a name, which may lie on a stack."""
+    native = native_of(program)
+    own = native.main if native else program
+    own.scan_variables()
+    return name in own.named_variables
+
+
 def check_name(name: str | None, naming: Naming) -> None:
     """Refuses the name of an object that the program hasn't: a test of it would always pass."""
     program = naming.program
     if name is None or program is None or ":" in name or " " in name:
         return
     known = {naming.readable_name(it) for it in program.symbols().values()}
-    if name not in known:
+    if name not in known and not has_variable(program, name):
         near = suggest_nearest(name, known).strip()
         raise Fault(f"{program.path} has no variable '{name}'{near and '; '}{near}")
 
@@ -161,6 +175,12 @@ def check_seen(view: View) -> None:
         if view.naming.program is None and "fail-above" in view.call.options:
             raise Fault(
                 f"'{name}' isn't in the report: add '--program' to check that there is such a variable"
+            )
+        program, trace = view.naming.program, view.call.trace_file()
+        is_local = program and view.call.action != "run" and name not in program.symbols().values()
+        if program and is_local and has_variable(program, name) and trace and not has_pcs(trace):
+            raise Fault(
+                f"'{name}' may lie on a stack, where nothing has a name without pcs: leave out '--explain 0' and '--no-pcs'"
             )
         check_name(name, view.naming)
 
@@ -178,6 +198,14 @@ def count_bytes(view: View, predator: Predator | None, reading: "UsesFuture") ->
     from view.model.trace_uses import read_uses_once
 
     count_mixed_lines(view, predator, read_uses_once(view, predator, reading))
+
+
+def find_stack_variables(view: View, predator: Predator | None) -> None:
+    """Looks for the variables that lie on contended lines of stacks."""
+    if view.naming.program is not None:
+        from view.model.stack_variables import note_stack_variables
+
+        note_stack_variables(view, predator)
 
 
 def trial_of(
@@ -214,7 +242,7 @@ def found(call: Call, predator: Predator | None, passes: Passes | None) -> View:
     if call.action == "run":
         check_name(call.options.get("object"), Naming(None, program))
     report = report_of(call, predator)
-    strange = stranger(program, report) if program and call.action != "run" else None
+    strange = stranger(call, program, report) if program and call.action != "run" else None
     if strange:
         named = (
             f"{call.program} isn't the program"
@@ -244,6 +272,7 @@ def found(call: Call, predator: Predator | None, passes: Passes | None) -> View:
         from view.model.waiting_harts import note_waiting
 
         note_waiting(view, predator)
+    find_stack_variables(view, predator)
     view.group_by_objects()
     check_seen(view)
     first = view.listed_objects()[: call.number_option("top", TOP)]
@@ -411,6 +440,23 @@ def print_view(view: View, old: comparison.Before | None) -> None:
         print(*perf_rows(view, view.call.options["perf"]), sep="\n")
 
 
+def fold_help(text: str, width: int) -> str:
+    """The page of options in so many columns: what goes on in the next row is one row first."""
+    rows: list[str] = []
+    for row in text.split("\n"):
+        is_begin = not rows or not row or not rows[-1] or row.startswith(("  --", " " * 7 + "p"))
+        if is_begin or row.startswith(("usage", "Words", "Options", "Status")):
+            rows.append(row)
+        else:
+            rows[-1] += f" {row.strip()}"
+    found = []
+    for row in rows:
+        is_usage = row.startswith(("usage", " " * 7))
+        begin = " " * (HELP_INDENT if row.startswith("  --") else 11 if is_usage else 0)
+        found += textwrap.wrap(row, width, subsequent_indent=begin, break_on_hyphens=False) or [""]
+    return "\n".join(found)
+
+
 def main(words: list[str]) -> int:
     # (millions of lines live as long as the call, and none goes round in a ring)
     gc.disable()
@@ -429,7 +475,7 @@ def main(words: list[str]) -> int:
             return write_app(words[1:])
         call = Call(words)
         if "help" in call.options:
-            print(HELP)
+            print(fold_help(HELP, width_of_screen()) if sys.stdout.isatty() else HELP)
             return 0
         return show(call)
     except Fault as fault:

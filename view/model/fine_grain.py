@@ -10,6 +10,7 @@ import subprocess
 from typing import Callable, Optional, Sequence
 
 from view.faults import Fault
+from view.model.object_keys import StackKey, SymbolKey
 from view.model.objects import DataObject
 from view.model.view import MIN_ACCESS_SHARE_DIVISOR, View
 from view.reading.calls import Call, option_width
@@ -211,13 +212,24 @@ def has_repair(view: View, obj: DataObject | None) -> bool:
     return tried is not None and (tried.is_saving() or tried.same_as is not None)
 
 
+def stack_variable(view: View, key: StackKey) -> DataObject | None:
+    """The worst of the variables on a stack that the usual run names, or none: a recording without pcs has the stack alone."""
+    for obj in view.objects:
+        place = view.stack_places.get(obj.key.addr) if isinstance(obj.key, SymbolKey) else None
+        if place is not None and place.hart == key.hart:
+            return obj
+    return None
+
+
 def same_object(view: View, fine: View, obj: DataObject) -> DataObject | None:
     """The object of the usual run that one of the fine run is: in another recording it may have another address."""
+    if isinstance(obj.key, StackKey) and (found := stack_variable(view, obj.key)):
+        return found
     if view.call.recording is None:
         return view.objects_by_key.get(obj.key)
     text = fine.lasting_keys.get(obj.key)
-    found = (it for it in view.objects_by_key.values() if view.lasting_keys.get(it.key) == text)
-    return next(found, None) if text else None
+    same = (it for it in view.objects_by_key.values() if view.lasting_keys.get(it.key) == text)
+    return next(same, None) if text else None
 
 
 def fine_objects(view: View) -> list[DataObject]:

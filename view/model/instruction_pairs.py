@@ -25,6 +25,8 @@ MAX_INSTRUCTION_BYTES = 16
 DISASSEMBLY_ROW = re.compile(r"^ *([0-9a-f]+):\s+([a-z][a-z0-9._]*)\s*(.*)$")
 FORMAT = re.compile(r"file format (\S+)")
 RISCV_MACHINE = 243
+# (what an older compiler or a small linker writes says nothing of its extensions)
+RISCV_EXTENSIONS = ["--mattr=+m,+a,+f,+d,+c"]
 # Those of x86-64: prefixes that llvm-objdump prints as rows, what writes its last operand and doesn't read it, and what only reads it.
 PREFIXES = (
     "lock",
@@ -184,8 +186,7 @@ def file_effects(file: str, names: str, addresses: Iterable[int]) -> dict[int, M
         else:
             parts.append((start, addr + 1))
     made: dict[int, MemoryEffect] = {}
-    # (what an older compiler or a small linker writes says nothing of its extensions)
-    more = ["--mattr=+m,+a,+f,+d,+c"] if is_riscv(file) else []
+    more = RISCV_EXTENSIONS if is_riscv(file) else []
     for begin, end in parts:
         words = [
             "llvm-objdump",

@@ -6,7 +6,7 @@ import functools
 import os
 import re
 from collections import Counter
-from typing import TYPE_CHECKING, Mapping, Sequence, cast
+from typing import TYPE_CHECKING, Mapping, NamedTuple, Sequence, cast
 
 from view.repairs import advice
 from view.reading.calls import EXPLAIN, Call
@@ -55,6 +55,13 @@ MIN_ACCESS_SHARE_DIVISOR = 1000
 RARE_MISS_DIVISOR = 10_000
 # The file and the line where something is declared or made.
 Declared = tuple[str, int]
+
+
+class StackPlace(NamedTuple):
+    """Where a variable on a stack is: in which function, and on the stack of which thread."""
+
+    function: str
+    hart: int
 
 
 class ObjectDetails:
@@ -121,6 +128,8 @@ class View:
         # (none where no repair can be tried)
         self.trials: dict[Key, Trial] | None = None
         self.details_by_key: dict[Key, ObjectDetails] = {}
+        # Where variables on stacks are, by their addresses.
+        self.stack_places: dict[int, StackPlace] = {}
         # Objects of the C library, and of Go's runtime.
         self.foreign_keys: set[Key] = set()
         self.runtime_keys: set[Key] = set()
@@ -299,6 +308,9 @@ class View:
         )
         for obj in self.objects_by_key.values():
             obj.name = self.naming.object_name(obj.key, obj.example)
+            if isinstance(obj.key, SymbolKey):
+                place = self.stack_places.get(obj.key.addr)
+                obj.note = self.stack_note(place) if place else ""
         self.rank_objects()
         if self.blame:
             name_by_instructions(self.objects, self.blame, self.naming)
@@ -326,6 +338,9 @@ class View:
         """Puts the objects in the order of the numbers that their rows show."""
         self.objects.sort(key=DataObject.rank)
         self.foreign_keys = {it.key for it in self.objects if is_foreign(it, self.naming)}
+
+    def stack_note(self, place: StackPlace) -> str:
+        return f" (in {place.function}, on the stack of {self.naming.memory.owner(place.hart)})"
 
     def chosen_objects(self) -> list[DataObject]:
         """The objects that the call wants to see."""

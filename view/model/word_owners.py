@@ -125,16 +125,16 @@ def describe_owners(view: View, obj: DataObject) -> str:
     seen = view.details(obj)
     base = obj.worst_line().base
     own = [it for it in seen.words if it.key == obj.key and it.base == base]
-    own = used_by_others(view, obj, own)
+    own = used_by_others(view, own)
     return "; ".join(filter(None, (own_words(view, obj, own), neighbours(view, obj))))
 
 
-def used_by_others(view: View, obj: DataObject, own: list[WordUse]) -> list[WordUse]:
-    """Of some words of a stack those that its own thread doesn't use alone, where there are such: it has many, and others use few."""
-    if not isinstance(obj.key, StackKey):
-        return own
-    its = view.naming.memory.owner(obj.key.hart)
-    return [it for it in own if it.owner != its] or own
+def used_by_others(view: View, own: list[WordUse]) -> list[WordUse]:
+    """Some words without those of a stack that its own thread uses alone, if others remain: a stack has many, and others use few."""
+    owner = view.naming.memory.owner
+    return [
+        it for it in own if not isinstance(it.key, StackKey) or it.owner != owner(it.key.hart)
+    ] or own
 
 
 def own_words(view: View, obj: DataObject, own: Sequence[WordUse]) -> str:

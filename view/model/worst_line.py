@@ -83,6 +83,6 @@ def word_row(view: View, obj: DataObject, word: WordUse) -> WordRow:
 def worst_line_rows(view: View, obj: DataObject) -> list[WordRow]:
     """The rows of an object's worst line, in the order of their offsets."""
     base = obj.worst_line().base
-    words = used_by_others(view, obj, [it for it in view.details(obj).words if it.base == base])
+    words = used_by_others(view, [it for it in view.details(obj).words if it.base == base])
     words.sort(key=lambda it: it.addr)
     return [word_row(view, obj, it) for it in wholes(words)]

@@ -7,16 +7,18 @@ from typing import TYPE_CHECKING, Sequence
 
 from view.reading.reports import Block, Site
 from view.names.debug_entries import Die
-from view.names.source_lines import SourceLine
+from view.names.source_lines import SourceLine, rust_name
 
 if TYPE_CHECKING:
     # (which are read where a program is named alone: they want pyelftools)
     from view.names.fields import Program
     from view.names.naming import Naming
 
+# A type that a generic function stands for.
+PLACEHOLDER = re.compile(r"[A-Z]\w?")
 # What a library makes for a program, and which of its functions allocate for a type, each up to its first argument.
 CONTAINER = re.compile(
-    r"(?:^|[:\s])(vector|deque|list|map|set|unordered_map|unordered_set|make_unique|make_shared|Vec|Box|Arc)(?:::)?<"
+    r"(?:^|[:<\s])(vector|deque|list|map|set|unordered_map|unordered_set|make_unique|make_shared|Vec|Box|Arc)(?:::)?<"
 )
 ALLOCATOR_OF = re.compile(
     r"(?:new_allocator|allocator|make_unique|_MakeUniq|make_shared|RawVec|Vec|Box|Arc)(?:::)?<"
@@ -109,9 +111,10 @@ class BlockTypes:
             return None
         site = self.naming.own_sites(sites)[0]
         for library_frame in self.library_frames(sites):
-            found = ALLOCATOR_OF.search(library_frame.function)
-            name = first_argument(library_frame.function, found.end()) if found else ""
-            if name:
+            function = rust_name(library_frame.function)
+            found = ALLOCATOR_OF.search(function)
+            name = first_argument(function, found.end()) if found else ""
+            if name and not PLACEHOLDER.fullmatch(name):
                 return program.type_like(name)
         frame = self.naming.own_place(site.addr)
         return AllocatedTypes(program, self.naming.sources.text).type_at(frame) if frame else None
@@ -134,9 +137,18 @@ class BlockTypes:
     def container(self, sites: Sequence[Site]) -> str:
         """What a library makes for a call of the program, as `vector<Worker>`, or an empty text."""
         for frame in reversed(self.library_frames(sites)):
-            found = CONTAINER.search(frame.function)
+            function = rust_name(frame.function)
+            found = CONTAINER.search(function)
             if found:
-                begin = found.end()
-                first = first_argument(frame.function, begin)
+                first = first_argument(function, found.end())
+                if PLACEHOLDER.fullmatch(first):
+                    first = self.held_by(found[1], sites)
                 return f"{found[1]}<{self.naming.names.remember(first)}>" if first else ""
         return ""
+
+    def held_by(self, container: str, sites: Sequence[Site]) -> str:
+        """The name of the type that a container of Rust's holds, by that of the variable that the program assigns it to, or `_`."""
+        from view.names.fields import type_name
+
+        kind = self.inferred_type(tuple(sites))
+        return type_name(kind) if kind is not None and container in ("Vec", "Box") else "_"

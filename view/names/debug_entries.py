@@ -41,6 +41,9 @@ class Die(Protocol):
     # (the whole of a program's debug information, to which `Program` adds itself)
     dwarfinfo: Any
 
+    def __hash__(self) -> int:
+        ...
+
     def get_parent(self) -> "Die | None":
         ...
 

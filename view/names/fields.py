@@ -1,13 +1,15 @@
 """The types of a program's variables, by the debug information that its file has: which field lies at which word, and how data is
 aligned."""
 
+import bisect
 import contextlib
+import functools
 import hashlib
 import os
 import re
 import shutil
 import subprocess
-from typing import Any, Callable, Iterator, TypeVar
+from typing import Any, Callable, Iterable, Iterator, NamedTuple, Sequence, TypeVar
 
 from view.faults import Fault
 from view.names.debug_entries import Die, Unit
@@ -32,6 +34,9 @@ NAMES_FOR = (
     "DW_TAG_restrict_type",
 )
 POINTERS = ("DW_TAG_pointer_type", "DW_TAG_reference_type", "DW_TAG_rvalue_reference_type")
+# Rust's number in DWARF, and what its library and its compiler call atomic numbers and the fields of a tuple.
+RUST_LANGUAGE = 0x1C
+RUST_ATOMIC, TUPLE_FIELD = re.compile(r"Atomic(?:[A-Z]|<)"), re.compile(r"__\d+")
 A = TypeVar("A")
 B = TypeVar("B")
 # So many fields of one word are named, and records so deep are looked into.
@@ -214,8 +219,37 @@ def member_place(die: Die) -> tuple[int, int | None]:
     return start, None
 
 
-def record_parts(die: Die) -> Iterator[tuple[str, int, int, Die | None]]:
-    """What a record or an array is made of, as (name, place in bits, size in bits, type); of an array a function of the range."""
+# A part of a record or an array: its name, its place and its size in bits, and its type.
+Part = tuple[str, int, int, Die | None]
+
+
+class RecordParts(NamedTuple):
+    """The parts of a record, and where each begins; `is_in_row` where none begins before the one before it ends."""
+
+    parts: Sequence[Part]
+    begins: Sequence[int]
+    is_in_row: bool
+
+    def between(self, low: int, high: int) -> list[Part]:
+        """The parts that have bits from low up to high."""
+        first, last = 0, len(self.parts)
+        if self.is_in_row:
+            first = max(bisect.bisect_right(self.begins, low) - 1, 0)
+            last = bisect.bisect_left(self.begins, high)
+        own = self.parts[first:last]
+        return [it for it in own if it[1] < high and low < it[1] + it[2]]
+
+
+@functools.lru_cache(1 << 12)
+def parts_of(die: Die) -> RecordParts:
+    parts = list(record_parts(die))
+    ends = [start + size for _, start, size, _ in parts]
+    begins = [it[1] for it in parts]
+    return RecordParts(parts, begins, all(end <= it for end, it in zip(ends, begins[1:])))
+
+
+def record_parts(die: Die) -> Iterator[Part]:
+    """What a record is made of."""
     for child in die.iter_children():
         if (
             child.tag in ("DW_TAG_member", "DW_TAG_inheritance")
@@ -223,11 +257,13 @@ def record_parts(die: Die) -> Iterator[tuple[str, int, int, Die | None]]:
         ):
             start, bits = member_place(child)
             own = die_name(child)
+            # (Rust's compiler names the fields of a tuple so)
+            own = own[2:] if TUPLE_FIELD.fullmatch(own) else own
             name = f".{own}" if own and child.tag == "DW_TAG_member" else ""
             yield name, start, 8 * size_of(type_of(child)) if bits is None else bits, type_of(child)
 
 
-def array_elements(die: Die, low: int, high: int) -> Iterator[tuple[str, int, int, Die | None]]:
+def array_elements(die: Die, low: int, high: int) -> Iterator[Part]:
     """The elements of an array that have bits from low up to high, as parts."""
     element = type_of(die)
     wide, dims = 8 * size_of(element), list(element_counts(die))
@@ -245,15 +281,24 @@ def array_elements(die: Die, low: int, high: int) -> Iterator[tuple[str, int, in
         yield "".join(f"[{it}]" for it in [left, *indices]), at * wide, wide, element
 
 
+def is_rust_atomic(die: Die) -> bool:
+    """Whether a type is an atomic number of Rust's library, in which a program knows no fields."""
+    is_rust = attribute_value(die.cu.get_top_DIE(), "language", 0) == RUST_LANGUAGE
+    return is_rust and die.tag in RECORDS and bool(RUST_ATOMIC.match(die_name(die)))
+
+
 def field_paths(die: Die | None, low: int, high: int, depth: int = 0) -> list[str]:
     """The names of what lies in a value's bits from low up to high: fields, elements, each member of a union."""
     die = bare_type(die)
     if die is None or depth > DEEPEST:
         return [""]
+    parts: Iterable[Part]
+    if is_rust_atomic(die):
+        return [""]
     if die.tag == "DW_TAG_array_type":
         parts = array_elements(die, low, high)
     elif die.tag in RECORDS:
-        parts = record_parts(die)
+        parts = parts_of(die).between(low, high)
     else:
         # (where an address has 8 bytes, a number of 8 bytes is accessed as a whole)
         is_whole = die.cu["address_size"] == 8 and size_of(die) == 8
@@ -271,8 +316,8 @@ def has_several_fields(die: Die | None, low: int, high: int, depth: int = 0) -> 
     die = bare_type(die)
     if die is None or depth > DEEPEST or die.tag not in (*RECORDS, "DW_TAG_array_type"):
         return False
-    parts = array_elements(die, low, high) if die.tag == "DW_TAG_array_type" else record_parts(die)
-    own = [it for it in parts if it[1] < high and low < it[1] + it[2]]
+    is_array = die.tag == "DW_TAG_array_type"
+    own = list(array_elements(die, low, high)) if is_array else parts_of(die).between(low, high)
     inner = [
         has_several_fields(of, max(low - start, 0), min(high - start, wide), depth + 1)
         for _, start, wide, of in own

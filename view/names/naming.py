@@ -11,7 +11,7 @@ from view.names.block_types import BlockTypes
 from view.names.debug_entries import Die
 from view.names.demangling import SymbolNames, short_name
 from view.reading.reports import Block, Report, Site, Symbol
-from view.names.source_lines import SourceLine, Sources
+from view.names.source_lines import UNNAMED, SourceLine, Sources
 
 if TYPE_CHECKING:
     # (which are read where a program is named alone: they want pyelftools)
@@ -103,10 +103,6 @@ MAX_CALLERS = 3
 KIT = re.compile(r"(?:^|/)guest/(?:(?:calls|library|pthread)\.c|start\.S|(?:pthread|clib)/[^/]*)$")
 # What Rust's compiler puts behind a function's name.
 RUST_HASH = re.compile(r"::h[0-9a-f]{16}$")
-# Functions without a name of their own, of C++ and Rust.
-UNNAMED = re.compile(
-    r"\{\{?closure|\$u7b\$closure|\{lambda|'lambda|^operator\(\)|::operator\(\)\(|<lambda"
-)
 # Sources of the C library's allocator.
 ALLOCATOR_SOURCES = re.compile(r"(?:^|/)malloc/(?:malloc|arena)\.c$")
 
@@ -273,7 +269,9 @@ class Naming:
         if these are wanted and few."""
         sources, frames = self.sources, self.own_frames(addr)
         place = next((it for it in frames if it.file and it.line), None)
-        names = [self.frame_name(it) for it in frames if it.function]
+        # (what a language's library is between functions of the program says little)
+        own = [it for it in frames if it.function and not LIBRARIES.search(it.file)]
+        names = [self.frame_name(it) for it in own or [it for it in frames if it.function]]
         outside = self.program_callers(addr, frames) if by_callers else ""
         if outside:
             return outside
@@ -329,7 +327,7 @@ class Naming:
         """The function of a frame, a lambda or a closure by its place."""
         found = UNNAMED.search(frame.function)
         if found and frame.short():
-            return f"{'closure' if 'closure' in found[0] else 'lambda'} at {frame.short()}"
+            return f"{'closure' if 'closure' in found[0] else 'lambda'} at {frame.beginning()}"
         return self.readable_name(RUST_HASH.sub("", frame.function))
 
     def is_of_language(self, addr: int) -> bool:

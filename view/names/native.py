@@ -22,7 +22,8 @@ from view.names.naming import Memory
 from view.names.rust import NearPanics, Panics
 from view.reading.reports import Block, Report, Symbol, name_bytes
 from view.reading.reports import Site as CallSite
-from view.names.source_lines import MAX_INSTRUCTIONS_BACK, SourceLine, Sources, parse_frames
+from view.names.control_flow import instructions_before
+from view.names.source_lines import SourceLine, Sources, parse_frames
 
 from elftools.elf.elffile import ELFFile
 from elftools.elf.sections import SymbolTableSection
@@ -234,6 +235,8 @@ class NativeProgram:
         self.panics: dict[str, Panics | None] = {}
         self.go_tables: dict[str, Table | None] = {}
         self.landmarks: dict[str, LandmarkFinder | None] = {}
+        # Variables that lie on stacks, by their addresses in the trace.
+        self.stack_variables: dict[int, NativeVariable] = {}
         self.path = back.program
         own = next(
             (it for it in self.files if os.path.realpath(it.path) == os.path.realpath(self.path)),
@@ -254,6 +257,8 @@ class NativeProgram:
         return {(it.bias + addr, 0): name for it in self.files for addr, name in it.names.items()}
 
     def variable(self, addr: int) -> NativeVariable | None:
+        if addr in self.stack_variables:
+            return self.stack_variables[addr]
         found = self.file(addr)
         return found[0].variable(found[1]) if found else None
 
@@ -524,9 +529,7 @@ class NativeSources(Sources):
         if where is None or where[0].is_stripped:
             return None
         own, at = where
-        for frames in self.symbolize(
-            (own, addr) for addr in range(at - 4, max(at - 4 * MAX_INSTRUCTIONS_BACK, 0) - 1, -4)
-        ):
+        for frames in self.symbolize((own, it) for it in instructions_before(own.path, at)):
             if not frames or frames[-1].function != function:
                 return None
             if has_line(frames):

@@ -2,39 +2,69 @@
 
 import json
 import os
+import re
 import shutil
 import subprocess
 from typing import Any, Iterable, NamedTuple, Sequence
 
 from view.faults import Fault
 
-# So many instructions before one without a line are looked at.
-MAX_INSTRUCTIONS_BACK = 64
 PACKAGES = "apt-get install llvm python3-pyelftools python3-jinja2"
 
 
+# Functions without a name of their own, of C++ and Rust.
+UNNAMED = re.compile(
+    r"\{\{?closure|\$u7b\$closure|\{lambda|'lambda|^operator\(\)|::operator\(\)\(|<lambda"
+)
+# How Rust's former names spell signs.
+RUST_SIGNS = {
+    "$LT$": "<",
+    "$GT$": ">",
+    "$C$": ",",
+    "$u20$": " ",
+    "$RF$": "&",
+    "$BP$": "*",
+    "$LP$": "(",
+    "$RP$": ")",
+    "$u7b$": "{",
+    "$u7d$": "}",
+    "..": "::",
+}
+RUST_SIGN = re.compile("|".join(map(re.escape, RUST_SIGNS)))
+
+
+def rust_name(name: str) -> str:
+    """A function's name with the signs that Rust's former names spell."""
+    return RUST_SIGN.sub(lambda sign: RUST_SIGNS[sign[0]], name) if "$" in name else name
+
+
 class SourceLine(NamedTuple):
-    """A line of a source, and its function; the file is empty where nothing is known, the line then 0."""
+    """A line of a source, and its function; the file is empty where nothing is known, the line then 0. `begin` is the line where a
+    function without a name begins, or 0."""
 
     function: str
     file: str
     line: int
+    begin: int = 0
 
     def short(self) -> str:
         return f"{os.path.basename(self.file)}:{self.line}" if self.file and self.line else ""
 
+    def beginning(self) -> str:
+        """Where a function without a name begins, or else the line."""
+        return self._replace(line=self.begin or self.line).short()
+
 
 def parse_frames(answer: dict[str, Any]) -> list[SourceLine]:
     """The frames of an address as llvm-symbolizer prints them, the innermost first."""
-    frames = [
-        (frame.get("FunctionName", ""), frame.get("FileName", ""), frame.get("Line", 0))
-        for frame in answer.get("Symbol", [])
-    ]
-    return [
-        SourceLine(function, file and os.path.normpath(file), line)
-        for function, file, line in frames
-        if function or file
-    ]
+    found: list[SourceLine] = []
+    for frame in answer.get("Symbol", []):
+        function, file = frame.get("FunctionName", ""), frame.get("FileName", "")
+        begin = frame.get("StartLine", 0) if UNNAMED.search(function) else 0
+        if function or file:
+            path = file and os.path.normpath(file)
+            found.append(SourceLine(function, path, frame.get("Line", 0), begin))
+    return found
 
 
 class Sources:
@@ -84,14 +114,12 @@ class Sources:
         return next((it for it in self.frames(address) if it.file and it.line), None)
 
     def near(self, address: int) -> SourceLine | None:
-        """Where the compiler has made one instruction of several lines and so named none: the line of the nearest one before it in its
-        function."""
+        """Where the compiler has made one instruction of several lines and so named none: the line of the nearest one that runs before it
+        in its function."""
+        from view.names.control_flow import instructions_before
+
         function = next((it.function for it in reversed(self.frames(address))), "")
-        before = (
-            range(address - 4, max(address - 4 * MAX_INSTRUCTIONS_BACK, 0) - 1, -4)
-            if function
-            else range(0)
-        )
+        before = instructions_before(self.program, address) if function else []
         self.find(before)
         for addr in before:
             frames = self.frames(addr)

@@ -29,6 +29,17 @@ def access_at(key: int, addr: int, size: int) -> int:
     return key & LOW | addr << ADDRESS_SHIFT | size << SIZE_SHIFT
 
 
+def key_address(key: int) -> int:
+    return key >> ADDRESS_SHIFT & ADDRESS_MASK
+
+
+def read_keys(trace: str) -> Iterator[int]:
+    """The accesses of a trace of version 1, each as one number."""
+    with open(trace, "rb") as file, mmap.mmap(file.fileno(), 0, access=mmap.ACCESS_READ) as data:
+        for _, piece in access_pieces(data):
+            yield from array("Q", piece)
+
+
 def write_accesses(
     trace: str, out: str, spell: Callable[[int], Sequence[int] | None], keep_records: bool
 ) -> int:
@@ -59,7 +70,7 @@ def write_accesses(
 
 def narrow(key: int, narrowed: NarrowedWords) -> tuple[int, int]:
     """The address and the size of an access; `narrowed` has what atomic instructions for whole words are taken to be for."""
-    addr, size = key >> ADDRESS_SHIFT & ADDRESS_MASK, key >> SIZE_SHIFT
+    addr, size = key_address(key), key >> SIZE_SHIFT
     own = narrowed.get((key >> HART_SHIFT & HART_MASK, addr)) if size == WORD else None
     return (addr + own[0], own[1]) if own else (addr, size)
 

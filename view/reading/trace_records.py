@@ -3,13 +3,18 @@
 tools/traces.py reads the same bytes on its own, for the judges. A program's trace is right or wrong by the engine alone: this
 parser stops at what is no record."""
 
+import contextlib
 import mmap
 import re
 import struct
 from typing import Iterator, NamedTuple, Union
 
+from view.reading import reports
+
 HEADER_BYTES = 20
 ALLOCATION, FREE, SYMBOL, END = 3, 4, 5, 6
+# What a symbol is of; another one is of a function.
+VARIABLE = 1
 _ALLOCATION = struct.Struct("<6I")
 _FREE = struct.Struct("<I")
 _SYMBOL = struct.Struct("<BIIH")
@@ -54,12 +59,24 @@ class Symbol(NamedTuple):
 Record = Union[Accesses, Allocation, Free, Symbol]
 
 
+def variables_of(trace: str) -> list[reports.Symbol]:
+    """The variables that a trace names before its first access: those of its program."""
+    found: list[reports.Symbol] = []
+    with open(trace, "rb") as file, mmap.mmap(file.fileno(), 0, access=mmap.ACCESS_READ) as data:
+        with contextlib.suppress(NoTrace):
+            for record in scan_records(data, has_accesses=False):
+                if isinstance(record, Symbol) and record.kind == VARIABLE:
+                    name = record.name.decode("utf-8", "replace")
+                    found.append(reports.Symbol(name, record.addr, record.size))
+    return found
+
+
 class NoTrace(ValueError):
     """Bytes that are no record of a trace."""
 
 
-def scan_records(data: "bytes | mmap.mmap") -> Iterator[Record]:
-    """The records up to the end's, in order."""
+def scan_records(data: "bytes | mmap.mmap", has_accesses: bool = True) -> Iterator[Record]:
+    """The records up to the end's, in order; or up to the first access."""
     magic, place = data[:8], HEADER_BYTES
     if magic not in ACCESS_PATTERNS:
         raise NoTrace("the file is no trace")
@@ -79,6 +96,8 @@ def scan_records(data: "bytes | mmap.mmap") -> Iterator[Record]:
             begin = place + 1 + _SYMBOL.size
             place = begin + length
             yield Symbol(kind, addr, size, data[begin:place])
+        elif not has_accesses:
+            return
         else:
             match = run.match(data, place)
             if match is None:

@@ -22,6 +22,7 @@ from view.repairs.layouts import (
     to_whole_words,
 )
 from view.repairs.patches import Edit
+from view.repairs.reassignment import Reassignment, is_used_by_others
 from view.repairs.repair import Repair
 from view.repairs.subjects import Sharing, Subject, field_declaration, sharing_of
 from view.repairs.units import (
@@ -38,6 +39,8 @@ from view.reading.trace_files import WordUses
 Choice = tuple[tuple[int, int], ...]
 # So many words may be laid out one by one: a table of `move` has a megabyte at most.
 MAX_SINGLE_WORDS = 30_000
+# So many elements of an array may belong to one of another.
+MAX_SEVERAL = 64
 
 
 def type_changes(options: Sequence[Option], line: int) -> LayoutChange:
@@ -188,9 +191,11 @@ def is_cut(subject: Subject, uses: WordUses) -> bool:
     return len(owners) > 1 and all(it.kind in ("own", "none") for it in owners)
 
 
-def writer_of(own: Sharing) -> int | None:
-    """The thread whose an element is: the only one that uses it or writes it; or none."""
-    return min(own.harts) if own.kind in ("own", "shared") and len(own.harts) == 1 else None
+def writer_of(begin: int, size: int, uses: WordUses) -> int | None:
+    """The only thread that writes an element, or none."""
+    users = (uses.users_of(it) for it in range(begin // 4 * 4, begin + size, 4))
+    writers = {hart for own in users for hart, use in own.items() if use.writes}
+    return min(writers) if len(writers) == 1 else None
 
 
 def is_in_turns(harts: Sequence[int]) -> bool:
@@ -202,25 +207,36 @@ def is_in_turns(harts: Sequence[int]) -> bool:
 def neighbouring_repair(subject: Subject, array: Array, uses: WordUses) -> Repair | None:
     """Neighbouring elements of an array to one thread: in each array the elements that threads write in the order of their threads."""
     wide = array.shape.size()
-    parts: list[MovedRange] = []
-    for at in range(0, len(array.begins), array.length):
+    if wide * len(array.begins) > 4 * MAX_SINGLE_WORDS:
+        return None
+    owners: dict[int, int] = {}
+    places: dict[int, int] = {}
+    for first in range(0, len(array.begins), array.length):
         owned = []
-        for begin in array.begins[at : at + array.length]:
-            own = sharing_of(uses, begin, wide)
-            hart = writer_of(own)
-            if hart is None and own.kind == "shared":
+        for at in range(first, first + array.length):
+            hart = writer_of(array.begins[at], wide, uses)
+            if hart is None and sharing_of(uses, array.begins[at], wide).kind == "shared":
                 return None
             if hart is not None:
-                owned.append((begin, hart))
-        if owned and not is_in_turns([hart for _, hart in owned]):
+                owned.append(at)
+                owners[at] = hart
+        if owned and not is_in_turns([owners[it] for it in owned]):
             return None
-        ordered = sorted(owned, key=lambda it: it[1])
-        parts += [MovedRange(old, wide, new) for (old, _), (new, _) in zip(ordered, owned)]
-    if all(it.begin == it.to for it in parts):
+        places.update(zip(sorted(owned, key=lambda it: owners[it]), owned))
+    if all(it == to for it, to in places.items()):
         return None
+    parts = [MovedRange(array.begins[it], wide, array.begins[to]) for it, to in places.items()]
     how = f"assign neighbouring elements{elements_name(subject, array)} to one thread"
     size = subject.size()
-    return Repair([how], to_whole_words(parts), 0, None, (size, size), is_in_place=True)
+    is_read = any(
+        is_used_by_others(array.begins[it], wide, own, uses) for it, own in owners.items()
+    )
+    of = Reassignment(array.begins, wide, array.length, owners, places)
+    return Repair(
+        *([how], to_whole_words(parts), 0, None, (size, size)),
+        is_in_place=True,
+        reassignments=(of,) if is_read else (),
+    )
 
 
 def elements_name(subject: Subject, array: Array) -> str:
@@ -266,10 +282,18 @@ def transposed_repair(subject: Subject, uses: WordUses, line: int) -> Repair | N
 
 
 class Column:
-    """An array that may become a field of another array's elements: its name, its element's type, and where each element begins."""
+    """An array that may become a field of another array's elements: its name, its element's type, and where each element begins. In each
+    of those it has `several`, in turn or side by side."""
 
     def __init__(self, subject: Subject, path: str, shape: Shape, begins: list[int]) -> None:
         self.subject, self.path, self.shape, self.begins = subject, path, shape, begins
+        self.several, self.is_in_turns = 1, False
+
+    def divided(self, count: int, is_in_turns: bool) -> "Column":
+        """The same as a field of fewer elements."""
+        found = Column(self.subject, self.path, self.shape, self.begins)
+        found.several, found.is_in_turns = len(self.begins) // count, is_in_turns
+        return found
 
     def name(self) -> str:
         last = self.path.rpartition(".")[2].removesuffix("[]") or self.subject.path_name("")
@@ -278,56 +302,100 @@ class Column:
     def full_name(self) -> str:
         return self.subject.path_name(self.path)
 
+    def size(self) -> int:
+        return self.shape.size() * self.several
 
-def columns_of(subjects: Sequence[Subject], uses: WordUses) -> dict[int, list[Column]]:
-    """The arrays of some objects by their number of elements, each used and in one place alone."""
-    found: dict[int, list[Column]] = {}
+    def field(self) -> str:
+        """The field as it is declared."""
+        dimension = f"[{self.several}]" if self.several > 1 else ""
+        return f"{field_declaration(self.shape, self.name() + dimension)};"
+
+    def place(self, element: int) -> tuple[int, int]:
+        """In which element of the new array one of this lies, and as which one there."""
+        count = len(self.begins) // self.several
+        return (
+            (element % count, element // count)
+            if self.is_in_turns
+            else (element // self.several, element % self.several)
+        )
+
+    def index_text(self) -> str:
+        """How its elements are named then, where they are several in each new element."""
+        name, by = self.name(), len(self.begins) // self.several
+        if self.several == 1:
+            return ""
+        index = f"[i % {by}].{name}[i / {by}]" if self.is_in_turns else ""
+        return f"{name}[i] as {index or f'[i / {self.several}].{name}[i % {self.several}]'}"
+
+
+def used_arrays(subjects: Sequence[Subject], uses: WordUses) -> Iterator[Column]:
+    """The arrays of some objects, each used and in one place alone."""
     for subject in subjects:
         if subject.shape is None or len(subject.ranges) != 1:
             continue
         begins = subject.begins()
         if len(begins) > 1:
-            found.setdefault(len(begins), []).append(Column(subject, "", subject.shape, begins))
+            yield Column(subject, "", subject.shape, begins)
             continue
         for array in arrays_in(subject.shape, subject.begins()):
             wide = array.shape.size()
             is_used = sum(sharing_of(uses, it, wide).kind != "none" for it in array.begins) > 1
             if len(array.begins) == array.length and is_used:
-                found.setdefault(array.length, []).append(
-                    Column(subject, array.path, array.shape, array.begins)
-                )
-    return {count: own for count, own in found.items() if len(own) > 1}
+                yield Column(subject, array.path, array.shape, array.begins)
+
+
+def columns_of(subjects: Sequence[Subject], uses: WordUses) -> Iterator[list[Column]]:
+    """The arrays that may be one array of a struct: those of one length, and with them those that have several elements for each."""
+    by_count: dict[int, list[Column]] = {}
+    for column in used_arrays(subjects, uses):
+        by_count.setdefault(len(column.begins), []).append(column)
+    for count, own in by_count.items():
+        if len(own) > 1:
+            yield own
+        longer = [
+            it
+            for other, columns in by_count.items()
+            if other % count == 0 and 1 < other // count <= MAX_SEVERAL
+            for it in columns
+        ]
+        for is_in_turns in (True, False) if longer else ():
+            yield [*own, *(it.divided(count, is_in_turns) for it in longer)]
 
 
 def joined_arrays(columns: Sequence[Column], line: int) -> Repair:
-    """Arrays of one length as one array of a struct, each element of which has its own line."""
+    """Arrays as one array of a struct, each element of which has its own line."""
     columns = sorted(columns, key=lambda it: it.begins[0])
     offsets, at = [], 0
     for column in columns:
         at = round_up(at, alignment_of(column.shape.die))
         offsets.append(at)
-        at += column.shape.size()
-    stride = round_up(at, line)
-    parts = [
-        MovedRange(begin, column.shape.size(), place * stride + offset)
-        for column, offset in zip(columns, offsets)
-        for place, begin in enumerate(column.begins)
-    ]
-    count = len(columns[0].begins)
-    fields = " ".join(f"{field_declaration(it.shape, it.name())};" for it in columns)
+        at += column.size()
+    stride, count = round_up(at, line), len(columns[0].begins) // columns[0].several
+    parts = []
+    for column, offset in zip(columns, offsets):
+        wide = column.shape.size()
+        for element, begin in enumerate(column.begins):
+            place, inner = column.place(element)
+            parts.append(MovedRange(begin, wide, place * stride + offset + inner * wide))
+    fields = " ".join(it.field() for it in columns)
     names = [it.full_name() for it in columns]
+    indices = [text for it in columns if (text := it.index_text())]
     name = columns[0].subject.new_name(
-        "_".join(dict.fromkeys(it.name() for it in columns)), tuple(names)
+        "_".join(dict.fromkeys(it.name() for it in columns)), (*names, *indices)
     )
     how = (
         f"join {all_of(names)} to one array of {count:,} elements of"
         f" `struct {attribute(line)} {name} {{ {fields} }};`"
+        f"{f', with {all_of(indices)}' if indices else ''}"
         f"{next((aligned_alloc_text(it.subject, line) for it in columns if it.subject.is_blocks()), '')}"
     )
-    before = sum(it.shape.size() * count for it in columns)
+    before = sum(it.size() * count for it in columns)
     moved, is_bytewise = to_parts(parts)
+    room = stride * count
     return Repair(
-        [how], moved, stride * count, None, (before, stride * count), is_bytewise=is_bytewise
+        *([how], moved, room, None, (before, room)),
+        is_bytewise=is_bytewise,
+        changes=len(columns),
     )
 
 
@@ -338,12 +406,17 @@ def other_repairs(
     first = subjects[0]
     yield lambda: arenas_repair(first, uses, line)
     yield lambda: transposed_repair(first, uses, line)
-    if first.shape is not None:
-        for array in arrays_in(first.shape, first.begins()):
-            if array.shape.size() >= 4:
-                yield functools.partial(neighbouring_repair, first, array, uses)
-    for columns in columns_of(subjects, uses).values():
+    yield from other_orders(first, uses)
+    for columns in columns_of(subjects, uses):
         yield functools.partial(joined_arrays, columns, line)
+
+
+def other_orders(subject: Subject, uses: WordUses) -> Iterator[Callable[[], Repair | None]]:
+    """The repairs of the order of elements."""
+    if subject.shape is not None:
+        for array in arrays_in(subject.shape, subject.begins()):
+            if array.shape.size() >= 4:
+                yield functools.partial(neighbouring_repair, subject, array, uses)
 
 
 def bytewise_fix(subject: Subject, uses: WordUses, line: int) -> str:

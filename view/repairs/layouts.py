@@ -12,6 +12,7 @@ from view.names.fields import (
     element_counts,
     member_place,
     size_of,
+    type_name,
     type_of,
 )
 
@@ -19,6 +20,8 @@ from view.names.fields import (
 MAX_MOVED_RANGES, MAX_MOVED_BYTES = 100_000, 1 << 16
 # Addresses are below it.
 ADDRESS_END = 1 << 32
+# A structure of more fields is left in its order.
+MAX_MEMBERS = 256
 STRUCTS = ("DW_TAG_structure_type", "DW_TAG_class_type")
 
 
@@ -75,10 +78,16 @@ class Member(NamedTuple):
         return max(declared_alignment(self.die), alignment_of(self.shape.die))
 
 
+def is_wide(record: Die) -> bool:
+    """Whether a structure has too many fields for other orders of them."""
+    members = (it for it in record.iter_children() if it.tag == "DW_TAG_member")
+    return any(at >= MAX_MEMBERS for at, _ in enumerate(members))
+
+
 def record_members(record: Die) -> list[Member] | None:
-    """The fields of a structure, or none where these can't be put in another order: bit fields, base classes, and a union's."""
+    """The fields of a structure, or none where these can't be put in another order: bit fields, base classes, a union's, and too many."""
     found: list[Member] = []
-    if record.tag not in STRUCTS:
+    if record.tag not in STRUCTS or is_wide(record):
         return None
     for child in record.iter_children():
         if child.tag == "DW_TAG_inheritance":
@@ -97,6 +106,20 @@ def record_members(record: Die) -> list[Member] | None:
                 )
             )
     return found if all(it.size for it in found) else None
+
+
+def wide_records(shape: Shape, depth: int = 0) -> Iterator[str]:
+    """The names of structures in a value that have too many fields."""
+    record = shape.record()
+    if depth > 4:
+        return
+    if shape.dims():
+        yield from wide_records(shape.element(), depth + 1)
+    elif record is not None and is_wide(record):
+        yield type_name(shape.die)
+    elif record is not None:
+        for member in record_members(record) or []:
+            yield from wide_records(member.shape, depth + 1)
 
 
 class LayoutChange:

@@ -1,12 +1,18 @@
 """The search for the best repair of an object: single units, all together, and from there unit by unit."""
 
 import contextlib
-from typing import Callable, Iterable, NamedTuple, Sequence
+from typing import Callable, Iterable, Iterator, NamedTuple, Sequence
 
 from view.names.fields import value_or_default
-from view.repairs.candidates import Choice, combine_units, other_repairs, separate_words
-from view.repairs.layouts import Unmovable
-from view.repairs.repair import Repair
+from view.repairs.candidates import (
+    Choice,
+    combine_units,
+    other_orders,
+    other_repairs,
+    separate_words,
+)
+from view.repairs.layouts import MAX_MEMBERS, Unmovable, wide_records
+from view.repairs.repair import Repair, join_repairs
 from view.repairs.subjects import Subject
 from view.repairs.units import Unit, units_of
 from view.reading.filtered_traces import USUAL_NEAR
@@ -18,8 +24,19 @@ MAX_LAYOUTS, MAX_UNITS, MAX_ROUNDS = 48, 20, 3
 # too.
 ALIKE_DIVISOR, SIMILAR_DIVISOR = 50, 10
 
-# Counts the misses of some repairs, none of one that can't be counted.
-CountRepairs = Callable[[Sequence[Repair]], Sequence[int | None]]
+# Two repairs take about as much memory that differ by fewer bytes.
+LITTLE_BYTES = 512
+
+# So many layouts more are counted with another order of elements.
+MAX_ORDERS = 8
+
+
+class Counting(NamedTuple):
+    """What counts the misses of some repairs, none of one that can't be counted; and what says how a repair that gives elements to other
+    threads is counted, or none where it can't be."""
+
+    misses: Callable[[Sequence[Repair]], Sequence[int | None]]
+    resolve: Callable[[Repair], Repair | None]
 
 
 class Counted(NamedTuple):
@@ -63,7 +80,13 @@ def choose(found: Iterable[Counted], before: int) -> Counted | None:
     if best.misses >= before:
         return best
     alike = [it for it in counted if is_alike(it, best, before)]
-    return min(alike, key=lambda it: (it.repair.memory_growth(), it.changes, it.misses))
+    return min(alike, key=cost_of_change)
+
+
+def cost_of_change(counted: Counted) -> tuple[int, int, int, int]:
+    """What a repair costs beside its misses: memory where it is much, then changes, and then memory where it is little."""
+    growth = counted.repair.memory_growth()
+    return growth // LITTLE_BYTES, counted.changes, growth, counted.misses
 
 
 class Search:
@@ -75,10 +98,10 @@ class Search:
         uses: WordUses,
         line: int,
         before: int,
-        count: CountRepairs,
+        counting: Counting,
     ) -> None:
         self.subjects, self.uses, self.line = subjects, uses, line
-        self.before, self.count = before, count
+        self.before, self.counting = before, counting
         self.left_out: list[str] = []
         self.units: list[Unit] = []
         for subject in subjects:
@@ -86,22 +109,26 @@ class Search:
             self.units += own[: max(MAX_UNITS - len(self.units), 0)]
             if len(self.units) == MAX_UNITS and own:
                 self.left_out.append(f"parts of {subject.name}")
+            for name in wide_records(subject.shape) if subject.shape else ():
+                self.left_out.append(f"fields of {name}, which are more than {MAX_MEMBERS}")
         self.found: dict[tuple[object, ...], Counted] = {}
         self.seen: set[tuple[object, ...]] = set()
 
-    def add(self, made: Iterable[tuple[Repair, int, Choice | None]]) -> None:
+    def add(
+        self, made: Iterable[tuple[Repair, int, Choice | None]], most: int = MAX_LAYOUTS
+    ) -> None:
         """Counts some repairs that aren't counted yet."""
         new = []
         for repair, changes, choice in made:
-            key = (repair.is_in_place, *repair.parts)
+            key = repair.key()
             if key in self.seen:
                 continue
-            if len(self.seen) >= MAX_LAYOUTS:
+            if len(self.seen) >= most:
                 self.left_out.append("further layouts")
                 break
             self.seen.add(key)
             new.append((key, repair, changes, choice))
-        counts = self.count([it[1] for it in new])
+        counts = self.counting.misses([it[1] for it in new])
         for (key, repair, changes, choice), misses in zip(new, counts):
             if misses is not None:
                 self.found[key] = Counted(repair, misses, changes, choice)
@@ -146,11 +173,27 @@ class Search:
         return [it for it in found if it]
 
     def others(self) -> Iterable[tuple[Repair, int, None]]:
-        for make in other_repairs(self.subjects, self.uses, self.line):
+        for repair in self.make(other_repairs(self.subjects, self.uses, self.line)):
+            yield repair, repair.changes, None
+
+    def make(self, repairs: Iterable[Callable[[], Repair | None]]) -> Iterator[Repair]:
+        """Those of some repairs that can be counted."""
+        for make in repairs:
             with contextlib.suppress(Unmovable):
                 repair = value_or_default(make, None)
-                if repair is not None:
-                    yield repair, 1, None
+                resolved = self.counting.resolve(repair) if repair is not None else None
+                if resolved is not None:
+                    yield resolved
+
+    def with_other_orders(self) -> Iterable[tuple[Repair, int, None]]:
+        """The best layouts so far, each with another order of the elements of an array."""
+        chosen = (self.best_choice(), choose(self.found.values(), self.before))
+        best = [it.repair for it in chosen if it and it.misses < self.before]
+        for subject in self.subjects:
+            for order in self.make(other_orders(subject, self.uses)):
+                for repair in (it for it in best if not it.is_in_place):
+                    joined = join_repairs([repair, order], self.line)
+                    yield joined, joined.changes, None
 
     def best_choice(self) -> Counted | None:
         return choose((it for it in self.found.values() if it.choice), self.before)
@@ -164,6 +207,7 @@ class Search:
             self.add(self.build(self.variations(best.choice)))
             if self.best_choice() is best:
                 break
+        self.add(self.with_other_orders(), len(self.seen) + MAX_ORDERS)
         best = choose(self.found.values(), self.before)
         # (the best repair of the other kind, in place or not)
         others = [
@@ -190,6 +234,6 @@ class Search:
                 repair = separate_words(self.subjects, self.uses, self.line, is_each, USUAL_NEAR)
                 if repair is not None:
                     made.append(repair)
-        counts = zip(self.count(made), made)
+        counts = zip(self.counting.misses(made), made)
         counted = [(misses, it) for misses, it in counts if misses is not None]
         return min(counted, key=lambda own: own[0])[1] if counted else None

@@ -131,7 +131,7 @@ class Trial:
             return False
         if set(other.repair.hows) < set(self.repair.hows):
             return True
-        own, its = ({it[:2] for it in one.repair.parts} for one in (self, other) if one.repair)
+        own, its = (one.repair.moved() for one in (self, other) if one.repair)
         saved = other.before.all_misses() - other.all_misses_left()
         lost = self.all_misses_left() - other.all_misses_left()
         return 2 * len(own & its) >= len(its) and lost * ALIKE_DIVISOR <= saved
@@ -219,11 +219,11 @@ class Trial:
         less = "; write shared data less often" if self.obj.useful >= self.obj.useless else ""
         if self.bound is None:
             return f"unknown: no layout that was tried helps{where}, and not all words could be separated"
-        if self.is_much(self.saved_by(self.bound)):
-            return f"no repair that predator can write removes them; {self.bound_text()}{less}"
         if self.saved_misses() * MIN_OWN_SHARE_DIVISOR >= self.own_misses() > 0:
             best = f"the best layout saves {self.saved_misses():,} misses"
             return f"none: {best}, fewer than one in {MIN_ACCESS_SHARE_DIVISOR:,} accesses{where}{less}"
+        if self.is_much(self.saved_by(self.bound)):
+            return f"no repair that predator can write removes them; {self.bound_text()}{less}"
         return f"none: no layout change helps{where}{less}"
 
     def pairs_text(self) -> str:

@@ -7,7 +7,7 @@ import itertools
 import os
 import tempfile
 import threading
-from bisect import bisect_left, bisect_right
+from bisect import bisect_left
 from typing import Iterator, NamedTuple, Sequence, cast
 
 from view.repairs import advice
@@ -31,8 +31,9 @@ from view.reading.passes import is_brief
 from view.reading.engine import PassResult
 from view.reading.engine import Predator, TraceReader, Refused, every_line_reader, misses_reader
 from view.repairs.candidates import bytewise_fix
-from view.repairs.repair import Repair
-from view.repairs.search import Search
+from view.repairs.reassignment import uses_neighbours, write_reassigned
+from view.repairs.repair import Repair, join_repairs
+from view.repairs.search import Counting, Search
 from view.reading.reports import Misses, Report
 from view.reading.trace_files import ACCESS, NarrowedWords, WordUses
 from view.repairs.subjects import Subject, subject_of
@@ -46,6 +47,8 @@ PAGE_BYTES = 4096
 HIGH_ADDRESSES = (0xC000_0000, 0x8000_0000, 0x4000_0000)
 # So many places are tried for what is moved.
 MAX_PLACES = 3
+# Why a layout was left out.
+OTHER_ORDERS = "elements for other threads (--whole counts them)"
 # So many accesses are moved byte by byte for one screen.
 MAX_BYTE_ACCESSES = 8_000_000
 
@@ -81,6 +84,9 @@ class TrialRunner:
         self.words = sorted(view.word_misses.lines) if view.word_misses else []
         self.front, self.before, self.cold = trace, 0, 0
         self.lock, self.plain_traces, self.byte_accesses = threading.Lock(), dict[str, str](), 0
+        # (traces whose threads use other elements, whether they use those beside their own, and whether such layouts were left out)
+        self.reassigned = dict[tuple[object, ...], str]()
+        self.near_uses, self.lacks_orders = dict[tuple[int, ...], bool](), False
         # (whether layouts by bytes were left out)
         self.is_full = False
         # Of a filtered trace what it says of itself, and how many layouts brought data together that were far from each other.
@@ -122,6 +128,9 @@ class TrialRunner:
         self, trace: str, repair: Repair, readers: Sequence[TraceReader]
     ) -> list[PassResult] | None:
         """The counts of a trace whose words lie where a repair would put them; none if there is no room, or a filtered trace can't say."""
+        trace = self.source(trace, repair)
+        if not repair.parts:
+            return self.predator.read_trace_by_all(trace, readers)
         of_table = os.path.join(self.folder, f"table-{next(self.moves)}")
         parts, room = repair.parts, repair.room
         if self.filtered is not None and not repair.is_in_place:
@@ -151,8 +160,34 @@ class TrialRunner:
                 self.plain_traces[trace] = convert_to_version_1(self.predator, trace, folder)
             return self.plain_traces[trace]
 
+    def source(self, trace: str, repair: Repair) -> str:
+        """The trace whose words a repair moves: the same, or one whose threads use other elements."""
+        if not repair.reassignments:
+            return trace
+        key, plain = (trace, *(it.key() for it in repair.reassignments)), self.plain(trace)
+        with self.lock:
+            if key not in self.reassigned:
+                self.reassigned[key] = os.path.join(self.folder, f"assigned-{next(self.moves)}")
+                write_reassigned(plain, self.reassigned[key], repair.reassignments)
+            return self.reassigned[key]
+
+    def resolve(self, repair: Repair) -> Repair | None:
+        """A repair that gives elements to other threads, as these use the elements: with those beside them, or all. None where the trace
+        doesn't say."""
+        if not repair.reassignments:
+            return repair
+        if self.filtered is not None or not self.has_time():
+            self.lacks_orders = True
+            return None
+        of = repair.reassignments[0]
+        if of.key() not in self.near_uses:
+            self.near_uses[of.key()] = uses_neighbours(self.plain(self.front), of)
+        is_near = self.near_uses[of.key()]
+        return repair._replace(parts=[]) if is_near else repair._replace(reassignments=())
+
     def write_moved(self, trace: str, repair: Repair) -> str | None:
         """A trace with the bytes of a repair where they would lie, or none where there is no room."""
+        trace = self.source(trace, repair)
         out = os.path.join(self.folder, f"moved-{next(self.moves)}")
         for base in (
             [0]
@@ -203,9 +238,13 @@ class TrialRunner:
             # (it has each word of a thread, but not each byte)
             self.is_full = True
             return False
-        self.byte_accesses += self.accesses(self.front)
-        self.is_full = self.is_full or self.byte_accesses > MAX_BYTE_ACCESSES
+        self.is_full = not self.has_time() or self.is_full
         return not self.is_full
+
+    def has_time(self) -> bool:
+        """Whether another layout may be counted access by access."""
+        self.byte_accesses += self.accesses(self.front)
+        return self.byte_accesses <= MAX_BYTE_ACCESSES
 
     def count_whole(self, repair: Repair) -> TrialCount | None:
         """What a repair comes to in the whole trace, or none. Lines whose misses are counted by bytes are so again."""
@@ -216,7 +255,7 @@ class TrialRunner:
         if repair.is_bytewise and self.filtered is not None:
             return None
         left = [it for it in self.view.byte_changes if is_moved(repair, it, self.layout[0])]
-        if (repair.is_bytewise or left) and self.is_long():
+        if (repair.is_bytewise or repair.reassignments or left) and self.is_long():
             return None
         if not repair.is_bytewise and not left:
             found = self.read_moved(self.trace, repair, readers)
@@ -259,7 +298,9 @@ class TrialRunner:
 
 def is_moved(repair: Repair, base: int, size: int) -> bool:
     """Whether a repair moves a part of a line."""
-    return any(it.begin < base + size and base < it.begin + it.size for it in repair.parts)
+    elements = (it.extent() for it in repair.reassignments)
+    ranges = [*((it.begin, it.begin + it.size) for it in repair.parts), *elements]
+    return any(begin < base + size and base < end for begin, end in ranges)
 
 
 def cost_of(misses: Misses, cold: int) -> int:
@@ -407,14 +448,18 @@ def choose_repair(
             functools.partial(bytewise_fix, subject, uses, line), "give each its own line"
         )
     subjects = [subject, *subject.neighbours]
-    trial.far_layouts = 0
-    result = Search(subjects, uses, line, trial.before, trial.count_fronts).run()
+    trial.far_layouts, trial.lacks_orders = 0, False
+    result = Search(
+        *(subjects, uses, line, trial.before), Counting(trial.count_fronts, trial.resolve)
+    ).run()
     found.repair, found.other_repair, found.bound_repair = result.best, result.other, result.bound
     found.tried_repairs, found.left_out = result.layouts, [*subject.left_out, *result.left_out]
     if trial.is_full:
         found.left_out.append("layouts by bytes")
     if trial.far_layouts:
         found.left_out.append(FAR_LAYOUTS)
+    if trial.lacks_orders:
+        found.left_out.append(OTHER_ORDERS)
     found.expected_savings = (
         (trial.before - result.misses) * found.before.all_misses() // max(trial.before, 1)
         if result.best
@@ -451,38 +496,6 @@ def count_repairs(trial: TrialRunner, found: Sequence[Trial]) -> TrialCount | No
     )
 
 
-def join_repairs(repairs: Sequence[Repair], line: int) -> Repair:
-    """Several repairs as one; words that several would move go where the first of them puts them."""
-    parts: list[MovedRange] = []
-    room = 0
-    for own in (it.movable(line) for it in repairs):
-        parts = sorted(
-            [
-                *parts,
-                *(
-                    MovedRange(rest.begin, rest.size, rest.to + room)
-                    for one in own.parts
-                    for rest in parts_outside(one, parts)
-                ),
-            ]
-        )
-        room = round_up(room + own.room, line)
-    return Repair([], parts, room, None)
-
-
-def parts_outside(part: MovedRange, others: Sequence[MovedRange]) -> Iterator[MovedRange]:
-    """What of a part lies in none of the others, which rise and don't overlap."""
-    begin, end, by = part.begin, part.begin + part.size, part.to - part.begin
-    at = max(bisect_right(others, begin, key=lambda part: part.begin) - 1, 0)
-    while at < len(others) and others[at].begin < end:
-        if begin < others[at].begin:
-            yield MovedRange(begin, others[at].begin - begin, begin + by)
-        begin = max(begin, others[at].begin + others[at].size)
-        at += 1
-    if begin < end:
-        yield MovedRange(begin, end - begin, begin + by)
-
-
 def note_same_repairs(found: Sequence[Trial]) -> None:
     """Names a repair once: of several that move the same data for the object whose repair saves most, with the fewest changes."""
     named = [it for it in found if it.is_named() and it.repair]
@@ -503,6 +516,8 @@ def note_same_repairs(found: Sequence[Trial]) -> None:
             seen.add(id(other))
         if last is not own:
             own.same_as = last.obj
+            if own.other_repair and last.repair and {*own.other_repair.hows} <= {*last.repair.hows}:
+                own.other_repair = None
 
 
 def note_joint_result(view: View, found: Sequence[Trial], counted: TrialCount | None) -> None:

@@ -2,7 +2,7 @@
 
 from typing import Callable, Iterator, Literal, NamedTuple, Sequence
 
-from view.names.fields import attribute_value, type_name
+from view.names.fields import RUST_LANGUAGE, attribute_value, type_name
 from view.repairs.advice import attribute
 from view.repairs.groupings import Pattern, field_groupings
 from view.repairs.layouts import (
@@ -31,8 +31,8 @@ from view.repairs.subjects import (
 from view.reading.trace_files import WordUses
 
 
-# Rust's number in DWARF, and how the names of its library's types begin.
-RUST_LANGUAGE, RUST_LIBRARIES = 0x1C, ("std::", "core::", "alloc::")
+# How the names of Rust's library's types begin.
+RUST_LIBRARIES = ("std::", "core::", "alloc::")
 # Arrays of more elements smaller than a word aren't laid out anew.
 MAX_SMALL_ELEMENTS = 1024
 

@@ -280,22 +280,78 @@ class Followed(Following):
         self.assertEqual(before["objects"][0]["tried"]["after"]["bytes"], 4096)
 
     def test_stripes(self):
-        wrapper = f"struct {LINE} locks_counts {{ pthread_mutex_t locks; uint32_t counts; }}"
+        """A lock, a count and each eighth value are of one stripe."""
+        fields = "pthread_mutex_t locks; uint32_t counts; uint32_t values[8];"
+        wrapper = f"struct {LINE} locks_counts_values {{ {fields} }}"
         self.follow(
             "stripes",
             [
-                f"join table.locks and table.counts to one array of 8 elements of {wrapper};,"
-                " allocated with aligned_alloc(64, ..)"
+                "join table.locks, table.counts and table.values to one array of 8 elements of"
+                f" {wrapper};, with values[i] as [i % 8].values[i / 8], allocated with"
+                " aligned_alloc(64, ..)"
             ],
             [
                 ("    pthread_mutex_t locks[STRIPES];\n", f"    {wrapper} own[STRIPES];\n"),
-                ("uint32_t counts[STRIPES], values", "uint32_t values"),
+                ("    uint32_t counts[STRIPES], values[64];\n", ""),
                 ("&made->locks[i]", "&made->own[i].locks"),
                 ("&table->locks[stripe]", "&table->own[stripe].locks"),
                 ("table->counts[stripe]", "table->own[stripe].counts"),
+                ("table->values[at]", "table->own[stripe].values[at / STRIPES]"),
                 (
                     "calloc(1, sizeof *made)",
                     "__builtin_memset(aligned_alloc(64, sizeof *made), 0, sizeof *made)",
+                ),
+            ],
+        )
+
+    def test_buckets(self):
+        """The same of pointers, of which each stripe has several."""
+        fields = "pthread_mutex_t locks; uint32_t counts; struct entry *buckets[4];"
+        wrapper = f"struct {LINE} locks_counts_buckets {{ {fields} }}"
+        self.follow(
+            "buckets",
+            [
+                f"join table.locks, table.counts and table.buckets to one array of 16 elements of {wrapper};,"
+                " with buckets[i] as [i % 16].buckets[i / 16], allocated with aligned_alloc(64, ..)"
+            ],
+            [
+                ("    pthread_mutex_t locks[STRIPES];\n", f"    {wrapper} own[STRIPES];\n"),
+                (
+                    "    uint32_t counts[STRIPES];\n    struct entry *buckets[BUCKETS];\n",
+                    "",
+                ),
+                ("&table->locks[i]", "&table->own[i].locks"),
+                ("&table->locks[stripe]", "&table->own[stripe].locks"),
+                ("table->counts[stripe]", "table->own[stripe].counts"),
+                (
+                    "&table->buckets[hash % BUCKETS]",
+                    "&table->own[stripe].buckets[hash % BUCKETS / STRIPES]",
+                ),
+                (
+                    "calloc(1, sizeof *table)",
+                    "__builtin_memset(aligned_alloc(64, sizeof *table), 0, sizeof *table)",
+                ),
+            ],
+        )
+
+    def test_tiles(self):
+        """A layout together with other elements for each thread, whose accesses to those beside them move along."""
+        wrapper = f"struct {LINE} changed_line {{ int32_t value; }};"
+        self.follow(
+            "tiles",
+            [
+                f"give each element of changed its own line: wrap it in {wrapper}, 4 → 64 bytes each;"
+                " assign neighbouring elements of grid[..] to one thread"
+            ],
+            [
+                (
+                    "static int32_t changed[THREADS];",
+                    f"{wrapper} static struct changed_line changed[THREADS];",
+                ),
+                ("changed[me]++", "changed[me].value++"),
+                (
+                    "for (int y = 1 + me; y < HEIGHT - 1; y += THREADS)",
+                    "for (int y = 1 + 8 * me; y < 9 + 8 * me && y < HEIGHT - 1; y++)",
                 ),
             ],
         )
@@ -351,6 +407,22 @@ class Followed(Following):
                 ("turn[0]", "turn[0].value"),
             ],
             words=("--set", "quantum=3"),
+        )
+
+    def test_contexts(self):
+        """Variables on a stack, of a function that is inlined in another."""
+        before = self.follow(
+            "contexts",
+            [
+                f"give each element of contexts its own line: struct {LINE} context (contexts.c:7),"
+                " 12 → 64 bytes each"
+            ],
+            [("struct context {", f"struct {LINE} context {{")],
+        )
+        self.assertEqual(before["objects"][0]["name"], "contexts")
+        self.assertIn(
+            "contexts: struct context[4], contexts.c:23 (in main, on the stack of hart 0)",
+            before["screen"],
         )
 
     def test_no_layout_helps(self):

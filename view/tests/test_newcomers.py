@@ -3,6 +3,7 @@
 import json
 import os
 import re
+import resource
 import shutil
 import struct
 import subprocess
@@ -12,9 +13,35 @@ import unittest
 import test_followed
 from calling import PROGRAM, TOP, has, joined, view
 from test_followed import FOLLOWED, LACKS
+from view.main import fold_help
 from view.names.callers import calls_in
+from view.reading.calls import HELP
 
+KNOWN = os.path.join(os.path.dirname(FOLLOWED), "known")
 RECORDER = os.path.join(TOP, "native", "out", "predator-amd64-linux")
+
+
+MANY_PARTS = """
+#include <pthread.h>
+#include <stdint.h>
+static DECLARED;
+static void *work(void *argument) {
+    for (int turn = 0; turn < 3; turn++)
+        for (int i = (int)(intptr_t)argument; i < 10000; i += 4) USE;
+    return 0;
+}
+int main(void) {
+    pthread_t threads[4];
+    for (int i = 0; i < 4; i++) pthread_create(&threads[i], 0, work, (void *)(intptr_t)i);
+    for (int i = 0; i < 4; i++) pthread_join(threads[i], 0);
+    return 0;
+}
+"""
+
+
+def children_seconds():
+    """The processor time of all processes that have ended."""
+    return sum(resource.getrusage(resource.RUSAGE_CHILDREN)[:2])
 
 
 @unittest.skipIf(LACKS, f"{' '.join(LACKS)} missing")
@@ -26,10 +53,10 @@ class OfGuests(test_followed.Following):
         objects = {it["name"].partition(" made")[0]: it for it in found["objects"]}
         numbers = [(-it["false_sharing"], -it["true_sharing"]) for it in found["objects"][:4]]
         self.assertEqual(numbers, sorted(numbers))
-        stack = next(iter(objects))
-        self.assertEqual(stack, "stack of hart 0")
-        self.assertIn("likely tasks (struct task[4]) of main", objects[stack]["fix"])
-        own = re.search(r"who (hart 1: .*?) fix ", found["screen"])
+        self.assertEqual(next(iter(objects)), "tasks")
+        self.assertIn("each element of tasks its own line", objects["tasks"]["fix"])
+        self.assertIn("(in main, on the stack of hart 0)", found["screen"])
+        own = re.search(r"who .*?(hart 1: .*?)(?:; on the same lines.*?)? fix ", found["screen"])
         self.assertNotIn("hart 0", own[1])
         # (the numbers of single threads on the counter's line aren't named for it)
         self.assertNotIn("tries", objects)
@@ -49,6 +76,64 @@ class OfGuests(test_followed.Following):
         self.assertIn(f"join sent and lost to one array of 4 elements of {wrapper}, alloc", fix)
         self.assertIn("each thread writes its own element: hart 1: [0]", found["screen"])
         self.assertLess(sum(first["tried"]["after"][it] for it in test_followed.MISSES), 40)
+
+    def known(self, name):
+        with open(os.path.join(KNOWN, f"{name}.c"), encoding="utf-8") as file:
+            return file.read()
+
+    def test_an_instruction_of_several_lines(self):
+        """Where debug information has line 0 the line is that of the nearest instruction that runs before, not of one that lies before."""
+        text = self.known("outcomes")
+        found = self.look(self.build("outcomes", text), "--explain", "1")
+        where = re.search(r"where (.*?) invalidates (.*?):? \d+ times", found["screen"])
+        for place in where.groups():
+            line = re.fullmatch(r"(?:near )?outcomes\.c:(\d+) \(work\)", place.removesuffix(":"))
+            source = text.splitlines()[int(line[1]) - 1]
+            self.assertRegex(source, r"outcomes\[me\]|draw & 0x10000", place)
+        self.assertIn("near outcomes.c:", where[0])
+
+    def test_a_trace_of_another_program(self):
+        """Its names aren't taken, though no line of the report names a variable."""
+        self.build("folded", self.known("folded"))
+        self.build("outcomes", self.known("outcomes"))
+        subprocess.run(
+            [PROGRAM, "run", "folded.elf", "--trace", "trace"],
+            cwd=self.folder,
+            stdout=subprocess.DEVNULL,
+            check=True,
+        )
+        call = ("replay", "trace", "--program", "outcomes.elf")
+        status, text, said = view(*call, program=PROGRAM, cwd=self.folder)
+        self.assertEqual(status, 0)
+        self.assertIn("outcomes.elf isn't the program of this report and isn't used", said)
+        self.assertNotIn("outcomes", text)
+
+    def test_objects_of_many_parts(self):
+        """The search of an array of 10,000 elements and of a structure of 10,000 fields ends, and says what it left out."""
+        fields = ", ".join(f"f{at}" for at in range(10_000))
+        for name, declared, use in (
+            ("cells", "struct { volatile uint32_t used, value; } all[10000]", "all[i].used++"),
+            ("fields", f"struct wide {{ volatile uint32_t {fields}; }} all", "(&all.f0)[i]++"),
+        ):
+            text = MANY_PARTS.replace("DECLARED", declared).replace("USE", use)
+            program, began = self.build(name, text), children_seconds()
+            found = self.look(program)
+            self.assertLess(children_seconds() - began, 60)
+            (first,) = (it for it in found["objects"] if it["tried"])
+            self.assertLess(sum(first["tried"]["after"][it] for it in test_followed.MISSES), 3000)
+            if name == "fields":
+                left_out = "left out: fields of struct wide, which are more than 256"
+                self.assertIn(left_out, found["screen"])
+
+    def test_a_loop_that_the_compiler_removed(self):
+        found = self.look(self.build("folded", self.known("folded")))
+        self.assertLess(found["accesses"], 1000)
+        self.assertEqual(found["total"]["false_sharing"], 0)
+        fixes = {it["fix"] for it in found["objects"]}
+        seen = f"only {found['accesses']:,} accesses were seen; did the compiler remove a loop?"
+        self.assertEqual(fixes, {f"none: {seen}"})
+        self.assertNotIn("tried", found["screen"])
+        self.assertNotIn("aligned", found["screen"])
 
 
 @unittest.skipUnless(
@@ -99,6 +184,22 @@ class OfThisMachine(unittest.TestCase):
         self.assertNotIn("group the fields", usual)
         self.assertIn("group the fields of struct spsc (spsc.c:9)", fine)
 
+    def test_variables_of_a_stack(self):
+        """They have their names by the instructions of the trace, and the fix that is tried comes out; without pcs they have none."""
+        self.build("contexts.c", "gcc", "-g", "-O2", "-pthread")
+        for words in ((), ("--filtered",)):
+            found, text = self.look("contexts", "--no-fine", *words)
+            self.assertEqual(found[0]["name"], "contexts", words)
+            self.assertIn("(in main, on the stack of thread 0)", text)
+            self.assertIn("each element of contexts its own line", found[0]["fix"])
+            self.assertLess(found[0]["tried"]["after"]["false_sharing"], 30)
+        _, text = self.look("contexts", "--fine")
+        self.assertNotIn("stack of thread 0, used", text)
+        call = ("native", "./contexts", "--no-fine", "--explain", "0", "--object", "contexts")
+        status, _, said = view(*call, program=PROGRAM, cwd=self.folder)
+        self.assertEqual(status, 2)
+        self.assertIn("'contexts' may lie on a stack, where nothing has a name without pcs", said)
+
     def test_a_run_of_which_nothing_was_recorded(self):
         words = ("native", shutil.which("true"), "--fail-above", "0")
         status, _, said = view(*words, program=PROGRAM, cwd=self.folder)
@@ -121,6 +222,15 @@ class Streams(unittest.TestCase):
         ran = subprocess.run(["sh", "-c", command], stderr=subprocess.PIPE, text=True, env=own)
         self.assertEqual(ran.returncode, 2)
         self.assertEqual(ran.stderr, "predator view: standard output is closed\n")
+
+
+class Help(unittest.TestCase):
+    def test_the_page_of_a_terminal(self):
+        """No word is lost, and no row has more columns than the terminal."""
+        text = fold_help(HELP, 80)
+        self.assertLessEqual(max(map(len, text.split("\n"))), 80)
+        self.assertEqual(text.split(), HELP.split())
+        self.assertIn("\n  --top N            show N objects (10)\n", text)
 
 
 class Folders(unittest.TestCase):

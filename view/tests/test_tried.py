@@ -328,7 +328,8 @@ class LaidOut(Folder):
             MovedRange(32, 4, 64),
             MovedRange(40, 4, 192),
         ]
-        self.assertEqual(join_repairs([first, second], 64), Repair([], parts, 256, None))
+        joined = Repair([], parts, 256, None, changes=2)
+        self.assertEqual(join_repairs([first, second], 64), joined)
         self.assertEqual(join_repairs([first, first], 64).parts, first.parts)
 
 
@@ -395,6 +396,12 @@ class Sentences(unittest.TestCase):
             self.tried(958, 7, 9000, apart=(0, 0))[0][:51],
             "no repair that predator can write removes them; sep",
         )
+
+    def test_a_layout_that_saves_too_little(self):
+        """It isn't called none that can be written, though all words apart would save enough."""
+        fix, _ = self.tried(110, 0, 98_644, (14, 0), 2, apart=(0, 0))
+        best = "the best layout saves 96 misses, fewer than one in 1,000 accesses on this trace"
+        self.assertEqual(fix, f"none: {best}")
 
     def test_one_repair_for_several_objects(self):
         found = Trial(SimpleNamespace(useless=900, useful=10), TrialCount({}, 9), 9000)
