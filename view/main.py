@@ -151,8 +151,9 @@ def report_of(call: Call, predator: Predator | None) -> Report:
 
 def has_variable(program: "Program | NativeProgram", name: str) -> bool:
     """Whether debug information has a variable of a name, which may lie on a stack."""
-    native = native_of(program)
-    own = native.main if native else program
+    from view.names.fields import Program
+
+    own = program if isinstance(program, Program) else program.main
     own.scan_variables()
     return name in own.named_variables
 

@@ -14,7 +14,8 @@ from view.model.object_keys import StackKey, SymbolKey
 from view.model.objects import DataObject
 from view.model.view import MIN_ACCESS_SHARE_DIVISOR, View
 from view.reading.calls import Call, option_width
-from view.reading.engine import Predator, Stream, setting_value
+from view.reading.engine import Predator, setting_value
+from view.reading.program import Stream
 from view.reading.recording import keep_run_trace, option_value, record_again
 from view.reading.reports import Report
 

@@ -11,8 +11,8 @@ import subprocess
 from typing import Any, Iterator, NamedTuple
 
 from view.model.instruction_pairs import DISASSEMBLY_ROW, RISCV_EXTENSIONS
+from view.names.debug_entries import Die
 from view.names.fields import (
-    Die,
     Program,
     attribute_value,
     origins,
