@@ -132,7 +132,7 @@ def stranger(call: Call, program: "Program | NativeProgram", report: Report) -> 
     known = program.symbols()
     seen = [obj for line in report.lines[:1000] for obj in line.objects()]
     trace = call.trace_file()
-    for obj in [*(variables_of(trace) if trace else ()), *seen]:
+    for obj in [*seen, *(variables_of(trace) if trace else ())]:
         if isinstance(obj, Symbol) and (obj.addr, obj.size) not in known:
             return f"no symbol {obj.name} of {obj.size:,} bytes at {obj.addr:#010x}"
     return None
@@ -149,8 +149,9 @@ def report_of(call: Call, predator: Predator | None) -> Report:
 
 def has_variable(program: "Program | NativeProgram", name: str) -> bool:
     """Whether debug information has a variable of a name, which may lie on a stack."""
-    native = native_of(program)
-    own = native.main if native else program
+    from view.names.fields import Program
+
+    own = program if isinstance(program, Program) else program.main
     own.scan_variables()
     return name in own.named_variables
 

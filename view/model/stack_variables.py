@@ -1,6 +1,7 @@
 """The variables that lie on contended lines of stacks: their frames are found by the trace, and lines list them as those of the program."""
 
 import contextlib
+import functools
 import os
 import re
 import tempfile
@@ -12,6 +13,7 @@ from view.model.view import MIN_ACCESS_SHARE_DIVISOR, StackPlace, View
 from view.names.native import NativeProgram, NativeVariable
 from view.reading.engine import Predator, Refused
 from view.reading.file_kinds import has_pcs
+from view.reading.reports import LineRows
 from view.reading.frame_accesses import AccessKind, Span, read_accesses
 
 if TYPE_CHECKING:
@@ -93,14 +95,15 @@ def read_seen(view: View, trace: str, bases: list[int]) -> Seen:
     kinds = read_accesses(trace, lambda page: memory.key(page) in keys, MAX_ACCESSES)
     if not isinstance(program, NativeProgram):
         return Seen(kinds, lambda addr: addr, lambda addr: addr)
-    pages = program.map.pages
+    address_map = program.map
+    pages = address_map.pages
     own = {pages[at]: at for at in {kind[2] // PAGE * PAGE for kind in kinds} if at in pages}
 
     def traced(addr: int) -> int | None:
         page = own.get(addr // PAGE * PAGE)
         return None if page is None else page + addr % PAGE
 
-    return Seen(kinds, lambda addr: program.map.native_address(addr) or 0, traced)
+    return Seen(kinds, lambda addr: address_map.native_address(addr) or 0, traced)
 
 
 class FrameSearch:
@@ -118,17 +121,18 @@ class FrameSearch:
         program = self.view.naming.program
         if not isinstance(program, NativeProgram):
             return (Frames(program.path, program), lambda pc: pc) if program else None
-        if program.own is None:
+        native, own = program, program.own
+        if own is None:
             return None
         known: dict[int, int | None] = {}
 
         def place(pc: int) -> int | None:
             if pc not in known:
-                found = program.file(pc)
-                known[pc] = found[1] if found and found[0] is program.own else None
+                found = native.file(pc)
+                known[pc] = found[1] if found and found[0] is own else None
             return known[pc]
 
-        return Frames(program.own.path, program.main), place
+        return Frames(own.path, native.main), place
 
     def run(self) -> None:
         found = self.file_of()
@@ -228,18 +232,22 @@ def note_stack_variables(view: View, predator: Predator | None) -> None:
         return
     from view.names.fields import Variable, value_or_default
 
-    found: list[StackVariable] = value_or_default(lambda: find_stack_variables(view, predator), [])
+    search = functools.partial(find_stack_variables, view, predator)
+    found: list[StackVariable] = value_or_default(search, [])
     for it in found:
         if isinstance(program, NativeProgram):
-            program.stack_variables[it.addr] = NativeVariable(it.die, program.own)
+            if program.own is not None:
+                program.stack_variables[it.addr] = NativeVariable(it.die, program.own)
         else:
             program.variable(it.addr)
             program.variables[it.addr] = Variable(it.die)
         view.stack_places[it.addr] = StackPlace(it.function, it.hart)
     reports = [it for it in (view.report, view.every_line) if it]
-    lines = [line for report in dict.fromkeys(reports) for line in report.lines]
-    for line in [*lines, *view.misses.lines.values()]:
-        size = getattr(line, "size", view.report.size)
+    ranges: list[tuple[LineRows, int, int]] = [
+        (line, line.base, line.size) for report in dict.fromkeys(reports) for line in report.lines
+    ]
+    ranges += [(line, line.base, view.report.size) for line in view.misses.lines.values()]
+    for line, base, size in ranges:
         for it in found:
-            if it.is_on(line.base, size):
+            if it.is_on(base, size):
                 line.object_rows += f"object symbol {it.name} {it.addr:#010x} {it.size}\n"

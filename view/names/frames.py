@@ -10,7 +10,7 @@ import shutil
 import subprocess
 from typing import Any, Iterator, NamedTuple
 
-from view.model.instruction_pairs import DISASSEMBLY_ROW, RISCV_EXTENSIONS
+from view.names.disassembly import DISASSEMBLY_ROW, RISCV_EXTENSIONS
 from view.names.fields import (
     Die,
     Program,
