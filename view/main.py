@@ -134,7 +134,7 @@ def stranger(call: Call, program: "Program | NativeProgram", report: Report) -> 
     known = program.symbols()
     seen = [obj for line in report.lines[:1000] for obj in line.objects()]
     trace = call.trace_file()
-    for obj in [*(variables_of(trace) if trace else ()), *seen]:
+    for obj in [*seen, *(variables_of(trace) if trace else ())]:
         if isinstance(obj, Symbol) and (obj.addr, obj.size) not in known:
             return f"no symbol {obj.name} of {obj.size:,} bytes at {obj.addr:#010x}"
     return None

@@ -9,6 +9,13 @@ import struct
 import subprocess
 from typing import TYPE_CHECKING, Iterable, Mapping, NamedTuple, Sequence
 
+from view.names.disassembly import (
+    DISASSEMBLY_ROW,
+    RISCV_EXTENSIONS,
+    DisassemblyRow,
+    function_starts,
+    is_riscv,
+)
 from view.reading.reports import InstructionPair
 
 if TYPE_CHECKING:
@@ -18,15 +25,11 @@ if TYPE_CHECKING:
 # The kinds of invalidations: by an atomic instruction, which waits for the line; of a line that the victim reads, or that is read to be
 # written, so that a load waits; by a write after a write, for which a store buffer waits; and those whose instructions aren't known.
 ATOMIC, LOAD, STORE, UNKNOWN = KINDS = ("atomic", "load", "store", "unknown")
-# A function is looked through from its start up to an instruction that lies so far in it; functions so near to each other in one call.
-FAR, NEAR = 1 << 16, 1 << 12
+# Functions so near to each other are looked through in one call.
+NEAR = 1 << 12
 # No instruction has more bytes. (Of one with a prefix llvm-objdump shows the prefix alone where it is to stop behind that.)
 MAX_INSTRUCTION_BYTES = 16
-DISASSEMBLY_ROW = re.compile(r"^ *([0-9a-f]+):\s+([a-z][a-z0-9._]*)\s*(.*)$")
 FORMAT = re.compile(r"file format (\S+)")
-RISCV_MACHINE = 243
-# (what an older compiler or a small linker writes says nothing of its extensions)
-RISCV_EXTENSIONS = ["--mattr=+m,+a,+f,+d,+c"]
 # Those of x86-64: prefixes that llvm-objdump prints as rows, what writes its last operand and doesn't read it, and what only reads it.
 PREFIXES = (
     "lock",
@@ -62,14 +65,6 @@ PLAIN_UPDATE, READS_ONLY, WRITES_ONLY = (
     MemoryEffect(False, False, True),
     MemoryEffect(False, False, False),
 )
-
-
-class DisassemblyRow(NamedTuple):
-    """An instruction as it is printed."""
-
-    addr: int
-    name: str
-    operands: str
 
 
 def riscv_effect(row: DisassemblyRow) -> MemoryEffect | None:
@@ -150,28 +145,6 @@ def parse_effects(text: str, addresses: Iterable[int]) -> dict[int, MemoryEffect
         if effect:
             made[addr] = ATOMIC_UPDATE if "lock" in prefixes else effect
     return made
-
-
-def function_starts(file: str, addresses: Sequence[int]) -> dict[int, int]:
-    """Where the function of each address begins, by llvm-symbolizer, and else the address itself."""
-    asked = "".join(f'"{file}" {it:#x}\n' for it in addresses)
-    words = ["llvm-symbolizer", "--output-style=JSON", "--inlines"]
-    ran = subprocess.run(
-        words, input=os.fsencode(asked), stdout=subprocess.PIPE, stderr=subprocess.DEVNULL
-    )
-    found = {it: it for it in addresses}
-    for addr, row in zip(addresses, ran.stdout.decode("utf-8", "replace").splitlines()):
-        symbols = json.loads(row).get("Symbol", [])
-        start = symbols[-1].get("StartAddress", "") if symbols else ""
-        if start and 0 <= addr - int(start, 16) <= FAR:
-            found[addr] = int(start, 16)
-    return found
-
-
-def is_riscv(file: str) -> bool:
-    with open(file, "rb") as text:
-        head = text.read(20)
-    return len(head) == 20 and bool(struct.unpack_from("<H", head, 18)[0] == RISCV_MACHINE)
 
 
 def file_effects(file: str, names: str, addresses: Iterable[int]) -> dict[int, MemoryEffect]:

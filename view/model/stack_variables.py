@@ -15,7 +15,7 @@ from view.names.native import NativeProgram, NativeVariable
 from view.reading.engine import Predator, Refused
 from view.reading.file_kinds import has_pcs
 from view.reading.frame_accesses import AccessKind, Span, read_accesses
-from view.reading.reports import Line, MissLine
+from view.reading.reports import LineRows
 
 if TYPE_CHECKING:
     from view.names.frames import Frames, FrameFunction
@@ -133,7 +133,7 @@ class FrameSearch:
                 known[pc] = found[1] if found and found[0] is own else None
             return known[pc]
 
-        return Frames(own.path, program.main), place
+        return Frames(own.path, native.main), place
 
     def run(self) -> None:
         found = self.file_of()
@@ -233,9 +233,8 @@ def note_stack_variables(view: View, predator: Predator | None) -> None:
         return
     from view.names.fields import Variable, value_or_default
 
-    found: list[StackVariable] = value_or_default(
-        functools.partial(find_stack_variables, view, predator), []
-    )
+    search = functools.partial(find_stack_variables, view, predator)
+    found: list[StackVariable] = value_or_default(search, [])
     for it in found:
         if isinstance(program, NativeProgram):
             if program.own is not None:
@@ -245,11 +244,11 @@ def note_stack_variables(view: View, predator: Predator | None) -> None:
             program.variables[it.addr] = Variable(it.die)
         view.stack_places[it.addr] = StackPlace(it.function, it.hart)
     reports = [it for it in (view.report, view.every_line) if it]
-    lines: list[Line | MissLine] = [
-        line for report in dict.fromkeys(reports) for line in report.lines
+    ranges: list[tuple[LineRows, int, int]] = [
+        (line, line.base, line.size) for report in dict.fromkeys(reports) for line in report.lines
     ]
-    for line in [*lines, *view.misses.lines.values()]:
-        size = getattr(line, "size", view.report.size)
+    ranges += [(line, line.base, view.report.size) for line in view.misses.lines.values()]
+    for line, base, size in ranges:
         for it in found:
-            if it.is_on(line.base, size):
+            if it.is_on(base, size):
                 line.object_rows += f"object symbol {it.name} {it.addr:#010x} {it.size}\n"

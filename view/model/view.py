@@ -436,6 +436,10 @@ class View:
         own = {it.name for it in parts} | {
             self.naming.object_name(part.key, part.example) for part in parts
         }
+        # (a variable on a stack is a part of that)
+        keys = [it.key.addr for it in parts if isinstance(it.key, SymbolKey)]
+        places = [self.stack_places[it] for it in keys if it in self.stack_places]
+        own |= {f"stack of {self.naming.memory.owner(it.hart)}" for it in places}
         return (
             own
             | {self.naming.names.shorten(it) for it in own}

@@ -6,7 +6,7 @@ import re
 import subprocess
 from typing import NamedTuple
 
-from view.model.instruction_pairs import (
+from view.names.disassembly import (
     DISASSEMBLY_ROW,
     RISCV_EXTENSIONS,
     DisassemblyRow,

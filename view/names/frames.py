@@ -10,8 +10,8 @@ import shutil
 import subprocess
 from typing import Any, Iterator, NamedTuple
 
-from view.model.instruction_pairs import DISASSEMBLY_ROW, RISCV_EXTENSIONS
 from view.names.debug_entries import Die
+from view.names.disassembly import DISASSEMBLY_ROW, RISCV_EXTENSIONS
 from view.names.fields import (
     Program,
     attribute_value,

@@ -39,19 +39,26 @@ def rust_name(name: str) -> str:
 
 
 class SourceLine(NamedTuple):
-    """A line of a source, and its function; the file is empty where nothing is known, the line then 0. `begin` is the line where a
-    function without a name begins, or 0."""
+    """A line of a source, and its function; the file is empty where nothing is known, the line then 0."""
 
     function: str
     file: str
     line: int
-    begin: int = 0
 
     def short(self) -> str:
         return f"{os.path.basename(self.file)}:{self.line}" if self.file and self.line else ""
 
     def beginning(self) -> str:
-        """Where a function without a name begins, or else the line."""
+        """What names a function without a name: where it begins, or else the line."""
+        return self.short()
+
+
+class UnnamedLine(SourceLine):
+    """A line of a function without a name, which begins at a line."""
+
+    begin = 0
+
+    def beginning(self) -> str:
         return self._replace(line=self.begin or self.line).short()
 
 
@@ -60,10 +67,12 @@ def parse_frames(answer: dict[str, Any]) -> list[SourceLine]:
     found: list[SourceLine] = []
     for frame in answer.get("Symbol", []):
         function, file = frame.get("FunctionName", ""), frame.get("FileName", "")
-        begin = frame.get("StartLine", 0) if UNNAMED.search(function) else 0
+        line = SourceLine(function, file and os.path.normpath(file), frame.get("Line", 0))
+        if UNNAMED.search(function):
+            line = unnamed = UnnamedLine(*line)
+            unnamed.begin = frame.get("StartLine", 0)
         if function or file:
-            path = file and os.path.normpath(file)
-            found.append(SourceLine(function, path, frame.get("Line", 0), begin))
+            found.append(line)
     return found
 
 

@@ -191,12 +191,22 @@ class Guests(Traces):
         text, found = self.found("--program", built("pieces.elf"))
         self.assertNotIn("(an arena", text)
         self.record("odd", "--pcs")
-        text, found = self.found("--program", built("odd.elf"))
+        for name in ("stack of hart 0", "own"):
+            text, _ = self.found("--program", built("odd.elf"), "--object", name)
+            self.shows(text, "own: uint32_t[2], odd.c:39 (in main, on the stack of hart 0)")
+        # (without debug information its variables have no names)
+        stripped = self.path("stripped.elf")
+        words = ["llvm-objcopy", "--strip-debug", built("odd.elf"), stripped]
+        subprocess.run(words, check=True)
+        words = ("replay", self.trace, "--program", stripped)
+        _, text, _ = view(*words, "--json", self.path("json"), program=self.program)
         self.shows(text, "stack of hart 0, used in ")
-        names = [it["name"] for it in found["objects"] if it["kind"] == "stack"]
+        with open(self.path("json"), encoding="utf-8") as file:
+            objects = json.load(file)["objects"]
+        names = [it["name"] for it in objects if it["kind"] == "stack"]
         for name in ("stack of hart 0", *names):
-            only, _ = self.found("--program", built("odd.elf"), "--object", name)
-            self.shows(only, names[0])
+            _, text, _ = view(*words, "--object", name, program=self.program)
+            self.shows(text, names[0])
 
 
 @unittest.skipUnless(has(PROGRAM, "misses", "blame"), "the program isn't built, or has no blame")

@@ -82,7 +82,8 @@ class Files(unittest.TestCase):
         found = json.loads(self.read("json"))
         jsonschema.Draft202012Validator.check_schema(schema())
         jsonschema.validate(found, schema(), cls=jsonschema.Draft202012Validator)
-        self.assertEqual([it["kind"] for it in found["objects"]], ["symbol", "stack", "symbol"])
+        self.assertEqual([it["kind"] for it in found["objects"]], ["symbol", "symbol", "symbol"])
+        self.assertIn(("own", "symbol own"), [(it["name"], it["key"]) for it in found["objects"]])
         self.assertEqual(found["objects"][0]["declared"], {"file": "odd.c", "line": 22})
         self.assertEqual(
             sum(it["false_sharing"] for it in found["objects"]), found["total"]["false_sharing"]

@@ -3,6 +3,7 @@
 import json
 import os
 import pty
+import shutil
 import subprocess
 import tempfile
 import unittest
@@ -83,13 +84,19 @@ class Screens(ScreenTest):
             text,
             "!! THE RUN DID NOT END WITH EXIT 0: trap hart 0",
             "store-outside, at odd.c:48 (main)",
-            "1 77 0 78 1 stack of hart 0",
+            "1 77 0 78 1 own: uint32_t[2], odd.c:39 (in main, on the stack of hart 0)",
         )
         self.assertNotIn("flags", text)
 
     def test_a_fight_in_a_stack(self):
-        """It is one of that stack, whose words are neither fields to be put apart nor several in a word."""
-        words = ("run", built("odd.elf"), *TURNS, "--explain=0", "--words", "--object")
+        """Without debug information it is one of that stack, whose words are neither fields to be put apart nor several in a word; with it
+        the variable has a name and a fix of its own."""
+        folder = tempfile.mkdtemp()
+        self.addCleanup(shutil.rmtree, folder)
+        stripped = os.path.join(folder, "odd.elf")
+        subprocess.run(["llvm-objcopy", "--strip-debug", built("odd.elf"), stripped], check=True)
+        options = (*TURNS, "--explain=0", "--words", "--object")
+        words, named = ("run", stripped, *options), ("run", built("odd.elf"), *options)
         for program in (STAND_IN, PROGRAM) if has(PROGRAM, "misses", "move") else (STAND_IN,):
             status, text, _ = view(*words, "stack of hart 0", program=program)
             self.assertEqual(status, 0)
@@ -107,10 +114,11 @@ class Screens(ScreenTest):
             ):
                 self.assertNotIn(part, joined(text), program)
             # (what is said of a variable whose words are fields)
-            self.assertRegex(
-                joined(view(*words, "flags", program=program)[1]),
-                "fix give each element of flags its own line",
-            )
+            for name, variable in (("flags", "flags"), ("stack of hart 0", "own"), ("own", "own")):
+                self.assertRegex(
+                    joined(view(*named, name, program=program)[1]),
+                    f"fix give each element of {variable} its own line",
+                )
 
     def test_statuses(self):
         words = ("run", built("ring.elf"), *TURNS, "--explain", "0", "--fail-above")

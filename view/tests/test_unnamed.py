@@ -4,6 +4,7 @@ import os
 import sys
 import unittest
 from types import SimpleNamespace
+from unittest import mock
 
 sys.path.insert(0, os.path.join(os.path.dirname(os.path.abspath(__file__)), "..", ".."))
 
@@ -145,7 +146,7 @@ class Unnamed(unittest.TestCase):
 
     def test_lines_near_an_instruction(self):
         def place(*found):
-            """The line of an instruction of `f` at 0x1040, whose number says nothing, by what lies 4, 8 .. before it."""
+            """The line of an instruction of `f` at 0x1040, whose number says nothing, by what runs before it."""
             asked = []
 
             def symbolized(addresses):
@@ -158,10 +159,11 @@ class Unnamed(unittest.TestCase):
                 SimpleNamespace(file=lambda _: (file, 0x1040)),
                 symbolized,
             )
-            nearest = NativeSources.near(sources, 0xFFFFFF00)
-            self.assertEqual(
-                asked, [] if file.is_stripped else [(file, at) for at in range(0x103C, 0xF3F, -4)]
-            )
+            before = [*range(0x103C, 0xF3F, -4)]
+            with mock.patch("view.names.native.instructions_before", return_value=before) as of:
+                nearest = NativeSources.near(sources, 0xFFFFFF00)
+            self.assertEqual(asked, [] if file.is_stripped else [(file, at) for at in before])
+            self.assertEqual(of.mock_calls, [] if file.is_stripped else [mock.call("f.so", 0x1040)])
             return nearest
 
         own, other = SourceLine("f", "a.c", 7), SourceLine("f", "a.c", 8)
@@ -173,7 +175,7 @@ class Unnamed(unittest.TestCase):
             (False, ([], [own]), None),
             (True, ([own],), None),
         ):
-            file = SimpleNamespace(is_stripped=is_stripped)
+            file = SimpleNamespace(is_stripped=is_stripped, path="f.so")
             self.assertEqual(place(*found), wanted)
 
 
