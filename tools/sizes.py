@@ -7,10 +7,10 @@ holds a trace, or takes pieces of a GiB, ends with want of memory. What it print
 line from each other at each access, or write so many lines. The short form takes a trace of more than 2^24
 accesses through every command that passes over one, one of more than 256 MiB through `replay`, a run and
 `explain` of more than 2^24 accesses, `explain` from a start above 2^32, more than 65,536 blocks, noted blocks,
-lines, and pairs of instructions on one line, programs of 16 MiB and of a byte less, a table of 1 MiB, a state,
-an output and a trace of more than 32 MiB, and a report of more than 64 MiB. The long form
-takes the longer trace through every command. Memory that is refused at any one place is tried by
-guest/refuse_memory.py."""
+lines, and pairs of instructions on one line, as many symbols, call sites and windows of a sweep, an object of
+2^20 words, programs of 16 MiB and of a byte less, a table of 1 MiB, a state, an output and a trace of more than
+32 MiB, and a report of more than 64 MiB. The long form takes the longer trace through every command. Memory
+that is refused at any one place is tried by guest/refuse_memory.py."""
 
 import argparse
 import hashlib
@@ -24,6 +24,8 @@ from typing import Iterator, NamedTuple
 
 sys.path.insert(0, os.path.join(os.path.dirname(os.path.abspath(__file__)), "edges"))
 import files  # noqa: E402
+import made_guests  # noqa: E402
+import made_traces  # noqa: E402
 from files import join_lines, report_text  # noqa: E402
 from made_guests import DATA  # noqa: E402
 from rv32 import CODE, Code, Segment, elf  # noqa: E402
@@ -448,6 +450,34 @@ def put_file(name: str, content: bytes) -> None:
         file.write(content)
 
 
+def many_object_tries(count: int) -> Iterator[list[Try]]:
+    """Traces of many symbols, blocks, call sites and words of an object."""
+    listed, rows = "--set tracking=1,report=1", (f"lines {count}", "end")
+    for name, make in (
+        ("symbols", made_traces.symbols_apart),
+        ("blocks", made_traces.blocks_apart),
+    ):
+        made = make(count)
+        put_file(name, made.trace)
+        put_file(f"{name}.rest", made_traces.rest_of_trace(made))
+        yield [
+            Try(f"replay {name} {listed} --save {name}.s", rows, 400),
+            Try(f"misses {name}", rows, 400),
+        ]
+        yield [Try(f"replay {name}.rest {listed} --resume {name}.s", rows, 400)]
+    put_file("apart", made_traces.lines(count).trace)
+    put_file("sites.elf", made_guests.sites(count).program)
+    explained = f"explain sites.elf {DATA:#010x} 64 0 --set quantum=1"
+    made = made_traces.large_object(1 << 20)
+    put_file("object", made.trace)
+    yield [
+        Try("sweep apart --size 64", ("shift 60 ", "least", "end"), 400),
+        Try("caches apart --size 64 --sets 64 --ways 8", rows, 400),
+        Try(explained, (f"sites {count}", "pair", "end"), 400),
+        Try(f"place object {made.object}", ("place", "end"), 600),
+    ]
+
+
 # ---- All of them.
 
 
@@ -494,6 +524,7 @@ def tries_by_kind(is_long: bool) -> Iterator[list[Try]]:
     yield [*run_tries(), *program_tries(), Try(f"gen {LONG} f", (f"generated {LONG}",), 40)]
     yield [*many_line_tries(MANY)]
     yield [*many_line_tries(TRACKS)]
+    yield from many_object_tries(MANY)
     for attempt in [*large_file_tries(), *long_text_tries()]:
         yield [attempt]
     contended_trace("long", LONGER)
