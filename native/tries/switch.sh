@@ -49,6 +49,7 @@ switched "with windows" "sum 2000000" 0 "exit 0" 0.02 --windows 10K/100K --trace
 switched "exact accesses" "${right%$'\n'*}" 7 "exit 7" 0.03 --trace p -- ./kinds 2>/dev/null
 
 # A server is recorded for a moment, and goes on.
+rm -f p p.table
 "$launcher" native --quantum 1 --paused --trace p -- ./spans 1000 ever >said 2>&1 &
 pid=$!
 holds_back $pid
@@ -70,6 +71,7 @@ expect_equal "switched: a server: status and end" "143 part" "$? $("$judge" end 
 expect_between "switched: a server: parts" 1 6 "$(grep -c ^resume p.table)"
 
 # Before the program runs the signal isn't lost.
+rm -f p p.table
 "$launcher" native --quantum 1 --paused --trace p -- ./spans 1000 ever >said 2>&1 &
 pid=$!
 holds_back $pid
