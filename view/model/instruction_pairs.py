@@ -1,13 +1,11 @@
 """What instructions do to memory, by llvm-objdump, and so which kind of invalidation each pair of them makes."""
 
 import bisect
-import json
 import os
 import re
 import shutil
-import struct
 import subprocess
-from typing import TYPE_CHECKING, Iterable, Mapping, NamedTuple, Sequence
+from typing import TYPE_CHECKING, Iterable, Mapping, NamedTuple
 
 from view.names.disassembly import (
     DISASSEMBLY_ROW,
