@@ -234,7 +234,7 @@ fails() {
 # calls ARRAY KIND: the calls of all commands that read or write a file of a kind, with IT in its place.
 calls() {
     local -n into=$1
-    mapfile -t into < <(python3 "$top/tools/commands.py" --calls "$2")
+    mapfile -t into < <(python3 "$top/tools/commands.py" "--calls=$2")
     [ ${#into[@]} != 0 ] || fail_check "there is no call for $2"
 }
 
