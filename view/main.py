@@ -25,7 +25,8 @@ from view.reading.calls import (  # noqa: E402
     suggest_nearest,
 )
 from view.faults import Fault, plain  # noqa: E402
-from view.model.view import View, stack_memory  # noqa: E402
+from view.model.stack_places import stack_memory  # noqa: E402
+from view.model.view import View  # noqa: E402
 from view.names.naming import Naming  # noqa: E402
 from view.model.objects import DataObject  # noqa: E402
 from view.reading.file_kinds import has_pcs  # noqa: E402

@@ -8,7 +8,7 @@ which objects aren't the program's own.
 miss_rates.py puts misses in relation to instructions, by the bands of a study (rate_bands.py). comparison.py compares two views, and
 line_borders.py finds the objects of a sweep's totals. stack_overflow.py and waiting_harts.py say how a run ended. trace_uses.py has the
 trace read for who uses which words, byte_sharing.py has lines counted by bytes, and fine_grain.py runs a guest in short turns beside.
-stack_variables.py has lines list the variables of stacks.
+stack_places.py says where stacks lie, and stack_variables.py has lines list their variables.
 
 Out goes `View` (view.py): the ranked objects with all that the outputs print. explained_lines.py, object_fixes.py, word_owners.py and
 worst_line.py say more of one object."""

@@ -9,7 +9,8 @@ from collections import Counter
 from typing import TYPE_CHECKING, Callable, Iterator, NamedTuple
 
 from view.model.object_keys import StackKey
-from view.model.view import MIN_ACCESS_SHARE_DIVISOR, StackPlace, View
+from view.model.stack_places import StackPlace
+from view.model.view import MIN_ACCESS_SHARE_DIVISOR, View
 from view.names.debug_entries import Die
 from view.names.native import NativeProgram, NativeVariable
 from view.reading.engine import Predator, Refused

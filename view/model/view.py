@@ -6,7 +6,7 @@ import functools
 import os
 import re
 from collections import Counter
-from typing import TYPE_CHECKING, Mapping, NamedTuple, Sequence, cast
+from typing import TYPE_CHECKING, Mapping, Sequence, cast
 
 from view.repairs import advice
 from view.reading.calls import EXPLAIN, Call
@@ -16,8 +16,9 @@ from view.model.instruction_pairs import MemoryEffect, count_kinds
 from view.model.foreign_objects import is_foreign
 from view.model.object_fixes import ObjectFixes
 from view.names.demangling import short_name
-from view.names.naming import Memory, Naming, address_text
+from view.names.naming import Naming, address_text
 from view.model.objects import DataObject, ObjectLine, WordUse, group_lines, word_uses, worst_word
+from view.model.stack_places import StackPlace
 from view.model.stack_overflow import Overflow, last_bytes_of_file, last_bytes_of_run, find_overflow
 from view.reading.passes import Layout, Passes, first_readers, can_blame, is_brief
 from view.model.predicted_lines import PredictedLine, judge_predicted_lines, choose_layouts
@@ -27,7 +28,6 @@ from view.reading.engine import (
     Refused,
     misses_reader,
     setting_value,
-    stack_range,
 )
 from view.reading.reports import (
     Blame,
@@ -45,7 +45,6 @@ from view.model.miss_rates import Worth
 
 if TYPE_CHECKING:
     from view.model.byte_sharing import SharingMisses
-    from view.names.native import NativeProgram
     from view.reading.trace_files import WordUses
     from view.repairs.trial_results import Trial
 
@@ -55,13 +54,6 @@ MIN_ACCESS_SHARE_DIVISOR = 1000
 RARE_MISS_DIVISOR = 10_000
 # The file and the line where something is declared or made.
 Declared = tuple[str, int]
-
-
-class StackPlace(NamedTuple):
-    """Where a variable on a stack is: in which function, and on the stack of which thread."""
-
-    function: str
-    hart: int
 
 
 class ObjectDetails:
@@ -310,7 +302,7 @@ class View:
             obj.name = self.naming.object_name(obj.key, obj.example)
             if isinstance(obj.key, SymbolKey):
                 place = self.stack_places.get(obj.key.addr)
-                obj.note = self.stack_note(place) if place else ""
+                obj.note = place.note(self.naming.memory) if place else ""
         self.rank_objects()
         if self.blame:
             name_by_instructions(self.objects, self.blame, self.naming)
@@ -338,9 +330,6 @@ class View:
         """Puts the objects in the order of the numbers that their rows show."""
         self.objects.sort(key=DataObject.rank)
         self.foreign_keys = {it.key for it in self.objects if is_foreign(it, self.naming)}
-
-    def stack_note(self, place: StackPlace) -> str:
-        return f" (in {place.function}, on the stack of {self.naming.memory.owner(place.hart)})"
 
     def chosen_objects(self) -> list[DataObject]:
         """The objects that the call wants to see."""
@@ -602,22 +591,3 @@ class View:
             place = self.naming.own_place(self.naming.own_sites(obj.example.sites)[0].addr)
             return (place.file, place.line) if place else None
         return None
-
-
-def stack_memory(
-    call: Call, predator: Predator | None, native: "NativeProgram | None" = None
-) -> Memory:
-    """Where the stacks of a program lie: of one of this machine by its table back, and of a guest under the settings of the call."""
-    if native is not None:
-        from view.names.native import NativeMemory
-
-        return NativeMemory(native)
-    if call.program is None or predator is None:
-        return Memory()
-    words = call.settings_words()
-    own = [
-        word
-        for at, word in enumerate(words)
-        if not (word.startswith("--schedule") or at and words[at - 1] == "--schedule")
-    ]
-    return Memory(stack_range(predator, call.program, own), setting_value(own, "harts"))
