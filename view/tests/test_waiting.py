@@ -88,7 +88,9 @@ class Last(unittest.TestCase):
         )
 
     def test_the_kit_has_its_ends(self):
-        with open(os.path.join(TOP, "guest", "pthread.c"), encoding="utf-8") as file:
+        with open(
+            os.path.join(TOP, "guest", "pthread", "pthread_create.c"), encoding="utf-8"
+        ) as file:
             self.assertIn(f"{END_FUNCTIONS[0]}(run(argument))", file.read())
 
     @unittest.skipIf(LACKS, f"{' '.join(LACKS)} missing")
