@@ -236,20 +236,20 @@ def note_stack_variables(view: View, predator: Predator | None) -> None:
 
     search = functools.partial(find_stack_variables, view, predator)
     found: list[StackVariable] = value_or_default(search, [])
-    for it in found:
+    for own in found:
         if isinstance(program, NativeProgram):
             if program.own is not None:
-                program.stack_variables[it.addr] = NativeVariable(it.die, program.own)
+                program.stack_variables[own.addr] = NativeVariable(own.die, program.own)
         else:
-            program.variable(it.addr)
-            program.variables[it.addr] = Variable(it.die)
-        view.stack_places[it.addr] = StackPlace(it.function, it.hart)
+            program.variable(own.addr)
+            program.variables[own.addr] = Variable(own.die)
+        view.stack_places[own.addr] = StackPlace(own.function, own.hart)
     reports = [it for it in (view.report, view.every_line) if it]
     ranges: list[tuple[LineRows, int, int]] = [
         (line, line.base, line.size) for report in dict.fromkeys(reports) for line in report.lines
     ]
     ranges += [(line, line.base, view.report.size) for line in view.misses.lines.values()]
     for line, base, size in ranges:
-        for it in found:
-            if it.is_on(base, size):
-                line.object_rows += f"object symbol {it.name} {it.addr:#010x} {it.size}\n"
+        for own in found:
+            if own.is_on(base, size):
+                line.object_rows += f"object symbol {own.name} {own.addr:#010x} {own.size}\n"
