@@ -9,6 +9,7 @@ calls, or `sweep`, which reads a trace and notes no block. The least processor t
 difference for each call, and that of the most memory. In a guest it covers the heap and the table of objects,
 and in a replay the table alone. A benchmark, no test."""
 
+import argparse
 import os
 import struct
 import subprocess
@@ -164,4 +165,8 @@ def main(program: str) -> None:
 
 
 if __name__ == "__main__":
-    main(os.path.abspath(sys.argv[1]) if len(sys.argv) > 1 else aims.BUILT)
+    parser = argparse.ArgumentParser(
+        description=__doc__, formatter_class=argparse.RawDescriptionHelpFormatter
+    )
+    parser.add_argument("program", nargs="?", default=aims.BUILT, metavar="PROGRAM")
+    main(os.path.abspath(parser.parse_args().program))

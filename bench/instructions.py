@@ -7,6 +7,7 @@ Each figure is the difference of two calls of unlike length, so neither the star
 machine counts. Reading alone is a call of `place` for an object that the trace hasn't: it goes over all records
 and notes none. tools/growth.py counts, by perf or valgrind. A benchmark, no test."""
 
+import argparse
 import os
 import subprocess
 import sys
@@ -114,4 +115,8 @@ def main(program: str) -> None:
 
 
 if __name__ == "__main__":
-    main(os.path.abspath(sys.argv[1]) if len(sys.argv) > 1 else aims.BUILT)
+    parser = argparse.ArgumentParser(
+        description=__doc__, formatter_class=argparse.RawDescriptionHelpFormatter
+    )
+    parser.add_argument("program", nargs="?", default=aims.BUILT, metavar="PROGRAM")
+    main(os.path.abspath(parser.parse_args().program))
