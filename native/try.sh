@@ -45,7 +45,7 @@ expect_between "longest turn" 50 300 "$("$judge" turns t)"
 "$run" --trace t -- ./apart >/dev/null 2>&1
 expect_equal "apart: nothing is taken" 0 "$("$judge" taken t counters)"
 
-# The table back leads to where the program has its variable: its file's address, and where the file was mapped.
+# The address map leads to where the program has its variable: its file's address, and where the file was mapped.
 back() { # NAME TRACE PROGRAM
     local place was bias in_file
     place=$("$judge" place "$2" counters)
@@ -55,8 +55,8 @@ back() { # NAME TRACE PROGRAM
     expect_equal "$1" "$(printf '%s was 0x%x' "$place" $((bias + 0x$in_file)))" "$was"
 }
 "$run" --quantum 1000 --trace t -- ./counters >/dev/null 2>&1
-back "the table back" t counters
-expect_part "the table back: no such page" "is no address of the trace" "$("$here/../tools/to_trace.py" --back t.table 0x00000010)"
+back "the address map" t counters
+expect_part "the address map: no such page" "is no address of the trace" "$("$here/../tools/to_trace.py" --back t.table 0x00000010)"
 
 # The same bytes on every run.
 for name in counters kinds; do

@@ -98,7 +98,7 @@ def prediction_row(name, runs):
 def main():
     names, renews = parse_studies(__doc__, STUDIES)
     subprocess.run([os.path.join(HERE, "build.sh"), *names], check=True)
-    runs, costs, fights, parts, wrong = {}, [], [], {}, []
+    runs, costs, conflicts, parts, wrong = {}, [], [], {}, []
     for study in names:
         for name in STUDIES[study]:
             path = os.path.join(OUT, f"{name}.elf")
@@ -115,7 +115,7 @@ def main():
                 [name, run.report.steps, *counts, *build.total, lines, run.excerpt_title()]
             )
             if build.pair and name == STUDIES[study][0]:
-                fights.append([name, f"`{address_text(build.base)}`", build.count, *build.pair])
+                conflicts.append([name, f"`{address_text(build.base)}`", build.count, *build.pair])
             wrong += [f"{name}: {it}" for it in run.wrong + build.wrong]
     heads = [
         "Build",
@@ -139,7 +139,7 @@ def main():
         "Times",
         "Same word",
     ]
-    parts["others' conflicts"] = markdown_table(heads, fights)
+    parts["others' conflicts"] = markdown_table(heads, conflicts)
     heads = [
         "Build",
         "Kind",

@@ -117,7 +117,7 @@ class MissLine:
 def main():
     studies = study_builds()
     names, renews = parse_studies(__doc__, studies)
-    costs, fights, wrong = [], [], []
+    costs, conflicts, wrong = [], [], []
     with tempfile.TemporaryDirectory() as work:
         # (with line tables; the instructions are those of the builds without)
         subprocess.run([os.path.join(TOP, "guest", "build.sh"), "studies", work], check=True)
@@ -125,7 +125,7 @@ def main():
             build = Build(os.path.join(work, f"{name}.elf"), SETTINGS.get(name.split("-")[0], ""))
             costs.append([name, *build.total])
             if build.pair:
-                fights.append([name, f"`{address_text(build.base)}`", build.count, *build.pair])
+                conflicts.append([name, f"`{address_text(build.base)}`", build.count, *build.pair])
             wrong += build.wrong
     heads = [
         "Build",
@@ -138,7 +138,7 @@ def main():
     ]
     parts = {
         "costs": markdown_table(["Build", "Cold", "True sharing", "False sharing"], costs),
-        "conflicts": markdown_table(heads, fights),
+        "conflicts": markdown_table(heads, conflicts),
     }
     for name, text in parts.items():
         print(f"\n== {name}\n\n{text}")

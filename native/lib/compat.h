@@ -136,7 +136,7 @@ const DebugInfo *predator_find_DebugInfo(DiEpoch, Addr);
 Bool mapping_of(Addr addr, Bool anew, Addr *from, Addr *to, const HChar **path);
 #define MAPPED_FILE(addr) NULL /* (each file that is mapped is found by its segments) */
 typedef struct InlIPCursor
-    InlIPCursor; /* (the lines of code, and what was inlined there, are found by the table back) */
+    InlIPCursor; /* (the lines of code, and what was inlined there, are found by the address map) */
 static inline InlIPCursor *predator_new_IIPC(DiEpoch now, Addr addr) { return NULL; }
 static inline Bool predator_next_IIPC(InlIPCursor *it) { return False; }
 static inline void predator_delete_IIPC(InlIPCursor *it) {}

@@ -3,7 +3,7 @@
    holds the turn, and every other one waits here, so that threads run one at a time and in an order
    that depends on nothing but the program.
 
-   The environment says what is done: PREDATOR_TRACE is the trace, PREDATOR_TABLE the table back,
+   The environment says what is done: PREDATOR_TRACE is the trace, PREDATOR_TABLE the address map,
    PREDATOR_QUANTUM the length of a turn, PREDATOR_ALL=1 records while one thread lives too,
    PREDATOR_PCS=1 records each access's instruction, PREDATOR_NEAR=K filters the trace by regions of
    2^K bytes (6 to 16), PREDATOR_MOST ends the trace after so many accesses, PREDATOR_MAX_BYTES

@@ -1,6 +1,6 @@
 /* Code that the program makes while it runs, as a JIT does. What is known of it stands in the file
    /tmp/perf-PID.map, where the program writes one for perf: a line `START SIZE NAME` for each
-   piece, the numbers in hexadecimal. The table back has a `frame` for each instruction in one. */
+   piece, the numbers in hexadecimal. The address map has a `frame` for each instruction in one. */
 #include "parts.h"
 
 #define LONGEST 4096 /* of a line; what is longer is cut */

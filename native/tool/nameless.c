@@ -1,5 +1,5 @@
 /* What lies where no object is: the stacks of threads, and files that are mapped and are no code.
- * The table back has a row for each. */
+ * The address map has a row for each. */
 #include "parts.h"
 
 /* What the C library keeps of a thread at the thread's own pointer, which is the top of its stack.

@@ -1,5 +1,5 @@
 /* What is written: the trace, version 1 of docs/FORMATS.md, with instructions version 3, or
-   filtered version 4; and the table back. */
+   filtered version 4; and the address map. */
 #include "parts.h"
 
 #define PIECE (1 << 20)

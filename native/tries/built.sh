@@ -13,7 +13,7 @@ for row in "1 79900 80000" "10 15900 16100" "100 1590 1620" "1000 155 170"; do
     expect_between "built: takings at $quantum" "$least" "$most" "$("$judge" taken t counters)"
 done
 expect_equal "built: a word's accesses" "10000 10000 1" "$("$judge" word t counters 4)"
-back "built: the table back" t counters.tsan
+back "built: the address map" t counters.tsan
 for it in 1 2 3; do said=$("$run" --built --trace same$it -- ./kinds.tsan 2>&1; echo $?); done
 expect_equal "built: kinds" "$right" "$said"
 if setarch -R true 2>/dev/null; then

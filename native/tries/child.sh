@@ -30,7 +30,7 @@ forked signal "child 13" "exit 13"
 forked kill "child -9" part
 forked "exec ./counters" "sum 80000 child 0" "exit 0"
 expect_equal "--child: what it becomes: a word's accesses" "10000 10000 1" "$("$judge" word o counters 4)"
-back "--child: what it becomes: the table back" o counters
+back "--child: what it becomes: the address map" o counters
 expect_equal "--child: what it becomes: the table's program" "program $PWD/counters" "$(sed -n '1s|/\./|/|p' o.table)"
 expect_equal "--child: a shell's program" "5 exit 0 10000 10000 1" \
     "$("$run" --child --trace o -- "$(type -P bash)" -c './counters >/dev/null; exit 5'; echo "$? $("$judge" end o) $("$judge" word o counters 4)")"

@@ -1,5 +1,5 @@
 # shellcheck shell=bash
-# Part of native/try.sh, which reads it: tries what the table back says of memory without an object, in both ways.
+# Part of native/try.sh, which reads it: tries what the address map says of memory without an object, in both ways.
 #
 # (try.sh sets the names that aren't set here)
 # shellcheck disable=SC2154

@@ -23,7 +23,7 @@ class StackPlace(NamedTuple):
 def stack_memory(
     call: Call, predator: Predator | None, native: "NativeProgram | None" = None
 ) -> Memory:
-    """Where the stacks of a program lie: of one of this machine by its table back, and of a guest under the settings of the call."""
+    """Where the stacks of a program lie: of one of this machine by its address map, and of a guest under the settings of the call."""
     if native is not None:
         from view.names.native import NativeMemory
 

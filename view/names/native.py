@@ -1,4 +1,4 @@
-"""The names of a program of this machine: by the table back that native/ writes with a trace. Each address of the trace is one of the
+"""The names of a program of this machine: by the address map that native/ writes with a trace. Each address of the trace is one of the
 program or of a library that it loaded, and their debug information says the rest. docs/FORMATS.md has the table."""
 
 import contextlib
@@ -34,7 +34,7 @@ DEBUG = "/usr/lib/debug/.build-id"
 # The type of a symbol of data (STT_OBJECT), in the low bits of its `st_info`.
 DATA_SYMBOL = 1
 
-# What follows `site` and `frame` in a table back; a file's name may have blanks.
+# What follows `site` and `frame` in an address map; a file's name may have blanks.
 SITE, FRAME = re.compile(r"(0x\S+) (0x\S+) (\S+) (-|.*?:\d+) .*"), re.compile(
     r"(0x\S+) (-|.*?:\d+) (.*)"
 )
@@ -550,7 +550,7 @@ def recorded_frames(site: Site) -> list[SourceLine]:
 
 
 def find_address_map(trace: str) -> str | None:
-    """The table back that stands beside a trace, or none."""
+    """The address map that stands beside a trace, or none."""
     path = f"{trace}.table"
     with contextlib.suppress(OSError), open(path, "rb") as file:
         if file.read(8) == b"program ":

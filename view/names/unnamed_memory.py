@@ -96,7 +96,7 @@ def join_same_names(objects: Sequence[DataObject]) -> dict[Key, DataObject]:
 
 
 def go_runtime_keys(objects: Iterable[DataObject], blame: Blame, naming: Naming) -> set[Key]:
-    """The memory of a program of Go that its runtime alone fights over."""
+    """The memory of a program of Go that its runtime alone contends for."""
     from_file = getattr(naming.program, "has_go_table", None)
     if from_file is None or not from_file():
         return set()

@@ -298,10 +298,10 @@ def sentences(view: View, obj: DataObject) -> str:
 
 def locations(view: View, obj: DataObject) -> list[Record]:
     """Where an object's sharing happens in the sources: the conflicting instructions, and else where it is declared or made."""
-    fight = view.details(obj).worst_conflict()
+    conflict = view.details(obj).worst_conflict()
     places = (
-        [view.naming.sources.place(at) for at in (fight.invalidator, fight.victim)]
-        if fight and view.naming.sources
+        [view.naming.sources.place(at) for at in (conflict.invalidator, conflict.victim)]
+        if conflict and view.naming.sources
         else []
     )
     found = [location(view, place.file, place.line) for place in dict.fromkeys(places) if place]

@@ -236,7 +236,7 @@ def in_code(text: str) -> list[str]:
 def object_values(view: View, obj: DataObject) -> Given:
     """One object as the template has it."""
     seen, drawn = view.details(obj), sorted(worth_drawing(view, obj), key=lambda one: one.base)
-    worst, fight = seen.worst(), seen.worst_conflict()
+    worst, conflict = seen.worst(), seen.worst_conflict()
     short = view.naming.names.shorten
     return {
         "name": short(view.label(obj) + obj.note),
@@ -244,10 +244,11 @@ def object_values(view: View, obj: DataObject) -> Given:
         "numbers": [f"{one:,}" for one in numbers_of(view, obj)],
         "beside": [short(view.label(view.objects_by_key[key])) for key in obj.neighbours],
         "worst": short(worst.field_name()) if worst else "",
-        "fight": [
-            short(view.naming.instruction_name(at)) for at in (fight.invalidator, fight.victim)
+        "conflict": [
+            short(view.naming.instruction_name(at))
+            for at in (conflict.invalidator, conflict.victim)
         ]
-        if fight
+        if conflict
         else [],
         "details": [(label, in_code(short(text))) for label, text in details(view, obj)],
         "rows": [row(view, one, seen, view.report.size) for one in drawn],

@@ -74,7 +74,7 @@ def is_brief(call: Call) -> bool:
 
 
 def can_blame(call: Call, predator: Predator) -> bool:
-    """Whether the trace says itself which instructions fight, and the program reads that."""
+    """Whether the trace says itself which instructions conflict, and the program reads that."""
     trace = call.trace_file()
     return bool(
         trace

@@ -126,7 +126,7 @@ class Guests(Traces):
                 wanted = sorted(
                     (int(pair[5]) - int(pair[3]), -int(pair[3]), pair[0], pair[1]) for pair in pairs
                 )[:8]
-                fights = [
+                counted = [
                     (
                         conflict["same_word"] - conflict["invalidations"],
                         -conflict["invalidations"],
@@ -134,7 +134,7 @@ class Guests(Traces):
                     )
                     for conflict in obj["conflicts"]
                 ]
-                self.assertEqual(sorted(fights), wanted, (name, obj["name"]))
+                self.assertEqual(sorted(counted), wanted, (name, obj["name"]))
                 harts = [
                     f"from {pair['victim']} to {pair['invalidator']} taken {pair['invalidations']}"
                     for pair in obj["harts"]

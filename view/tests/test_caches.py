@@ -29,7 +29,7 @@ from traces import Symbol  # noqa: E402
 TEXT = "caches 64 1 1\naccesses 9\nlines {0}\n{1}total bounded {2} unbounded {3} evicted 0\nend\n"
 
 
-def fight(addr, times=10):
+def contend(addr, times=10):
     """Two harts that write words of a line in turn."""
     return [Access(hart, True, addr + 4 * hart, 4) for _ in range(times) for hart in range(2)]
 
@@ -53,7 +53,7 @@ class CachesOfShapes(unittest.TestCase):
         work = tempfile.TemporaryDirectory()
         self.addCleanup(work.cleanup)
         self.trace, self.html = os.path.join(work.name, "<i>t"), os.path.join(work.name, "h")
-        accesses = fight(0x1000, 20) + lost(0x2000, 0x3000)
+        accesses = contend(0x1000, 20) + lost(0x2000, 0x3000)
         self.write(
             accesses, [(0, Symbol(1, 0x1000, 8, b"<b>&mine")), (0, Symbol(1, 0x2000, 8, b"lost"))]
         )
@@ -189,7 +189,7 @@ class CachesOfShapes(unittest.TestCase):
             self.assertNotIn("<svg", text)
 
     def test_lines_that_are_too_many(self):
-        self.write([it for at in range(50) for it in fight(0x10000 + 64 * at, 1 + at)])
+        self.write([it for at in range(50) for it in contend(0x10000 + 64 * at, 1 + at)])
         text = self.call("--html", "-", "--shape", "64x64x8")[1]
         self.assertEqual(text.count("<svg"), LINES + 1)
         self.assertIn("10 more lines aren't drawn: --top 50 draws all", text.replace("&#39;", "'"))

@@ -14,7 +14,7 @@ from judge_report import Access, Case, Ending, trace_bytes  # noqa: E402
 from traces import OBJECT, Alloc, Free, Symbol  # noqa: E402
 
 
-def fight(*words, turns=120):
+def contend(*words, turns=120):
     """Each hart writes a word of its own in turn."""
     return [Access(hart, True, addr, 4) for _ in range(turns) for hart, addr in enumerate(words)]
 
@@ -52,7 +52,7 @@ class Places(unittest.TestCase):
         return [re.split(r" \d+ [\d,]+ \d+ | \d+ predicted", it)[0] for it in fixes][:shows]
 
     def test_apart_by_harts(self):
-        (fix,) = self.todo(fight(0x1000, 0x1004), named(b"queue", 0x1000, 8))
+        (fix,) = self.todo(contend(0x1000, 0x1004), named(b"queue", 0x1000, 8))
         self.assertIn(
             "saves up to 238 of 238 misses; grouped by thread (queue (hart 0); queue+4 (hart 1)), invalidations ",
             fix,
@@ -60,12 +60,12 @@ class Places(unittest.TestCase):
         self.assertIn("), invalidations 239 → 0 (place)", fix)
 
     def test_words_of_many_harts(self):
-        (fix,) = self.todo(fight(0x1000, 0x1000), named(b"lock", 0x1000, 4))
+        (fix,) = self.todo(contend(0x1000, 0x1000), named(b"lock", 0x1000, 4))
         # (one word has no other place)
         self.assertIn("none: all its misses are true sharing", fix)
         self.assertNotIn("(place)", fix)
         (fix,) = self.todo(
-            [*fight(0x1000, 0x1004), *fight(0x1008, 0x1008)], named(b"both", 0x1000, 12)
+            [*contend(0x1000, 0x1004), *contend(0x1008, 0x1008)], named(b"both", 0x1000, 12)
         )
         self.assertIn(
             "(both (hart 0); both+4 (hart 1); both+8 (several threads)), invalidations 479 → 239 (place)",
@@ -74,7 +74,7 @@ class Places(unittest.TestCase):
 
     def test_lines_of_another_size(self):
         (fix,) = self.todo(
-            fight(0x1000, 0x1044), named(b"wide", 0x1000, 72), options=("--size", "128")
+            contend(0x1000, 0x1044), named(b"wide", 0x1000, 72), options=("--size", "128")
         )
         self.assertIn(
             "(wide (hart 0); wide+68 (hart 1)), invalidations 239 → 0 (place)",
@@ -87,10 +87,10 @@ class Places(unittest.TestCase):
             (b"two words\\", "two\\x20words\\x5c"),
             (b"\xc3\xa9\x1b[31m", "\\xc3\\xa9\\x1b[31m"),
         ):
-            (fix,) = self.todo(fight(0x1000, 0x1004), named(name, 0x1000, 8))
+            (fix,) = self.todo(contend(0x1000, 0x1004), named(name, 0x1000, 8))
             self.assertIn(f"({printed} (hart 0); {printed}+4 (hart 1)), invalidations ", fix)
         # (no word of a call may be so)
-        (fix,) = self.todo(fight(0x1000, 0x1004), named(b"\xff", 0x1000, 8))
+        (fix,) = self.todo(contend(0x1000, 0x1004), named(b"\xff", 0x1000, 8))
         self.assertNotIn("(place)", fix)
 
     def test_too_large_and_no_room(self):
@@ -98,7 +98,7 @@ class Places(unittest.TestCase):
             (named(b"table", 0x1000, 2**24 + 4), (0x1000, 0x1004)),
             (named(b"last", 0xFFFFFFC0, 64), (0xFFFFFFC0, 0xFFFFFFFC)),
         ):
-            (fix,) = self.todo(fight(*words), symbol)
+            (fix,) = self.todo(contend(*words), symbol)
             self.assertRegex(
                 fix,
                 "^(give each thread|separate these groups|start) .*saves up to 238 of 238 misses( offset .*)?$",
@@ -106,7 +106,7 @@ class Places(unittest.TestCase):
 
     def test_the_first_of_one_name(self):
         first, second = self.todo(
-            [*fight(0x1000, 0x1004), *fight(0x2000, 0x2004, turns=90)],
+            [*contend(0x1000, 0x1004), *contend(0x2000, 0x2004, turns=90)],
             named(b"own", 0x1000, 8),
             named(b"own", 0x2000, 8),
             shows=2,
@@ -116,14 +116,14 @@ class Places(unittest.TestCase):
 
     def test_a_block_by_its_address(self):
         made = (0, Alloc(0x2000, 16, (0x104, 0, 0, 0)))
-        (fix,) = self.todo(fight(0x2000, 0x2004), made)
+        (fix,) = self.todo(contend(0x2000, 0x2004), made)
         self.assertIn(
             "; grouped by thread (+0 (hart 0); +4 (hart 1)), invalidations 239 → 0 (place)",
             fix,
         )
         # (of several that were made there none is meant)
         earlier = [(0, Alloc(0x2000, 16, (0x200, 0, 0, 0))), (0, Free(0x2000))]
-        (fix,) = self.todo(fight(0x2000, 0x2004), *earlier, made)
+        (fix,) = self.todo(contend(0x2000, 0x2004), *earlier, made)
         self.assertNotIn("(place)", fix)
 
 
@@ -132,7 +132,7 @@ class PlacesOfTheProgram(Places):
     program = PROGRAM
 
     def test_the_largest(self):
-        (fix,) = self.todo(fight(0x1000, 0x1004), named(b"table", 0x1000, 2**24))
+        (fix,) = self.todo(contend(0x1000, 0x1004), named(b"table", 0x1000, 2**24))
         self.assertIn("), invalidations 239 → 0 (place)", fix)
 
 

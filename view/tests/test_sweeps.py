@@ -142,7 +142,7 @@ class Sweeps(unittest.TestCase):
         )
 
     def test_the_object_whose_border_makes_the_peak(self):
-        # (`far` fights with itself under any shift, and the words of `near` meet under the shift 4 alone)
+        # (`far` is contended under any shift, and the words of `near` meet under the shift 4 alone)
         self.write(
             in_turn(0x1004, 0x1008) + in_turn(0x2000, 0x2000),
             [("<b>near", 0x1000, 12), ("far", 0x2000, 4), ("next&", 0x100C, 4)],

@@ -1,4 +1,4 @@
-"""What has no name of its own: by which instructions it is named, and what Go's runtime alone fights over."""
+"""What has no name of its own: by which instructions it is named, and what Go's runtime alone contends for."""
 
 import os
 import sys
