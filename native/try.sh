@@ -325,7 +325,7 @@ for it in odd cut; do
 done
 
 # Through the pipe, without a file: here to what stands for `predator` and keeps what it reads, counts it, or goes away.
-printf '#!/bin/sh\n[ $# -gt 0 ] || exit 1\n[ "$1 $2" = "replay -" ] || exit 9\ncat >"$KEPT"\necho read\n' >keeps
+printf '#!/bin/sh\n[ $# -gt 0 ] || exit 1\n[ "$1 $2" = "replay -" ] || exit 9\nhead -c 2000000000 >"$KEPT"\necho read\n' >keeps
 printf '#!/bin/sh\n[ $# -gt 0 ] || exit 1\nwc -c\n' >counts
 printf '#!/bin/sh\n[ $# -gt 0 ] || exit 1\nhead -c 100000 >/dev/null\nkill -9 $$\n' >dies
 printf '#!/bin/sh\n[ $# -gt 0 ] || exit 1\necho refused\nexit 4\n' >refuses
