@@ -45,7 +45,15 @@ ALLOCATORS = {
         "strdup",
         "strndup",
     ),
-    *("predator_alloc", "mmap", "sbrk", "_Znwj", "_Znaj", "_Znwm", "_Znam", "operator"),
+    *("predator_alloc", "mmap", "sbrk", "operator"),
+    # (`new` of objects and arrays, for 32 and 64 bits, with an alignment, without exceptions)
+    *(
+        f"_Zn{what}{size}{alignment}{nothrow}"
+        for what in "wa"
+        for size in "jm"
+        for alignment in ("", "St11align_val_t")
+        for nothrow in ("", "RKSt9nothrow_t")
+    ),
 }
 # The function of the kit that notes what each hart has for itself.
 THREAD_LOCALS = "thread_locals"
@@ -97,10 +105,12 @@ LANGUAGE_LIBRARIES = (
     "libgcc_s.so.",
 )
 GO_RUNTIME = re.compile(r"(?:runtime|(?:runtime/)?internal/[\w/]+)\.")
-# Sources of the kit for guests.
 # So many lines of the program are named that call a function of the kit.
 MAX_CALLERS = 3
-KIT = re.compile(r"(?:^|/)guest/(?:(?:calls|library|pthread)\.c|start\.S|(?:pthread|clib)/[^/]*)$")
+# Sources of the kit for guests.
+KIT = re.compile(
+    r"(?:^|/)guest/(?:(?:calls|library|pthread)\.c|start\.S|(?:pthread|clib|cxx)/[^/]*)$"
+)
 # What Rust's compiler puts behind a function's name.
 RUST_HASH = re.compile(r"::h[0-9a-f]{16}$")
 # Sources of the C library's allocator.
@@ -372,9 +382,9 @@ class Naming:
         return [it for it in own if not self.is_beginning(it)] or own[:1]
 
     def is_in_headers(self, site: Site) -> bool:
-        """Whether all functions at a call site are of a language's library that the program was compiled with."""
+        """Whether all functions at a call site are of the kit, or of a language's library that the program was compiled with."""
         files = [it.file for it in self.sources.frames(site.addr)] if self.sources else []
-        return bool(files) and all(LIBRARIES.search(it) for it in files)
+        return bool(files) and all(LIBRARIES.search(it) or KIT.search(it) for it in files)
 
     def site_functions(self, sites: Sequence[Site]) -> list[str]:
         """The call sites by functions alone, which other builds of the program have too."""

@@ -18,6 +18,8 @@ from view.names.callers import calls_in
 from view.reading.calls import HELP
 
 KNOWN = os.path.join(os.path.dirname(FOLLOWED), "known")
+# LLVM's headers of the standard library, of the versions that the kit takes.
+HEADERS = [f"/usr/lib/llvm-{version}/include/c++/v1" for version in (14, 15, 16)]
 RECORDER = os.path.join(TOP, "native", "out", "predator-amd64-linux")
 
 
@@ -76,6 +78,17 @@ class OfGuests(test_followed.Following):
         self.assertIn(f"join sent and lost to one array of 4 elements of {wrapper}, alloc", fix)
         self.assertIn("each thread writes its own element: hart 1: [0]", found["screen"])
         self.assertLess(sum(first["tried"]["after"][it] for it in test_followed.MISSES), 40)
+
+    @unittest.skipUnless(any(map(os.path.isdir, HEADERS)), "libc++-14-dev isn't installed")
+    def test_a_block_of_an_aligned_type(self):
+        """Its site is the program's line, and not the kit's `new`; its type names the words."""
+        shutil.copy(os.path.join(KNOWN, "wide.cpp"), self.folder)
+        build = os.path.join(TOP, "guest", "build.sh")
+        subprocess.run([build, "wide.elf", "wide.cpp"], cwd=self.folder, check=True)
+        found = self.look("wide.elf")
+        self.assertEqual(found["objects"][0]["name"], "block made at wide.cpp:11 < main")
+        self.assertIn("block made at wide.cpp:11 < main: Wide", found["screen"])
+        self.assertIn("hart 1: .hits (2,000 writes); hart 2: .misses", found["screen"])
 
     def known(self, name):
         with open(os.path.join(KNOWN, f"{name}.c"), encoding="utf-8") as file:
