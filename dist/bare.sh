@@ -16,7 +16,7 @@ command -v mmdebstrap >/dev/null || skip "mmdebstrap isn't installed"
 work=$(mktemp -d)
 system=${1:-$work/system}
 bare=$system
-trap 'umount "$bare/proc" "$bare/dev/shm" 2>/dev/null; rm -rf --one-file-system "$work"' EXIT
+trap 'umount "$bare/proc" "$bare/dev/pts" "$bare/dev/shm" 2>/dev/null; rm -rf --one-file-system "$work"' EXIT
 passed=0 failed=0 is_root=
 "$top/bin/release" "$work/packages" >/dev/null || skip "there is no package to try"
 
@@ -48,8 +48,9 @@ try() {
 }
 
 [ -d "$system/usr" ] || make "$system" bookworm
-mkdir -p "$system/dev/shm"
-mount -t proc proc "$system/proc" 2>/dev/null && mount -t tmpfs shm "$system/dev/shm" || skip "/proc and /dev/shm can't be mounted"
+mkdir -p "$system/dev/pts" "$system/dev/shm"
+mount -t proc proc "$system/proc" 2>/dev/null && mount --bind /dev/pts "$system/dev/pts" && mount -t tmpfs shm "$system/dev/shm" ||
+    skip "/proc, /dev/pts and /dev/shm can't be mounted"
 cp "$work/packages/"*.deb "$system/root/predator.deb"
 {
     inside timeout 100 apt-get update
