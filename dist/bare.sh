@@ -51,6 +51,8 @@ try() {
 mkdir -p "$system/dev/pts" "$system/dev/shm"
 mount -t proc proc "$system/proc" 2>/dev/null && mount --bind /dev/pts "$system/dev/pts" && mount -t tmpfs shm "$system/dev/shm" ||
     skip "/proc, /dev/pts and /dev/shm can't be mounted"
+# (as an installer writes it; Slurm looks its own machine up)
+echo "127.0.0.1 localhost $(hostname)" >"$system/etc/hosts"
 cp "$work/packages/"*.deb "$system/root/predator.deb"
 {
     inside timeout 100 apt-get update
