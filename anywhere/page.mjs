@@ -343,6 +343,7 @@ function showLines(report, misses, blame) {
   part("lines").append(element("h3", "", drawn.length ? "Lines by invalidations, a cell for each word of 4 bytes" : "No line reaches the report's threshold"));
   if (drawn.length) part("lines").append(element("p", "soft", "Each cell has the number of the only thread (hart) that uses the word, or “many”, and the word's writes (w) and reads (r)."));
   if (blame) part("lines").append(element("p", "soft", "inval: invalidations by a pair of instructions; same word: those of them where both access the same word."));
+  if (drawn.length && misses?.whole > misses?.accesses) part("lines").append(element("p", "soft", "The trace is filtered: each line's invalidations and verdict, and its words' writes and reads, are those of the recorded accesses alone. Misses are those of all."));
   for (const line of drawn) drawLine(line, misses, blame);
   const more = report.lines.length - drawn.length;
   if (more > 0) part("lines").append(element("p", "soft", `and ${counted(more, "line")} more in the text; ${shown(predicted.length)} of all ${shown(report.lines.length)} are predicted`));

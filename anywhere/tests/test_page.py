@@ -139,9 +139,10 @@ class Page(unittest.TestCase):
         self.assertIn(f"{whole:,} accesses ({kept:,} recorded)", self.text_of("summary"))
         rate = f"{1000 * 4000 / whole:.2f} false per 1,000 accesses"
         self.assertIn(rate, self.text_of("summary"))
+        self.assertIn("are those of the recorded accesses alone", self.text_of("lines"))
         self.browser.choose_file(self.path("pcs.trace"))
         self.browser.wait_for("texts.misses && !current.isCounting")
-        self.assertNotIn("recorded", self.text_of("summary"))
+        self.assertNotIn("recorded", self.text_of("summary") + self.text_of("lines"))
 
     def rows_of(self, selector: str) -> list[list[str]]:
         """The cells of the rows of a table."""
