@@ -46,7 +46,7 @@ use Rattle.detector.specs.Amounts.{HasHalfDoubled, IsSmallUnpredicted, doubled_c
 use Rattle.detector.specs.Amounts.{is_of, kind_count, observed_count, shifted_count, word_count}
 use Rattle.detector.specs.Standing.{StandsFor}
 use Rattle.detector.specs.Watch.{Watch}
-use Rattle.detector.proofs.ToldLaws.{under}
+use Rattle.detector.proofs.StatedLaws.{under}
 
 sum_mapped : {X Y : Type 0} (f : Y → ℕ) (g : X → Y) (xs : List X) → sum_by f (map g xs)
     ≡ sum_by (λ x. f (g x)) xs

@@ -5,7 +5,7 @@
 ghost use Rattle.std.specs.Prelude.{◌≡◌, ◌≢◌, ◌≤◌, ◌↔◌, IfOk, OnOk, Some, false, length};
 ghost use Rattle.std.specs.Io.{ReadsAtMost};
 ghost use Rattle.std.specs.IoError.{error_kind};
-ghost use Rattle.shelf.specs.Shelf.{content, Told, HasCauseAt, OnlyReads, Reads, given_after};
+ghost use Rattle.shelf.specs.Shelf.{content, Known, HasCauseAt, OnlyReads, Reads, given_after};
 ghost use Rattle.disk_shelf.specs.Disk.{has_other_name};
 
 use crate::known_files::{FileId, KnownFiles};
@@ -391,7 +391,7 @@ impl<R: Files + Print + Eprint + Clock + AllocGlobal, K: Contents> Shelf for Dis
 
     fn read_at(&mut self, name: &str, at: u64, into: &mut [u8]) -> Result<usize, ShelfError>
         ensures bound { ReadsAtMost result into.new }
-        ensures bytes { IfOk result (λ n. Told (disk_outside K.files self.new).held
+        ensures bytes { IfOk result (λ n. Known (disk_outside K.files self.new).held
             (λ files. Reads (content files name.now) at n into.new)) }
         ensures given { (disk_outside K.files self.new).given ≡ given_after result name.now at
             into.new (disk_outside K.files self.old).given }
@@ -400,7 +400,7 @@ impl<R: Files + Print + Eprint + Clock + AllocGlobal, K: Contents> Shelf for Dis
         ensures only { OnlyReads (disk_outside K.files self.old) (disk_outside K.files self.new) }
 
         // Beyond the trait's: what is told stays told where what was read is of it.
-        ensures stays { Told (disk_outside K.files self.old).held
+        ensures stays { Known (disk_outside K.files self.old).held
             (λ files. IfOk result (λ n. Reads (content files name.now) at n into.new)
             → (disk_outside K.files self.new).held ≡ Some files) }
     {

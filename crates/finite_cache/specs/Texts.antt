@@ -13,8 +13,8 @@ use Rattle.finite_cache.specs.declared.rows.CacheRow.{CacheRow}
 use Rattle.finite_cache.specs.declared.rows.Totals.{Totals}
 
 -- a line that is taken from a hart in unbounded caches
-abbrev pub is_told : CacheRow → Bool
-is_told x = nat_lt 0 x.unbounded
+abbrev pub is_reported : CacheRow → Bool
+is_reported x = nat_lt 0 x.unbounded
 
 -- unbounded falling, then base rising
 abbrev pub comes_first : CacheRow → CacheRow → Bool
@@ -23,8 +23,8 @@ comes_first x y =
     || ((x.unbounded == y.unbounded) && int_lt x.range.base y.range.base)
 
 -- the rows that are told, in order
-abbrev pub told_rows : List CacheRow → List CacheRow
-told_rows rows = in_order comes_first (filter is_told rows)
+abbrev pub reported_rows : List CacheRow → List CacheRow
+reported_rows rows = in_order comes_first (filter is_reported rows)
 
 abbrev pub count_words : ℕ → ℕ → ℕ → List (List ℕ)
 count_words bounded unbounded evicted =
@@ -56,4 +56,4 @@ lines_of_caches k accesses rows total =
 -- the text of a list of accesses, under a shape
 unfoldable pub caches_text : CacheShape → AccessList → List ℕ
 caches_text k t =
-    text_of (lines_of_caches k (length t) (told_rows (rows_of k t)) (totals_of k t))
+    text_of (lines_of_caches k (length t) (reported_rows (rows_of k t)) (totals_of k t))

@@ -14,5 +14,5 @@ pub record IsGood (g : Inside) : Type 0 where
   pub fits : Fits g.setup.harts (config_of g.config)
   pub accesses : g.config.accesses ≤ g.config.steps
   pub steps : g.config.steps ≤ g.setup.budget
-  pub told : IfSome g.ending (λ e. (e.steps ≡ g.config.steps) × (e.accesses ≡ g.config.accesses))
+  pub stated : IfSome g.ending (λ e. (e.steps ≡ g.config.steps) × (e.accesses ≡ g.config.accesses))
   pub end : IfSome g.ending (λ e. IsEndOf g.setup.harts e.outcome)

@@ -95,7 +95,7 @@ fn refuse_all(rt: &impl Abort, memory: &mut Memory) {
 }
 
 #[test]
-fn the_first_fault_is_told(rt: HostRuntime) -> Result<(), Fail> {
+fn the_first_fault_is_reported(rt: HostRuntime) -> Result<(), Fail> {
     let mut memory = two_pages(rt.alloc())?;
     refuse_all(&rt, &mut memory);
     Ok(())

@@ -18,4 +18,4 @@ group_of eq key xs k = filter (λ x. eq k (key x)) xs
 -- what is told of each group, by its key, in the order in which the keys came
 abbrev pub groups : {K X V : Type 0} → (K → K → Bool) → (X → K) → (List X → V) → List X
     → List (K × V)
-groups eq key told xs = map (λ k. (k, told (group_of eq key xs k))) (keys_once eq (map key xs))
+groups eq key stated xs = map (λ k. (k, stated (group_of eq key xs k))) (keys_once eq (map key xs))

@@ -128,7 +128,7 @@ fn watch_all(
 
 // Runs a guest to its end, and tells what is noted of it. (It owns neither: a function that owns
 // both and may fail twice takes minutes to prove.)
-fn tell(
+fn watch_to_end(
     alloc: Global,
     guest: &mut Guest,
     explainer: &mut Explainer,
@@ -165,5 +165,5 @@ pub fn explain_run(
         (sited_run (rest_of guest))) }
 {
     let mut explainer = Explainer::new(alloc, line, start);
-    tell(alloc, &mut guest, &mut explainer, objects)
+    watch_to_end(alloc, &mut guest, &mut explainer, objects)
 }

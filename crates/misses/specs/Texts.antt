@@ -20,8 +20,8 @@ use Rattle.trace_format.specs.declared.record.TraceRecord.{TraceRecord}
 use Rattle.trace_passes.specs.Lives.{objects_of}
 
 -- a line that misses beyond its cold ones
-abbrev pub is_told : Row → Bool
-is_told x = nat_lt 0 x.costs.useful || nat_lt 0 x.costs.useless
+abbrev pub is_reported : Row → Bool
+is_reported x = nat_lt 0 x.costs.useful || nat_lt 0 x.costs.useless
 
 -- useless falling, then useful falling, then base rising
 abbrev pub wastes_more : Row → Row → Bool
@@ -33,8 +33,8 @@ wastes_more x y =
     && int_lt (range_of x.line).base (range_of y.line).base)))
 
 -- the lines that are told, in order
-abbrev pub told_rows : List Row → List Row
-told_rows rows = in_order wastes_more (filter is_told rows)
+abbrev pub reported_rows : List Row → List Row
+reported_rows rows = in_order wastes_more (filter is_reported rows)
 
 abbrev pub cost_words : Costs → TextLine
 cost_words c =
@@ -73,5 +73,5 @@ misses_lines g accesses whole objects rows total =
 unfoldable pub misses_of_records : Grid → Option ℕ → List TraceRecord → List ℕ
 misses_of_records g whole items =
     let t = touches_in items in
-    text_of (misses_lines g (length t) whole (objects_of items) (told_rows (rows_of g t))
+    text_of (misses_lines g (length t) whole (objects_of items) (reported_rows (rows_of g t))
     (all_costs g t))

@@ -6,8 +6,8 @@ ghost use Rattle.base.specs.TextLines.{text_of};
 ghost use Rattle.misses.specs.Rows.{row_of};
 ghost use Rattle.report.specs.Added.{AddsLine, AddsLines, AddsText};
 ghost use Rattle.report.specs.Lines.{rest_of_line};
-ghost use Rattle.misses.specs.Texts.{cost_words, is_told, miss_ends, miss_heads};
-ghost use Rattle.misses.specs.Texts.{miss_line, miss_lines, misses_lines, told_rows};
+ghost use Rattle.misses.specs.Texts.{cost_words, is_reported, miss_ends, miss_heads};
+ghost use Rattle.misses.specs.Texts.{miss_line, miss_lines, misses_lines, reported_rows};
 ghost use Rattle.misses.specs.Texts.{total_line, wastes_more};
 
 use crate::all_lines::{Misses, Row};
@@ -32,9 +32,9 @@ fn order(one: &Row, other: &Row) -> Ordering
 }
 
 // Puts a line behind the others, if it is told.
-fn push_told(rows: &mut Vec<Row>, row: Option<Row>) -> Result<(), NoMemory>
+fn push_reported(rows: &mut Vec<Row>, row: Option<Row>) -> Result<(), NoMemory>
     ensures { OnOk result (rows.new.items ≡ rows.old.items
-        ++ filter is_told (option_to_list row)) }
+        ++ filter is_reported (option_to_list row)) }
 {
     if let Some(row) = row {
         if row.costs.useful > 0 || row.costs.useless > 0 {
@@ -47,11 +47,11 @@ fn push_told(rows: &mut Vec<Row>, row: Option<Row>) -> Result<(), NoMemory>
 // The lines that are told, in the order of their first accesses.
 fn unsorted(alloc: Global, misses: &Misses) -> Result<Vec<Row>, NoMemory>
     ensures { IfOk result (λ rows. rows.items
-        ≡ filter is_told (map (row_of misses.now.grid) misses.now.lines)) }
+        ≡ filter is_reported (map (row_of misses.now.grid) misses.now.lines)) }
 {
     let mut rows = Vec::new(alloc);
     for i in 0..misses.line_count() {
-        push_told(&mut rows, misses.row(i))?;
+        push_reported(&mut rows, misses.row(i))?;
     }
     Ok(rows)
 }
@@ -59,7 +59,7 @@ fn unsorted(alloc: Global, misses: &Misses) -> Result<Vec<Row>, NoMemory>
 // The lines that are told, in their order.
 fn sorted(alloc: Global, misses: &Misses) -> Result<Vec<Row>, NoMemory>
     ensures { IfOk result (λ rows. rows.items
-        ≡ told_rows (map (row_of misses.now.grid) misses.now.lines)) }
+        ≡ reported_rows (map (row_of misses.now.grid) misses.now.lines)) }
 {
     let mut rows = unsorted(alloc, misses)?;
     rows.sort_by(order)?;
@@ -193,7 +193,7 @@ pub fn write_misses(
 ) -> Result<Vec<u8>, NoMemory>
     ensures { IfOk result (λ text. text.items ≡ text_of
         (misses_lines misses.now.grid misses.now.position whole objects.now
-        (told_rows (map (row_of misses.now.grid) misses.now.lines)) total)) }
+        (reported_rows (map (row_of misses.now.grid) misses.now.lines)) total)) }
 {
     let rows = sorted(alloc, misses)?;
     let index = ObjectIndex::new(alloc, objects)?;

@@ -40,8 +40,8 @@ fn symbol_of(name: &[u8], item: &TraceRecord) -> Option<Extent>
             kind,
             addr,
             size,
-            name: told,
-        } if is_object(*kind) && told.bytes() == name => Some(Extent {
+            name: stated,
+        } if is_object(*kind) && stated.bytes() == name => Some(Extent {
             addr: *addr,
             size: *size,
         }),

@@ -5,7 +5,7 @@ use Rattle.command_line.specs.Run.{RunDemand}
 use Rattle.guest.specs.Runs.{Run}
 use Rattle.invalidations.specs.Watched.{sited_run}
 use Rattle.objects.specs.Symbols.{symbols_of}
-use Rattle.shelf.specs.Shelf.{Files, Outside, Told, content}
+use Rattle.shelf.specs.Shelf.{Files, Outside, Known, content}
 use Rattle.sharing_rules.specs.Lines.{line_at}
 use Rattle.trace_passes.specs.Lives.{symbols_in}
 use Rattle.invalidations.specs.Text.{explain_text}
@@ -49,4 +49,4 @@ explain_work demand files =
 pub record IsToExplain (demand : ExplainDemand) (symbols : List TraceRecord) (r : Run)
     (old now : Outside) : Type 0 where
   pub accepted : IsAccepted (explain_readings demand) old now
-  pub works : Told now.held (λ files. explain_work demand files ≡ explained demand symbols r)
+  pub works : Known now.held (λ files. explain_work demand files ≡ explained demand symbols r)

@@ -10,7 +10,7 @@ ghost use Rattle.predator_cli.specs.Answer.{HasNamesApart, outputs};
 ghost use Rattle.predator_cli.specs.Commands.{RepeatsReport, ReportIsRecounted};
 ghost use Rattle.predator_cli.specs.Commands.{StaysWithinBudget};
 ghost use Rattle.predator_cli.specs.Written.{OnlyAt, Writes};
-ghost use Rattle.shelf.specs.Shelf.{Files, Narrows, Told};
+ghost use Rattle.shelf.specs.Shelf.{Files, Narrows, Known};
 
 use crate::check::check;
 use crate::convert::convert;
@@ -125,7 +125,7 @@ pub fn predator<S: Shelf>(alloc: Global, words: &[String], shelf: &mut S) -> Sta
     // It ends as the words and the files ask, or by a fault of the outside before which nothing is
     // refused: for the files that are told still, so on a disk for all contents that agree with
     // what each read of the call gave.
-    ensures ends { Told (S.outside shelf.new).held
+    ensures ends { Known (S.outside shelf.new).held
         (λ files. EndsAs (demand_of (texts words.now)) files
         (S.outside shelf.old) (S.outside shelf.new) (kind_of result) result) }
     // Usage comes exactly where the words are refused, unless memory runs out.
@@ -172,7 +172,7 @@ pub fn predator<S: Shelf>(alloc: Global, words: &[String], shelf: &mut S) -> Sta
     // filtered list of the trace's; and under every layout with lines of at most 2^near bytes the
     // two lists have the misses and the invalidations of each line in common, those between each
     // two harts too.
-    ensures again { Told (S.outside shelf.new).held
+    ensures again { Known (S.outside shelf.new).held
         (λ files. WhereDone RepeatsReport (demand_of (texts words.now)) files (kind_of result)) }
     // A law of the definitions, which names neither the result nor the shelf: the run that is asked
     // for, by `run` or by `explain`, makes at most as many steps as its budget has.
@@ -191,7 +191,7 @@ pub fn predator<S: Shelf>(alloc: Global, words: &[String], shelf: &mut S) -> Sta
     ensures only { OnlyAt (outputs (demand_of (texts words.now)))
         (S.outside shelf.old) (S.outside shelf.new) }
     // Where no number of faults rose it ends as it is asked, unless memory runs out.
-    ensures complete { Told (S.outside shelf.new).held
+    ensures complete { Known (S.outside shelf.new).held
         (λ files. IsComplete (demand_of (texts words.now)) files
         (S.outside shelf.old) (S.outside shelf.new) result) }
 {

@@ -80,8 +80,8 @@ fn run_of<'a>(options: &ExplainOptions<'a>) -> RunOptions<'a>
 fn watch(alloc: Global, options: &ExplainOptions<'_>, loaded: Loaded) -> Result<Explained, NoMemory>
     requires allowed { IsAllowed loaded.settings }
     requires budget { loaded.guest.setup.budget ≡ loaded.settings.budget }
-    ensures ending { IfOk result (λ told. told.ending ≡ (rest_of loaded.guest).ending) }
-    ensures text { IfOk result (λ told. told.text.items
+    ensures ending { IfOk result (λ stated. stated.ending ≡ (rest_of loaded.guest).ending) }
+    ensures text { IfOk result (λ stated. stated.text.items
         ≡ (explained (explain_meaning options.now) loaded.symbols.items
         (rest_of loaded.guest)).text) }
 {
@@ -107,7 +107,7 @@ fn explain_loaded<S: Shelf>(
 {
     is_allowed(options.layout);
     match watch(alloc, options, loaded) {
-        Ok(told) => finish(shelf, status_of(told.ending.outcome), &told.text),
+        Ok(stated) => finish(shelf, status_of(stated.ending.outcome), &stated.text),
         Err(NoMemory) => refuse(alloc, shelf, Status::NoMemory),
     }
 }

@@ -10,7 +10,7 @@ ghost use Rattle.placement.specs.Sought.{is_too_large};
 ghost use Rattle.placement.specs.Words.{owned_of};
 ghost use Rattle.predator_cli.specs.Meets.{IsAnswered, IsFaulty, Meets};
 ghost use Rattle.predator_cli.specs.Place.{AreFor, Means, WasRead, place_readings, records_for};
-ghost use Rattle.shelf.specs.Shelf.{Told};
+ghost use Rattle.shelf.specs.Shelf.{Known};
 ghost use Rattle.trace_format.specs.Rules.{touches_in};
 
 use crate::counting::see_whole;
@@ -108,7 +108,7 @@ fn print_plan<S: Shelf>(
     shelf: &mut S,
 ) -> Result<Vec<u8>, Status>
     requires size { IsTrue (is_line_size options.now.size) }
-    requires meant { Told (S.outside shelf.old).held
+    requires meant { Known (S.outside shelf.old).held
         (λ files. AreFor (place_meaning options.now) owners.now
         (records_for (place_meaning options.now) files)) }
     requires small { IsFalse (is_too_large owners.now.extent) }
@@ -136,7 +136,7 @@ fn print_object<S: Shelf>(
     shelf: &mut S,
 ) -> Result<Vec<u8>, Status>
     requires size { IsTrue (is_line_size options.now.size) }
-    requires meant { Told (S.outside shelf.old).held
+    requires meant { Known (S.outside shelf.old).held
         (λ files. Means (place_meaning options.now) (Some extent)
         (records_for (place_meaning options.now) files)) }
     requires some { 1 ≤ extent.size }

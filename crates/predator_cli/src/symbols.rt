@@ -22,7 +22,7 @@ fn record_of(
 ) -> Result<TraceRecord, NoMemory>
     requires some { 1 ≤ size }
     requires no_zero { All (λ b. b ≢ 0) name.now }
-    ensures value { IfOk result (λ told. told ≡ records.Symbol kind addr size (name_of name.now)) }
+    ensures value { IfOk result (λ stated. stated ≡ records.Symbol kind addr size (name_of name.now)) }
     ensures good { IfOk result IsSymbolRecord }
 {
     let kept = Name::new(alloc, name)?;
@@ -37,8 +37,8 @@ fn record_of(
 /// The records of the symbols of a program, in their order.
 pub fn records_of(alloc: Global, mut symbols: Symbols<'_>) -> Result<Vec<TraceRecord>, NoMemory>
     requires { All HasNameAndSize symbols }
-    ensures value { IfOk result (λ told. told.items ≡ map symbol_record symbols.entry) }
-    ensures good { IfOk result (λ told. All IsSymbolRecord told.items) }
+    ensures value { IfOk result (λ stated. stated.items ≡ map symbol_record symbols.entry) }
+    ensures good { IfOk result (λ stated. All IsSymbolRecord stated.items) }
 {
     let mut records = Vec::new(alloc);
     while let Some(symbol) = symbols.next() {

@@ -106,7 +106,7 @@ sited_records items = filter_map sited_record items
 
 -- A trace tells a run with the pc of each access: it is the trace of version 1 but for the pcs, and
 -- its accesses with their pcs are those of the run, in order.
-pub record TellsRun (harts : ℕ) (symbols : List TraceRecord) (r : Run) (t : ATrace) : Type 0 where
+pub record RecordsRun (harts : ℕ) (symbols : List TraceRecord) (r : Run) (t : ATrace) : Type 0 where
   pub header : t.header ≡ (trace_for One harts symbols r).header
   pub records : without_pcs t.items ≡ (trace_for One harts symbols r).items
   pub accesses : touches_in t.items ≡ touches_in (trace_for One harts symbols r).items

@@ -106,7 +106,7 @@ fn show_end<S: Shelf>(shelf: &mut S, guest: &Guest)
 
 // Runs the guest to its end, and notes each step after the records that were noted before, which
 // have no access. What the guest puts by is of the steps before the last.
-#[tactic(auto, unfolding(crate::specs::Recording::IsTold))]
+#[tactic(auto, unfolding(crate::specs::Recording::IsRecorded))]
 fn follow<S: Shelf, O: Observer>(
     shelf: &mut S,
     files: &[RunFile<'_>],

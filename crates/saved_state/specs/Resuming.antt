@@ -52,7 +52,7 @@ resumption_in report bytes = resumption_of report (read_state bytes)
 -- it stands for a list whose state it was taken up from, and tells the harts of the state and its
 -- length
 pub record IsResumedFrom (g : Grid) (v : Levels) (harts : ℕ) (t : AccessList) (w : Watch)
-    (told used : ℕ) : Type 0 where
+    (stated used : ℕ) : Type 0 where
   pub stands : StandsFor t w
-  pub same_harts : told ≡ harts
+  pub same_harts : stated ≡ harts
   pub whole : used ≡ length (state_of_list g v harts t)

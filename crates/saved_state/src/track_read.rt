@@ -269,7 +269,7 @@ fn read_word(harts: u16, most: u64, bytes: &[u8]) -> Option<Word>
     requires long { 20 ≤ length bytes.now }
     requires few { harts ≤ 256 }
     ensures value { result ≡ word_in harts most bytes.now }
-    ensures told { IfSome result (λ w. w ≡ word_at bytes.now) }
+    ensures stated { IfSome result (λ w. w ≡ word_at bytes.now) }
     ensures possible { IfSome result (λ w. IsTrue (is_possible w)) }
     ensures few { IfSome result (λ w. accesses w ≤ most) }
 {

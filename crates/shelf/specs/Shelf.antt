@@ -39,9 +39,9 @@ pub record Outside : Type 0 where
   pub given : List Given
 
 -- where a meaning is told, P holds of it
-abbrev pub Told : {A : Type 0} → Option A → (A → Type 0) → Type 0
-Told None P = Unit {0}
-Told (Some x) P = P x
+abbrev pub Known : {A : Type 0} → Option A → (A → Type 0) → Type 0
+Known None P = Unit {0}
+Known (Some x) P = P x
 
 -- what is told stays told, and P leads from the old meaning to the new; what is untold stays untold
 abbrev pub Goes : {A : Type 0} → Option A → Option A → (A → A → Type 0) → Type 0
@@ -58,7 +58,7 @@ pub record ChangesAt (name : List ℕ) (P : Option (List ℕ) → Option (List �
 
 -- what is told is what was told before, or it is told no more
 abbrev pub Narrows : {A : Type 0} → Option A → Option A → Type 0
-Narrows old new = Told new (λ x. old ≡ Some x)
+Narrows old new = Known new (λ x. old ≡ Some x)
 
 -- a number of faults is greater than before, or it stands at its end
 abbrev pub Rose : ℕ → ℕ → Type 0

@@ -68,7 +68,7 @@ impl<'a> Outputs<'a> {
             → IsOutputs self.old outputs before (S.outside shelf.old)
             → AreCut (outputs ++ record { name = name.now; bytes = [] } ∷ []) before
             (S.outside shelf.new) error) }
-        ensures tells { (S.outside shelf.new).held ≡ (S.outside shelf.old).held }
+        ensures keeps_held { (S.outside shelf.new).held ≡ (S.outside shelf.old).held }
         ensures gives { (S.outside shelf.new).given ≡ (S.outside shelf.old).given }
     {
         match Sink::begin(alloc, shelf, name) {
@@ -108,7 +108,7 @@ impl<'a> Outputs<'a> {
             → IsOutputs self.old outputs before (S.outside shelf.old)
             → AreCut (outputs_with outputs place bytes.now) before (S.outside shelf.new) error) }
         ensures stays { LosesNothing (S.outside shelf.old) (S.outside shelf.new) }
-        ensures tells { (S.outside shelf.new).held ≡ (S.outside shelf.old).held }
+        ensures keeps_held { (S.outside shelf.new).held ≡ (S.outside shelf.old).held }
         ensures gives { (S.outside shelf.new).given ≡ (S.outside shelf.old).given }
     {
         let file = &mut self.files[place];
@@ -138,7 +138,7 @@ impl<'a> Outputs<'a> {
             → IsOutputs self.old outputs before (S.outside shelf.old)
             → AreCut outputs before (S.outside shelf.new) error) }
         ensures stays { LosesNothing (S.outside shelf.old) (S.outside shelf.new) }
-        ensures tells { (S.outside shelf.new).held ≡ (S.outside shelf.old).held }
+        ensures keeps_held { (S.outside shelf.new).held ≡ (S.outside shelf.old).held }
         ensures gives { (S.outside shelf.new).given ≡ (S.outside shelf.old).given }
     {
         for place in 0..self.files.len() {

@@ -2,7 +2,7 @@
 ghost use Rattle.std.specs.Prelude.{◌≡◌, IfOk, IsSome};
 ghost use Rattle.std.specs.Option.{ForSome};
 ghost use Rattle.std.specs.Io.{ReadsAtMost};
-ghost use Rattle.shelf.specs.Shelf.{Outside, content, Told, Goes, ChangesAt, HasCause, HasCauseAt};
+ghost use Rattle.shelf.specs.Shelf.{Outside, content, Known, Goes, ChangesAt, HasCause, HasCauseAt};
 ghost use Rattle.shelf.specs.Shelf.{given_after};
 ghost use Rattle.shelf.specs.Shelf.{OnlyReads, OnlyWrites, OnlyPrints, Reads, AddsUnless};
 ghost use Rattle.shelf.specs.Shelf.{AppendsUnless, Begins};
@@ -70,7 +70,7 @@ pub trait Shelf {
     /// `Failed` comes only where the faults of reading this name rose.
     fn read_at(&mut self, name: &str, at: u64, into: &mut [u8]) -> Result<usize, ShelfError>
         ensures bound { ReadsAtMost result into.new }
-        ensures bytes { IfOk result (λ n. Told (outside self.new).held
+        ensures bytes { IfOk result (λ n. Known (outside self.new).held
             (λ files. Reads (content files name.now) at n into.new)) }
         ensures given { (outside self.new).given
             ≡ given_after result name.now at into.new (outside self.old).given }

@@ -5,13 +5,13 @@ use Rattle.std.proofs.Common.{refl, sym, ap, ◌∙◌, subst, arith, append-nil
 use Rattle.std.specs.List.{All}
 use Rattle.std.specs.Option.{IfSome}
 use Rattle.trace_format.specs.declared.record.TraceEnd.{TraceEnd}
-use Rattle.shelf.specs.Shelf.{Files, HasRead, Outside, Told, content}
+use Rattle.shelf.specs.Shelf.{Files, HasRead, Outside, Known, content}
 use Rattle.shelf.specs.Fetch.{IsFront}
 use Rattle.shelf.specs.declared.shelf.ShelfError.{ShelfError}
 use Rattle.shelf.specs.declared.shelf.ShelfError.TheVariants as errors
 use Rattle.shelf.specs.Files.{AreCut, AreWritten}
 use Rattle.shelf.specs.Laws.Files.{IsOutputs-read}
-use Rattle.shelf.specs.Laws.Told.{told_same}
+use Rattle.shelf.specs.Laws.Known.{known_same}
 use Rattle.trace_format.specs.declared.read_so_far.ReadSoFar.{ReadSoFar}
 use Rattle.trace_format.specs.declared.record.Header.{Header}
 use Rattle.trace_format.specs.declared.record.TraceRecord.{TraceRecord}
@@ -283,10 +283,10 @@ module _ (table : List Move) (trace file : List ℕ) (m : Mover) (cursor : Reach
 
 -- the bytes that were read are the first of the name's, as long as these are told
 pub front_still : (o n : Option Files) (trace bytes : List ℕ) → n ≡ o
-    → Told o (λ fs. IsFront (content fs trace) bytes)
-    → Told n (λ fs. IsFront (content fs trace) bytes)
+    → Known o (λ fs. IsFront (content fs trace) bytes)
+    → Known n (λ fs. IsFront (content fs trace) bytes)
 front_still o n trace bytes same front =
-    told_same (λ fs. IsFront (content fs trace) bytes) o n same front
+    known_same (λ fs. IsFront (content fs trace) bytes) o n same front
 
 pub moving_next : (table : List Move) (trace file : List ℕ) (m : Mover) (cursor : Reached)
     (old read new : Outside) (all : List ℕ) → new.held ≡ read.held

@@ -1,7 +1,7 @@
 -- How far a copy is, in the clauses of this crate's own functions.
 use Rattle.std.specs.Prelude.{None, ◌≡◌, ℕ, List, [], ◌∷◌, ◌++◌, length, Option, Some}
 use Rattle.shelf.specs.Agreeing.{HasShown}
-use Rattle.shelf.specs.Shelf.{Files, Given, Narrows, Outside, Told, content}
+use Rattle.shelf.specs.Shelf.{Files, Given, Narrows, Outside, Known, content}
 use Rattle.shelf.specs.declared.shelf.ShelfError.{ShelfError}
 use Rattle.shelf.specs.declared.shelf.ShelfError.TheVariants as errors
 use Rattle.shelf.specs.Files.{Output, AreCut}
@@ -76,7 +76,7 @@ pub record HasSplit (s : Splitting) (seen : List TraceRecord) : Type 0 where
 -- filtered.
 pub record IsAccepted (held : Option Files) (name : List ℕ) (passed : Passed) : Type 0 where
   pub bytes : List ℕ
-  pub whole : Told held (λ files. bytes ≡ content files name)
+  pub whole : Known held (λ files. bytes ≡ content files name)
   pub items : List TraceRecord
   pub is : trace_of bytes ≡ Some (trace_with passed items)
   pub plain : near_refusal None passed.header.near ≡ None
@@ -110,7 +110,7 @@ pub record IsCopied (held : Option Files) (name : List ℕ) (passed : Passed)
     (has : List TraceRecord → Type 0) (waiting : List Waiting)
     (before now : Outside) : Type 0 where
   pub bytes : List ℕ
-  pub whole : Told held (λ files. bytes ≡ content files name)
+  pub whole : Known held (λ files. bytes ≡ content files name)
   pub items : List TraceRecord
   pub is : trace_of bytes ≡ Some (trace_with passed items)
   pub came : has (all_records (trace_with passed items))
@@ -119,7 +119,7 @@ pub record IsCopied (held : Option Files) (name : List ℕ) (passed : Passed)
 -- these are the first records that the held bytes have, where these are told
 abbrev pub AreFirst : Option Files → List ℕ → List TraceRecord → Type 0
 AreFirst held name seen =
-    Told held (λ files. (more : List TraceRecord)
+    Known held (λ files. (more : List TraceRecord)
     × ((reading_of (content files name)).0 ≡ seen ++ more))
 
 -- It gave up as these records came, and a call that reads may have failed behind the last that

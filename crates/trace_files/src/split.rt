@@ -89,7 +89,7 @@ impl<'a> Splitting<'a> {
             → IsOutputs self.old.files outputs before (S.outside shelf.old)
             → AreCut (outputs_with (outputs_with outputs 0 (spell_ending version first)) 1
             (spell_ending version second)) before (S.outside shelf.new) error) }
-        ensures tells { (S.outside shelf.new).held ≡ (S.outside shelf.old).held }
+        ensures keeps_held { (S.outside shelf.new).held ≡ (S.outside shelf.old).held }
     {
         let (first, second) = (TraceRecord::End(first), TraceRecord::End(second));
         // No end is spelled against the records before it.

@@ -3,7 +3,7 @@ use Rattle.std.proofs.Common.{◌≡◌, ◌<◌, ◌^◌, ◌++◌, ℕ, List, 
 use Rattle.std.proofs.Common.{refl, sym, ap, ◌∙◌, subst}
 use Rattle.std.specs.Option.{IfSome}
 use Rattle.shelf.specs.Fetch.{IsFront}
-use Rattle.shelf.specs.Laws.Told.{read_none, told_same}
+use Rattle.shelf.specs.Laws.Known.{read_none, known_same}
 use Rattle.shelf.specs.Shelf.{Files, HasRead, Outside, content}
 use Rattle.trace_format.specs.declared.record.Header.{Header}
 use Rattle.trace_format.specs.declared.record.TraceRecord.{TraceRecord}
@@ -163,7 +163,7 @@ filtering_next k trace name file cursor old read new all same come way = record 
   come = record {
     size = come.size;
     room = come.room;
-    front = told_same (λ fs. IsFront (content fs trace) all) read.held new.held same come.front;
+    front = known_same (λ fs. IsFront (content fs trace) all) read.held new.held same come.front;
     read = come.read;
   };
   way = way;

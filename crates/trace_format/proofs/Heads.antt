@@ -19,10 +19,10 @@ same_both p q r first later = record {
 }
 
 -- what tells as a header that is told tells too
-pub told_too : (p q : Option ReadSoFar) → SameHead p q → IsSome q → IsSome p
-told_too (Some p) q same some = refl
-told_too None None same some = some
-told_too None (Some q) same some = let version = same.version in cc
+pub stated_too : (p q : Option ReadSoFar) → SameHead p q → IsSome q → IsSome p
+stated_too (Some p) q same some = refl
+stated_too None None same some = some
+stated_too None (Some q) same some = let version = same.version in cc
 
 -- nothing is told that was not told before
 pub as_before : (old new : Reading) (bytes : List ℕ) → new.progress ≡ old.progress
@@ -32,7 +32,7 @@ as_before old new bytes is =
     subst (λ (p : Option ReadSoFar). SameHead p old.progress) (sym is) (same_head old.progress) in
     record {
       stays = λ _. same;
-      told = λ some. same_both _ _ _ same
+      stated = λ some. same_both _ _ _ same
           (same_back _ _ (read_on-head old bytes
           (subst (λ (p : Option ReadSoFar). IsSome p) is some)));
     }
@@ -45,9 +45,9 @@ keeps_with old mid new bytes is keeps =
     record {
       stays = λ some. subst (λ (p : Option ReadSoFar). SameHead p old.progress) (sym is)
           (keeps.stays some);
-      told = λ some.
+      stated = λ some.
           subst (λ (p : Option ReadSoFar). SameHead p (read_on old bytes).1.progress) (sym is)
-          (keeps.told (subst (λ (p : Option ReadSoFar). IsSome p) is some));
+          (keeps.stated (subst (λ (p : Option ReadSoFar). IsSome p) is some));
     }
 
 -- a header that was told in a front of the bytes
@@ -61,9 +61,9 @@ keeps_longer old new piece front back cut keeps =
     ap (λ (x : List TraceRecord × Reading). x.1.progress) whole in
     record {
       stays = keeps.stays;
-      told = λ some.
-          let same = keeps.told some in
-          let on = read_on-head (read_on old front).1 back (told_too _ _ (same_back _ _ same) some)
+      stated = λ some.
+          let same = keeps.stated some in
+          let on = read_on-head (read_on old front).1 back (stated_too _ _ (same_back _ _ same) some)
           in
           subst (λ (p : Option ReadSoFar). SameHead new.progress p) (sym last)
           (same_both _ _ _ same (same_back _ _ on));

@@ -157,10 +157,10 @@ touch_judged kind harts place bytes =
 unfoldable pub short_touch_judged : Kind → ℕ → ℕ → ℕ → ℕ → List ℕ → Result Touch TraceFault
 short_touch_judged kind size harts last place bytes =
     let hart = slice_index bytes 1 in
-    let told = drop 2 bytes in
-    let addr = address_at last (number_in told) in
+    let stated = drop 2 bytes in
+    let addr = address_at last (number_in stated) in
     if nat_le harts hart then Err (faults.BadField (place + 1))
-    else (if are_groups told && (addr % size == 0)
+    else (if are_groups stated && (addr % size == 0)
     then Ok (record { hart = hart; addr = addr; kind = kind; size = size })
     else Err (faults.BadField (place + 2)))
 
@@ -171,10 +171,10 @@ without_pc (Ok touch) = Ok (touch, None)
 -- An access that is good in itself has a pc behind it, whose distance is spelled in the one way.
 abbrev pub with_pc : Before → ℕ → List ℕ → Result Touch TraceFault
     → Result (Touch × Option ℕ) TraceFault
-with_pc before place told (Err fault) = Err fault
-with_pc before place told (Ok touch) = if are_groups told then Ok (
+with_pc before place stated (Err fault) = Err fault
+with_pc before place stated (Ok touch) = if are_groups stated then Ok (
   touch,
-  Some (address_at (pc_before before touch.hart) (number_in told)),
+  Some (address_at (pc_before before touch.hart) (number_in stated)),
 ) else Err (faults.BadField place)
 
 -- versions 3 and 4: an access of version 2, and its pc

@@ -107,4 +107,4 @@ pub record HasSameHead (p q : ReadSoFar) : Type 0 where
 -- bytes.
 pub record KeepsHead (old : Reading) (bytes : List ℕ) (new : Reading) : Type 0 where
   pub stays : IsSome old.progress → SameHead new.progress old.progress
-  pub told : IsSome new.progress → SameHead new.progress (read_on old bytes).1.progress
+  pub stated : IsSome new.progress → SameHead new.progress (read_on old bytes).1.progress

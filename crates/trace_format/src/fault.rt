@@ -28,7 +28,7 @@ pub enum TraceFault {
     #[error("CountMismatch")]
     CountMismatch {
         /// What the end record tells.
-        told: u64,
+        stated: u64,
         /// How many there are.
         counted: u64,
     },

@@ -39,11 +39,11 @@ pub fn symbol_extent(bytes: &[u8]) -> usize
     if bytes.len() < NAME_PLACE {
         return NAME_PLACE;
     }
-    let told = u16_at(bytes, 10);
-    if told > LONGEST_NAME {
+    let stated = u16_at(bytes, 10);
+    if stated > LONGEST_NAME {
         NAME_PLACE
     } else {
-        NAME_PLACE + usize::from(told)
+        NAME_PLACE + usize::from(stated)
     }
 }
 

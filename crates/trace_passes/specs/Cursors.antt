@@ -2,7 +2,7 @@
 use Rattle.std.specs.Prelude.{◌≡◌, ℕ, ◌+◌, ◌-◌, ◌<◌, ◌≤◌, List, ◌++◌, length, Option, Some}
 use Rattle.std.specs.Prelude.{None, option_map, true}
 use Rattle.shelf.specs.Agreeing.{HasReadFront}
-use Rattle.shelf.specs.Shelf.{Files, Given, Outside, Told, content}
+use Rattle.shelf.specs.Shelf.{Files, Given, Outside, Known, content}
 use Rattle.shelf.specs.Fetch.{IsFront}
 use Rattle.trace_format.specs.declared.read_so_far.ReadSoFar.{ReadSoFar}
 use Rattle.trace_format.specs.declared.record.TraceRecord.{TraceRecord}
@@ -74,7 +74,7 @@ pub record HasCome (held : Option Files) (name : List ℕ) (w : Wanted) (bytes :
     (now : Reached) : Type 0 where
   pub size : length bytes ≡ now.count
   pub room : 0 < now.piece
-  pub front : Told held (λ files. IsFront (content files name) bytes)
+  pub front : Known held (λ files. IsFront (content files name) bytes)
   pub read : IsRead w bytes now.reading
 
 -- It has read more bytes than these, and holds the records that became whole in them. Where reads
@@ -91,7 +91,7 @@ pub record GoesOn (old new : Outside) (name : List ℕ) (w : Wanted) (bytes : Li
 -- wanted.
 pub record HasEnded (held : Option Files) (name : List ℕ) (w : Wanted) (bytes : List ℕ)
     (passed : Passed) : Type 0 where
-  pub whole : Told held (λ files. bytes ≡ content files name)
+  pub whole : Known held (λ files. bytes ≡ content files name)
   pub items : List TraceRecord
   pub is : trace_of bytes ≡ Some (trace_with passed items)
   pub header : IsGoodHeader passed.header
@@ -106,7 +106,7 @@ pub record HasStopped (held : Option Files) (name : List ℕ) (w : Wanted) (byte
     (refusal : Refusal) (now : Reached) : Type 0 where
   pub all : List ℕ
   pub behind : (more : List ℕ) × (all ≡ bytes ++ more)
-  pub whole : Told held (λ files. all ≡ content files name)
+  pub whole : Known held (λ files. all ≡ content files name)
   pub refused : refusal_of w all ≡ Some refusal
   pub reading : now.reading ≡ (reading_of all).1
   pub records : (reading_of all).0 ≡ (reading_of bytes).0 ++ now.items

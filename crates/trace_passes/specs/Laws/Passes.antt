@@ -430,7 +430,7 @@ trace-parts bytes t is =
         size,
         size_items,
       );
-      counted = ends.told ∙ sym size_items;
+      counted = ends.stated ∙ sym size_items;
     }
 
 -- what bytes that end well are a trace of

@@ -3,8 +3,8 @@ use Rattle.std.proofs.Common.{subst, ◌∙◌}
 use Rattle.std.specs.List.{All}
 use Rattle.std.proofs.lemmas.Result.{IfErr-at_err, IfErr-weaker}
 use Rattle.shelf.specs.Fetch.{IsFront}
-use Rattle.shelf.specs.Shelf.{HasRead, Outside, Told, content}
-use Rattle.shelf.specs.Laws.Told.{told_same, told_still}
+use Rattle.shelf.specs.Shelf.{HasRead, Outside, Known, content}
+use Rattle.shelf.specs.Laws.Known.{known_same, known_still}
 use Rattle.trace_format.specs.declared.record.Header.{Header}
 use Rattle.trace_format.specs.declared.record.TraceRecord.{TraceRecord}
 use Rattle.trace_format.specs.declared.record.Version.{Version}
@@ -124,7 +124,7 @@ pieces-preserved g c =
     (sym c.any.ensures) at.come in
     let on = subst (λ (w : Wanted). GoesOn mid read trace w at.bytes next)
     c.any.ensures (e.more (ap Ok none) at.bytes come) in
-    moving_next t trace file later next old read new (at.bytes ++ on.more) c.take.ensures.tells
+    moving_next t trace file later next old read new (at.bytes ++ on.more) c.take.ensures.keeps_held
     on.come
     (at_all t trace file m c.pieces.cursor old mid at read reads (at.bytes ++ on.more) next.items
     c.items.result.now next.reading c.head.result
@@ -147,7 +147,7 @@ returns-in-Err-take-clause-refused g c = λ refusal same.
     c.pieces.cursor c.advance.new.self (g.S.Shelf.outside c.args.shelf.now) mid read
     (g.S.Shelf.outside c.take.new.shelf) c.pieces.invariant reads c.any.result c.any.ensures
     (e.more (ap Ok none)) c.head.result c.items.result.now fault c.head.ensures c.items.ensures
-    c.take.ensures.tells c.in-Err-take.ensures.stopped in
+    c.take.ensures.keeps_held c.in-Err-take.ensures.stopped in
     let is : fault ≡ faults.Refused refusal = cc in
     gave.refused refusal is
 
@@ -164,7 +164,7 @@ returns-in-Err-take-clause-occupied g c = λ addr same.
     c.pieces.cursor c.advance.new.self (g.S.Shelf.outside c.args.shelf.now) mid read
     (g.S.Shelf.outside c.take.new.shelf) c.pieces.invariant reads c.any.result c.any.ensures
     (e.more (ap Ok none)) c.head.result c.items.result.now fault c.head.ensures c.items.ensures
-    c.take.ensures.tells c.in-Err-take.ensures.stopped in
+    c.take.ensures.keeps_held c.in-Err-take.ensures.stopped in
     let is : fault ≡ faults.Occupied addr = cc in
     gave.occupied addr is
 
@@ -181,7 +181,7 @@ returns-in-Err-take-clause-far g c = λ addr same.
     c.pieces.cursor c.advance.new.self (g.S.Shelf.outside c.args.shelf.now) mid read
     (g.S.Shelf.outside c.take.new.shelf) c.pieces.invariant reads c.any.result c.any.ensures
     (e.more (ap Ok none)) c.head.result c.items.result.now fault c.head.ensures c.items.ensures
-    c.take.ensures.tells c.in-Err-take.ensures.stopped in
+    c.take.ensures.keeps_held c.in-Err-take.ensures.stopped in
     let is : fault ≡ faults.Far addr = cc in
     gave.far addr is
 
@@ -198,7 +198,7 @@ returns-in-Err-take-clause-memory g c = λ same.
     c.pieces.cursor c.advance.new.self (g.S.Shelf.outside c.args.shelf.now) mid read
     (g.S.Shelf.outside c.take.new.shelf) c.pieces.invariant reads c.any.result c.any.ensures
     (e.more (ap Ok none)) c.head.result c.items.result.now fault c.head.ensures c.items.ensures
-    c.take.ensures.tells c.in-Err-take.ensures.stopped in
+    c.take.ensures.keeps_held c.in-Err-take.ensures.stopped in
     let is : fault ≡ faults.Refused (refusals.Trace trace_faults.NoMemory) = cc in
     gave.memory is
 
@@ -215,7 +215,7 @@ returns-in-Err-take-clause-given_up g c =
     c.pieces.cursor c.advance.new.self (g.S.Shelf.outside c.args.shelf.now) mid read
     (g.S.Shelf.outside c.take.new.shelf) c.pieces.invariant reads c.any.result c.any.ensures
     (e.more (ap Ok none)) c.head.result c.items.result.now fault c.head.ensures c.items.ensures
-    c.take.ensures.tells c.in-Err-take.ensures.stopped in
+    c.take.ensures.keeps_held c.in-Err-take.ensures.stopped in
     gave.given_up
 
 pub end_refused-requires-clause-writable : goal.end_refused-requires-clause-writable
@@ -300,8 +300,8 @@ returns-in-Err-Refused-clause-refused g c = λ other_one same.
     (e.stopped wrong.0 (ap Err (is ∙ ap passes.Refused wrong.1)) at.bytes come) in
     let new = g.S.Shelf.outside c.end_refused.new.shelf in
     let fault = c.end_refused.result in
-    let whole : Told new.held (λ fs. stopped.all ≡ content fs trace) =
-    told_same (λ fs. stopped.all ≡ content fs trace) read.held new.held c.end_refused.ensures.tells
+    let whole : Known new.held (λ fs. stopped.all ≡ content fs trace) =
+    known_same (λ fs. stopped.all ≡ content fs trace) read.held new.held c.end_refused.ensures.keeps_held
     stopped.whole in
     let other : refusal ≢ refusals.Trace trace_faults.NoMemory =
     λ same_one. e.memory (ap Err (is ∙ ap passes.Refused same_one)) in
@@ -341,8 +341,8 @@ returns-in-Err-Refused-clause-occupied g c = λ addr same.
     (e.stopped wrong.0 (ap Err (is ∙ ap passes.Refused wrong.1)) at.bytes come) in
     let new = g.S.Shelf.outside c.end_refused.new.shelf in
     let fault = c.end_refused.result in
-    let whole : Told new.held (λ fs. stopped.all ≡ content fs trace) =
-    told_same (λ fs. stopped.all ≡ content fs trace) read.held new.held c.end_refused.ensures.tells
+    let whole : Known new.held (λ fs. stopped.all ≡ content fs trace) =
+    known_same (λ fs. stopped.all ≡ content fs trace) read.held new.held c.end_refused.ensures.keeps_held
     stopped.whole in
     let other : refusal ≢ refusals.Trace trace_faults.NoMemory =
     λ same_one. e.memory (ap Err (is ∙ ap passes.Refused same_one)) in
@@ -382,8 +382,8 @@ returns-in-Err-Refused-clause-far g c = λ addr same.
     (e.stopped wrong.0 (ap Err (is ∙ ap passes.Refused wrong.1)) at.bytes come) in
     let new = g.S.Shelf.outside c.end_refused.new.shelf in
     let fault = c.end_refused.result in
-    let whole : Told new.held (λ fs. stopped.all ≡ content fs trace) =
-    told_same (λ fs. stopped.all ≡ content fs trace) read.held new.held c.end_refused.ensures.tells
+    let whole : Known new.held (λ fs. stopped.all ≡ content fs trace) =
+    known_same (λ fs. stopped.all ≡ content fs trace) read.held new.held c.end_refused.ensures.keeps_held
     stopped.whole in
     let other : refusal ≢ refusals.Trace trace_faults.NoMemory =
     λ same_one. e.memory (ap Err (is ∙ ap passes.Refused same_one)) in
@@ -423,8 +423,8 @@ returns-in-Err-Refused-clause-memory g c = λ same.
     (e.stopped wrong.0 (ap Err (is ∙ ap passes.Refused wrong.1)) at.bytes come) in
     let new = g.S.Shelf.outside c.end_refused.new.shelf in
     let fault = c.end_refused.result in
-    let whole : Told new.held (λ fs. stopped.all ≡ content fs trace) =
-    told_same (λ fs. stopped.all ≡ content fs trace) read.held new.held c.end_refused.ensures.tells
+    let whole : Known new.held (λ fs. stopped.all ≡ content fs trace) =
+    known_same (λ fs. stopped.all ≡ content fs trace) read.held new.held c.end_refused.ensures.keeps_held
     stopped.whole in
     let other : refusal ≢ refusals.Trace trace_faults.NoMemory =
     λ same_one. e.memory (ap Err (is ∙ ap passes.Refused same_one)) in
@@ -464,8 +464,8 @@ returns-in-Err-Refused-clause-given_up g c =
     (e.stopped wrong.0 (ap Err (is ∙ ap passes.Refused wrong.1)) at.bytes come) in
     let new = g.S.Shelf.outside c.end_refused.new.shelf in
     let fault = c.end_refused.result in
-    let whole : Told new.held (λ fs. stopped.all ≡ content fs trace) =
-    told_same (λ fs. stopped.all ≡ content fs trace) read.held new.held c.end_refused.ensures.tells
+    let whole : Known new.held (λ fs. stopped.all ≡ content fs trace) =
+    known_same (λ fs. stopped.all ≡ content fs trace) read.held new.held c.end_refused.ensures.keeps_held
     stopped.whole in
     let other : refusal ≢ refusals.Trace trace_faults.NoMemory =
     λ same_one. e.memory (ap Err (is ∙ ap passes.Refused same_one)) in
@@ -494,8 +494,8 @@ returns-in-Err-ReadFault-clause-given_up g c =
     let is = c.in-Err-ReadFault.field-0-is in
     let cause = subst (λ (f : PassFault). HasPassCause {T = Option Passed} trace mid read (Err f)) is
     e.cause in
-    let front : Told read.held (λ fs. IsFront (content fs trace) at.bytes) =
-    told_still (λ fs. IsFront (content fs trace) at.bytes) mid.held read.held e.only.held
+    let front : Known read.held (λ fs. IsFront (content fs trace) at.bytes) =
+    known_still (λ fs. IsFront (content fs trace) at.bytes) mid.held read.held e.only.held
     at.come.front in
     let gave = gave_reading read.held trace file t at.bytes front old read {T = Option Passed} m mid
     passes.ReadFault (λ r i. cc) at.has e.only cause in
@@ -518,8 +518,8 @@ returns-in-Err-NoMemory-clause-given_up g c =
     let is = c.in-Err-NoMemory.field-0-is in
     let cause = subst (λ (f : PassFault). HasPassCause {T = Option Passed} trace mid read (Err f)) is
     e.cause in
-    let front : Told read.held (λ fs. IsFront (content fs trace) at.bytes) =
-    told_still (λ fs. IsFront (content fs trace) at.bytes) mid.held read.held e.only.held
+    let front : Known read.held (λ fs. IsFront (content fs trace) at.bytes) =
+    known_still (λ fs. IsFront (content fs trace) at.bytes) mid.held read.held e.only.held
     at.come.front in
     let gave = gave_reading read.held trace file t at.bytes front old read {T = Option Passed} m mid
     passes.NoMemory (λ r i. cc) at.has e.only cause in
@@ -549,12 +549,12 @@ returns-in-Ok-Some-clause-moved g c =
     let ended = subst (λ (w : Wanted). HasEnded read.held trace w at.bytes passed)
     c.any.ensures (e.ended passed (ap Ok some) at.bytes come) in
     let has = has_read t file m head seen old mid read reads at.has in
-    let told_whole : Told new.held (λ fs. at.bytes ≡ content fs trace) =
-    told_same (λ fs. at.bytes ≡ content fs trace) read.held new.held c.end_whole.ensures.tells
+    let known_whole : Known new.held (λ fs. at.bytes ≡ content fs trace) =
+    known_same (λ fs. at.bytes ≡ content fs trace) read.held new.held c.end_whole.ensures.keeps_held
     ended.whole in
     three_ok c.end_whole.result
     (λ made written accesses count.
-    whole_copied new.held trace file t m passed at.bytes ended.items made old read new told_whole
+    whole_copied new.held trace file t m passed at.bytes ended.items made old read new known_whole
     ended.is has (written t file head seen old has) accesses count)
     c.end_whole.ensures.written c.end_whole.ensures.accesses c.end_whole.ensures.moved
 
@@ -582,9 +582,9 @@ returns-in-Ok-Some-clause-refused g c = λ refusal same.
     let ended = subst (λ (w : Wanted). HasEnded read.held trace w at.bytes passed)
     c.any.ensures (e.ended passed (ap Ok some) at.bytes come) in
     let has = has_read t file m head seen old mid read reads at.has in
-    let front : Told new.held (λ fs. IsFront (content fs trace) at.bytes) =
-    front_still read.held new.held trace at.bytes c.end_whole.ensures.tells
-    (told_still (λ fs. IsFront (content fs trace) at.bytes) mid.held read.held e.only.held
+    let front : Known new.held (λ fs. IsFront (content fs trace) at.bytes) =
+    front_still read.held new.held trace at.bytes c.end_whole.ensures.keeps_held
+    (known_still (λ fs. IsFront (content fs trace) at.bytes) mid.held read.held e.only.held
     at.come.front) in
     let stops = IfErr-at_err (λ fault. (table : List Move) (name : List ℕ) (head : Option (Version × Header))
     (seen : List TraceRecord) (before : Outside) → HasMoved table name m head seen before read
@@ -617,9 +617,9 @@ returns-in-Ok-Some-clause-occupied g c = λ addr same.
     let ended = subst (λ (w : Wanted). HasEnded read.held trace w at.bytes passed)
     c.any.ensures (e.ended passed (ap Ok some) at.bytes come) in
     let has = has_read t file m head seen old mid read reads at.has in
-    let front : Told new.held (λ fs. IsFront (content fs trace) at.bytes) =
-    front_still read.held new.held trace at.bytes c.end_whole.ensures.tells
-    (told_still (λ fs. IsFront (content fs trace) at.bytes) mid.held read.held e.only.held
+    let front : Known new.held (λ fs. IsFront (content fs trace) at.bytes) =
+    front_still read.held new.held trace at.bytes c.end_whole.ensures.keeps_held
+    (known_still (λ fs. IsFront (content fs trace) at.bytes) mid.held read.held e.only.held
     at.come.front) in
     let stops = IfErr-at_err (λ fault. (table : List Move) (name : List ℕ) (head : Option (Version × Header))
     (seen : List TraceRecord) (before : Outside) → HasMoved table name m head seen before read
@@ -652,9 +652,9 @@ returns-in-Ok-Some-clause-far g c = λ addr same.
     let ended = subst (λ (w : Wanted). HasEnded read.held trace w at.bytes passed)
     c.any.ensures (e.ended passed (ap Ok some) at.bytes come) in
     let has = has_read t file m head seen old mid read reads at.has in
-    let front : Told new.held (λ fs. IsFront (content fs trace) at.bytes) =
-    front_still read.held new.held trace at.bytes c.end_whole.ensures.tells
-    (told_still (λ fs. IsFront (content fs trace) at.bytes) mid.held read.held e.only.held
+    let front : Known new.held (λ fs. IsFront (content fs trace) at.bytes) =
+    front_still read.held new.held trace at.bytes c.end_whole.ensures.keeps_held
+    (known_still (λ fs. IsFront (content fs trace) at.bytes) mid.held read.held e.only.held
     at.come.front) in
     let stops = IfErr-at_err (λ fault. (table : List Move) (name : List ℕ) (head : Option (Version × Header))
     (seen : List TraceRecord) (before : Outside) → HasMoved table name m head seen before read
@@ -687,9 +687,9 @@ returns-in-Ok-Some-clause-memory g c = λ same.
     let ended = subst (λ (w : Wanted). HasEnded read.held trace w at.bytes passed)
     c.any.ensures (e.ended passed (ap Ok some) at.bytes come) in
     let has = has_read t file m head seen old mid read reads at.has in
-    let front : Told new.held (λ fs. IsFront (content fs trace) at.bytes) =
-    front_still read.held new.held trace at.bytes c.end_whole.ensures.tells
-    (told_still (λ fs. IsFront (content fs trace) at.bytes) mid.held read.held e.only.held
+    let front : Known new.held (λ fs. IsFront (content fs trace) at.bytes) =
+    front_still read.held new.held trace at.bytes c.end_whole.ensures.keeps_held
+    (known_still (λ fs. IsFront (content fs trace) at.bytes) mid.held read.held e.only.held
     at.come.front) in
     let stops = IfErr-at_err (λ fault. (table : List Move) (name : List ℕ) (head : Option (Version × Header))
     (seen : List TraceRecord) (before : Outside) → HasMoved table name m head seen before read
@@ -722,9 +722,9 @@ returns-in-Ok-Some-clause-given_up g c =
     let ended = subst (λ (w : Wanted). HasEnded read.held trace w at.bytes passed)
     c.any.ensures (e.ended passed (ap Ok some) at.bytes come) in
     let has = has_read t file m head seen old mid read reads at.has in
-    let front : Told new.held (λ fs. IsFront (content fs trace) at.bytes) =
-    front_still read.held new.held trace at.bytes c.end_whole.ensures.tells
-    (told_still (λ fs. IsFront (content fs trace) at.bytes) mid.held read.held e.only.held
+    let front : Known new.held (λ fs. IsFront (content fs trace) at.bytes) =
+    front_still read.held new.held trace at.bytes c.end_whole.ensures.keeps_held
+    (known_still (λ fs. IsFront (content fs trace) at.bytes) mid.held read.held e.only.held
     at.come.front) in
     IfErr-weaker c.end_whole.result _ _
     (λ fault stops. (gave_stopped new.held trace file t at.bytes front old new fault

@@ -6,10 +6,10 @@ use std::process::Abort;
 use std::test::Fail;
 
 /// An access of 4 bytes, told by its hart, its address and its kind.
-pub type Told = (u16, u32, Kind);
+pub type StatedAccess = (u16, u32, Kind);
 
-pub fn access_of(told: &Told) -> Option<Access> {
-    let (hart, addr, kind) = *told;
+pub fn access_of(stated: &StatedAccess) -> Option<Access> {
+    let (hart, addr, kind) = *stated;
     Access::new(Hart::new(hart)?, addr, kind, 4)
 }
 
@@ -21,8 +21,8 @@ pub fn note(rt: &impl Abort, shadow: &mut Shadow, access: Access) {
 }
 
 /// Notes these accesses.
-pub fn note_all(rt: &impl Abort, shadow: &mut Shadow, told: &[Told]) -> Result<(), Fail> {
-    for one in told {
+pub fn note_all(rt: &impl Abort, shadow: &mut Shadow, stated: &[StatedAccess]) -> Result<(), Fail> {
+    for one in stated {
         let access = access_of(one).ok_or("an access")?;
         note(rt, shadow, access);
     }
