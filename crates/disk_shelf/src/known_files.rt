@@ -103,6 +103,10 @@ impl KnownFiles {
     ) -> Result<(), AllocError>
         ensures known { OnOk result
             (IfSome id (λ id. IsTrue (has_name id name.now self.new.files.items))) }
+        ensures kept { (other : FileId) (called : List ℕ)
+            → IsTrue (has_name other called self.old.files.items)
+            → IsTrue (has_name other called self.new.files.items) }
+        ensures err { OnErr result (self.new.files.items ≡ self.old.files.items) }
     {
         match id {
             Some(id) => self.note(alloc, id, name),

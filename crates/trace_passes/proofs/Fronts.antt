@@ -16,7 +16,7 @@ use Rattle.trace_passes.specs.Passes.{version_refusal}
 use Rattle.trace_format.specs.Laws.Counts.{few_bytes}
 use Rattle.trace_passes.specs.declared.wanted.Refusal.{Refusal}
 use Rattle.trace_passes.specs.declared.wanted.Wanted.{Wanted}
-use Rattle.trace_passes.specs.Cursors.{HasCome, IsRead, Reached, StopsAtMagic, magic_length}
+use Rattle.trace_passes.specs.Cursors.{HasCome, IsRead, Reached, StopsAtMagic, magic_length, longest_piece}
 
 -- no more bytes are read than a trace may have
 pub at_most : (held : Option Files) (name : List ℕ) (w : Wanted) (bytes : List ℕ) (now : Reached)
@@ -38,13 +38,14 @@ no_magic true = refl
 -- before the first byte
 pub first_come : (held : Option Files) (name : List ℕ) (w : Wanted) (now : Reached) → now.reading
     ≡ begin → now.count ≡ 0
-    → 0 < now.piece → HasCome held name w [] now
-first_come held name w now is at room =
+    → 0 < now.piece → now.piece ≤ longest_piece → HasCome held name w [] now
+first_come held name w now is at room few =
     let reading : now.reading ≡ (reading_of []).1 = is
     ∙ sym (ap (λ (x : List TraceRecord × Reading). x.1) nothing_read) in
     record {
       size = sym at;
       room = room;
+      few = few;
       front = if_known held (λ files. record { within = omega arith; same = refl });
       read = record {
         reading = reading;
@@ -119,6 +120,7 @@ pub come_still : (o n : Option Files) (name : List ℕ) (w : Wanted) (bytes : Li
 come_still o n name w bytes now narrow come = record {
   size = come.size;
   room = come.room;
+  few = come.few;
   front = known_still (λ files. IsFront (content files name) bytes) o n narrow come.front;
   read = come.read;
 }
@@ -130,11 +132,13 @@ pub next_come : (held : Option Files) (name : List ℕ) (w : Wanted) (bytes buff
     → Known held (λ files. IsFront (content files name) bytes)
     → Known held (λ files. Reads (content files name) at n buffer)
     → IsRead w (bytes ++ take n buffer) now.reading
-    → now.count ≡ at + n → 0 < now.piece → HasCome held name w (bytes ++ take n buffer) now
-next_come held name w bytes buffer at n now size fits front reads read is room =
+    → now.count ≡ at + n → 0 < now.piece → now.piece ≤ longest_piece
+    → HasCome held name w (bytes ++ take n buffer) now
+next_come held name w bytes buffer at n now size fits front reads read is room few =
     record {
       size = longer bytes buffer at n size fits ∙ sym is;
       room = room;
+      few = few;
       front = known_both held (λ files. longer_front (content files name) bytes buffer at n size
           fits) front reads;
       read = read;

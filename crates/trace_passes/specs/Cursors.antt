@@ -27,6 +27,10 @@ pub record IsRead (w : Wanted) (bytes : List ℕ) (now : Reading) : Type 0 where
 abbrev pub magic_length : ℕ
 magic_length = 8
 
+-- the most bytes of a trace that are asked for at once: 16 KiB
+abbrev pub longest_piece : ℕ
+longest_piece = 16384
+
 -- The bytes so far aren't refused for having no pcs, and where pcs are wanted, a piece behind them
 -- doesn't go beyond the magic before that is whole.
 pub record StopsAtMagic (w : Wanted) (bytes piece : List ℕ) : Type 0 where
@@ -68,12 +72,13 @@ pub record Reached : Type 0 where
 abbrev pub bytes_left : Reached → ℕ
 bytes_left now = longest_trace - now.count
 
--- The cursor has read these bytes, which the name's begin with where these are told. It has room
--- for more.
+-- The cursor has read these bytes, which the name's begin with where these are known. It has room
+-- for more, and asks for few at once.
 pub record HasCome (held : Option Files) (name : List ℕ) (w : Wanted) (bytes : List ℕ)
     (now : Reached) : Type 0 where
   pub size : length bytes ≡ now.count
   pub room : 0 < now.piece
+  pub few : now.piece ≤ longest_piece
   pub front : Known held (λ files. IsFront (content files name) bytes)
   pub read : IsRead w bytes now.reading
 

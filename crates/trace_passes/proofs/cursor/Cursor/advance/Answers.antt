@@ -201,7 +201,8 @@ returns-clause-more g c = λ same bytes reached.
       come = next_come held c.args.name.now w bytes into c.self.inside.at count _ come.size
           (omega (arith, c.in_ok-count.ensures.bound)) come.front c.in_ok-count.ensures.bytes read
           refl
-          (omega (arith, ap length back, lent, size, come.room));
+          (omega (arith, ap length back, lent, size, come.room))
+          (omega (arith, ap length back, lent, size, come.few));
       records = records;
       front = λ before. read_more c.args.name.now bytes into c.self.inside.at count before
           (g.S.Shelf.outside c.args.shelf.now).given (g.S.Shelf.outside c.fetch.new.shelf).given
