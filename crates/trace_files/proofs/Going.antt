@@ -64,6 +64,7 @@ come_still : (o n : Option Files) (name bytes : List ℕ) (cursor : Reached) →
 come_still o n name bytes cursor narrow come = record {
   size = come.size;
   room = come.room;
+  few = come.few;
   front = known_still (λ files. IsFront (content files name) bytes) o n narrow come.front;
   read = come.read;
 }

@@ -299,6 +299,7 @@ moving_next table trace file m cursor old read new all same come has = record {
   come = record {
     size = come.size;
     room = come.room;
+    few = come.few;
     front = front_still read.held new.held trace all same come.front;
     read = come.read;
   };
