@@ -33,7 +33,7 @@ use Rattle.sharing_rules.specs.Laws.Kinds.{member-opened_observed, member-shifte
 use Rattle.sharing_rules.specs.Laws.Kinds.{observed_ones-member, opened-member, opened_doubled-is}
 use Rattle.sharing_rules.specs.Laws.Kinds.{opened_observed-is, opened_shifted-is}
 use Rattle.sharing_rules.specs.Laws.Lists.{Member-permutation, slice_cases}
-use Rattle.sharing_rules.specs.Laws.Opened.{observed_ones-push, opened_observed-stays}
+use Rattle.sharing_rules.specs.Laws.OpenedObserved.{observed_ones-push, opened_observed-stays}
 use Rattle.line_tracks.specs.TrackValue.{TrackValue}
 use Rattle.line_tracks.specs.KeptIn.{kept_in}
 use Rattle.line_tracks.specs.Laws.WordLines.{layout-sized}

@@ -33,7 +33,9 @@ use Rattle.sharing_rules.specs.Laws.Kept.{tracked-opened}
 use Rattle.sharing_rules.specs.Laws.Kinds.{opened-member}
 use Rattle.sharing_rules.specs.Laws.Lists.{Member-filter, Member-filter_map, Member-permutation}
 use Rattle.sharing_rules.specs.Laws.Lists.{slice_cases}
-use Rattle.sharing_rules.specs.Laws.Opened.{doubled-some, observed-some, opened_shifted-has}
+use Rattle.sharing_rules.specs.Laws.OpenedDoubled.{doubled-some}
+use Rattle.sharing_rules.specs.Laws.OpenedObserved.{observed-some}
+use Rattle.sharing_rules.specs.Laws.OpenedShifted.{opened_shifted-has}
 use Rattle.sharing_rules.specs.Laws.Orders.{in_order-permutes}
 use Rattle.shelf.specs.Shelf.{Files, content}
 use Rattle.trace_passes.specs.Lives.{symbols_in}
