@@ -6,9 +6,9 @@ use Rattle.shelf.specs.Shelf.{Known, Narrows, Goes, Rose, Adds, AddsFront, Given
 use Rattle.shelf.specs.Shelf.{OnlyReads, OnlyWrites, OnlyWritesAndReads, Outside}
 
 -- what holds of each value holds where it is told
-pub stated : {A : Type 0} {P : A → Type 0} (o : Option A) → ((x : A) → P x) → Known o P
-stated None p = tt
-stated (Some x) p = p x
+pub if_known : {A : Type 0} {P : A → Type 0} (o : Option A) → ((x : A) → P x) → Known o P
+if_known None p = tt
+if_known (Some x) p = p x
 
 pub known_map : {A : Type 0} {P Q : A → Type 0} (o : Option A) → ((x : A) → P x → Q x) → Known o P
     → Known o Q
