@@ -2,9 +2,9 @@
 //!
 //! On a [`DiskShelf`] any contents that one thinks of ([`Contents`]) are known as long as all that
 //! it has read is theirs: what is proved of such known files holds of all contents that agree with
-//! what was read. Also known are what it handed to the system in calls that were answered Ok, and
-//! how often calls have failed: a call that fails is the cause of what the program answers. Beside
-//! that it says on standard error why a call failed, shows there what a run puts out and on a
+//! what was read. What it handed to the system in calls that were answered Ok is known too, and how
+//! often calls have failed: a call that fails is the cause of what the program answers. Beside that
+//! the shelf says on standard error why a call failed, shows there what a run puts out and on a
 //! terminal how far long work is, and begins no regular file that is in use under another name.
 #![tactic(auto)]
 

@@ -24,7 +24,7 @@ use base::ResumeFault;
 use detector::{Detector, LineIndex};
 use std::alloc::Global;
 
-/// A detector that was taken up again, the number of harts that the state states, and how many
+/// A detector that was taken up again, the number of harts that the state records, and how many
 /// bytes of the part were used.
 #[derive(Drop)]
 pub struct Resumed<I: LineIndex> {

@@ -18,7 +18,7 @@ same_both p q r first later = record {
       first.header ∙ later.header;
 }
 
--- where one of two states with the same header has it, so does the other
+-- a state with the same header as one that has a header has it too
 pub stated_too : (p q : Option ReadSoFar) → SameHead p q → IsSome q → IsSome p
 stated_too (Some p) q same some = refl
 stated_too None None same some = some
@@ -37,7 +37,7 @@ as_before old new bytes is =
           (subst (λ (p : Option ReadSoFar). IsSome p) is some)));
     }
 
--- a state with the same progress
+-- a state with the same progress keeps the header too
 pub keeps_with : (old mid new : Reading) (bytes : List ℕ) → new.progress ≡ mid.progress
     → KeepsHead old bytes mid
     → KeepsHead old bytes new

@@ -56,7 +56,7 @@ fn joined(alloc: Global, front: &[u8], back: &[u8]) -> Result<Vec<u8>, AllocErro
     Ok(bytes)
 }
 
-// The bytes to keep: none at a fault. At want of memory it is the fault of the state.
+// The bytes to keep: none at a fault. At want of memory the state has that fault.
 fn kept_of(alloc: Global, state: &mut State, rest: &[u8]) -> Vec<u8>
     ensures kept { state.new.fault ≡ None → result.items ≡ rest.now }
     ensures fault { IsSome state.new.fault → result.items ≡ [] }
