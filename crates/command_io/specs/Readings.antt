@@ -98,7 +98,7 @@ pub record IsJudged (refused : Option Status) (s : Status) : Type 0 where
   pub words : s ≢ status.Usage
   pub memory : hides_no_memory s ≡ false
 
--- P holds of the bytes that were read under a name, which are the held ones where these are told
+-- P holds of the bytes that were read under a name, which are the held ones where these are known
 pub record IsReadFrom (held : Option Files) (name : List ℕ) (P : List ℕ → Type 0) : Type 0 where
   pub bytes : List ℕ
   pub whole : Known held (λ files. bytes ≡ content files name)

@@ -1,4 +1,4 @@
--- How a call ends, by the kinds of status that its clauses tell apart, and the status that each
+-- How a call ends, by the kinds of status that its clauses distinguish, and the status that each
 -- lower fault has.
 use Rattle.std.specs.Prelude.{Bool, true, false}
 use Rattle.program_files.specs.declared.image.PlaceFault.{PlaceFault}

@@ -232,7 +232,7 @@ opens_as n P v t a xs some noted =
       | inr quiet ↦ rw quiet
     ]
 
--- Where w stands for t: what it asks of an access is what the list tells.
+-- Where w stands for t: its test of an access has the result that the list determines.
 same_test : (t : AccessList) (w : Watch) (k : ℕ) (is : Bool) (test : ℕ → Bool) → StandsFor t w
     → (is && test (count_at w.writes k)) ≡
     (is && test (write_count (is_inside (grid_line w.grid k)) t))

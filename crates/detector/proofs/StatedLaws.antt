@@ -1,4 +1,5 @@
--- What a list makes one keep, told by kind and line, and how its tracks in any order are looked up.
+-- What a list makes one keep, named by kind and line, and how its tracks in any order are looked
+-- up.
 use Rattle.std.proofs.Common.{◌≡◌, ℕ, ◌+◌, ◌-◌, ◌*◌, ◌/◌, ◌<◌, ◌≤◌, Bool, true, List, [], ◌∷◌}
 use Rattle.std.proofs.Common.{◌++◌, Option, Some, None, map, length, refl, sym, ap, ◌∙◌, subst}
 use Rattle.std.proofs.Common.{arith, inl, inr}

@@ -1,11 +1,11 @@
-// Accesses as rows of a table tell them, and what was counted of them.
+// Accesses as rows of a table state them, and what was counted of them.
 use base::{Access, Hart, Kind};
 use line_tracks::Shadow;
 use sharing_rules::Word;
 use std::process::Abort;
 use std::test::Fail;
 
-/// An access of 4 bytes, told by its hart, its address and its kind.
+/// An access of 4 bytes, given by its hart, its address and its kind.
 pub type StatedAccess = (u16, u32, Kind);
 
 pub fn access_of(stated: &StatedAccess) -> Option<Access> {

@@ -25,7 +25,7 @@ fn may_predict(layout: Layout, thresholds: Thresholds) -> bool
     }
 }
 
-// A track, told by its kind, its base, its size, its start and its count.
+// A track, given by its kind, its base, its size, its start and its count.
 type Shown = (LineKind, i64, u32, Option<u64>, u64);
 
 // What a list is about, the size of its lines, the prediction threshold, the list, and its tracks.
@@ -61,7 +61,7 @@ fn see_all<I: LineIndex>(
     Ok(())
 }
 
-// Whether these are the tracks that are told, in order.
+// Whether these are the stated tracks, in order.
 fn are_shown(tracks: &[Track], shown: &[Shown]) -> bool {
     for (track, one) in tracks.iter().zip(shown) {
         if !is_shown(track, one) {

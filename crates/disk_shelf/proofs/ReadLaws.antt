@@ -1,4 +1,4 @@
--- The files are told exactly as long as what was read is of them.
+-- The files are known exactly as long as what was read is of them.
 use Rattle.std.proofs.Common.{◌≡◌, ◌≤◌, ◌&&◌, ℕ, List, [], ◌∷◌, Bool, true, false, Some, None, length}
 use Rattle.std.proofs.Common.{take, refl}
 use Rattle.std.specs.Prelude.{if◌then◌else◌}
@@ -14,7 +14,7 @@ known_if : {A : Type 0} (b : Bool) (x : A) (P : A → Type 0) → (b ≡ true �
 known_if true x P h = h refl
 known_if false x P h = tt
 
--- where files are told after a reading, what was read is of them
+-- where files are known after a reading, what was read is of them
 pub known_read : (files : Files) (name : List ℕ) (at n : ℕ) (buffer : List ℕ) (before : List Done)
     → n ≤ length buffer
     → Known (held_by files (WasRead name at (length buffer) (take n buffer) ∷ before))
@@ -49,7 +49,7 @@ only_read files seen name at room bytes = record {
   given = (read_of name at room bytes ∷ [], refl);
 }
 
--- what was told is told after a reading, where what was read is of it
+-- what was known is known after a reading, where what was read is of it
 pub stays_known : (files : Files) (name : List ℕ) (at n : ℕ) (buffer : List ℕ) (before : List Done)
     → n ≤ length buffer
     → Known (held_by files before) (λ f. Reads (content f name) at n buffer

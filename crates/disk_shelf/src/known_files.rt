@@ -15,7 +15,7 @@ pub struct FileId {
 }
 
 impl FileId {
-    /// The file that the system tells of, if it is a regular one. In another, as a terminal or a
+    /// The file that the system describes, if it is a regular one. In another, as a terminal or a
     /// pipe, nothing stands that could be lost.
     pub fn of(metadata: &Metadata) -> Option<FileId>
         ensures { IsSome result ↔ IsFile (file_type metadata.now) }

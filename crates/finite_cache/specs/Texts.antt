@@ -22,7 +22,7 @@ comes_first x y =
     nat_lt y.unbounded x.unbounded
     || ((x.unbounded == y.unbounded) && int_lt x.range.base y.range.base)
 
--- the rows that are told, in order
+-- the reported rows, in order
 abbrev pub reported_rows : List CacheRow → List CacheRow
 reported_rows rows = in_order comes_first (filter is_reported rows)
 
@@ -35,14 +35,15 @@ abbrev pub row_line : CacheRow → List (List ℕ)
 row_line x =
     codes "line" ∷ address_text x.range.base ∷ count_words x.bounded x.unbounded x.evicted
 
--- the shape, and how many accesses and told lines there are
+-- the shape, and how many accesses and reported lines there are
 abbrev pub head_lines : CacheShape → ℕ → ℕ → List (List (List ℕ))
 head_lines k accesses lines =
     (codes "caches" ∷ decimal k.size ∷ decimal k.sets ∷ decimal k.ways ∷ [])
     ∷ (codes "accesses" ∷ decimal accesses ∷ [])
     ∷ (codes "lines" ∷ decimal lines ∷ []) ∷ []
 
--- the sums over all rows, those that aren't told with the others, and the evictions of all lines
+-- the sums over all rows, those that aren't reported with the others, and the evictions of all
+-- lines
 abbrev pub total_line : Totals → List (List ℕ)
 total_line x = codes "total" ∷ count_words x.bounded x.unbounded x.evicted
 

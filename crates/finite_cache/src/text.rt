@@ -31,7 +31,7 @@ fn order(one: &CacheRow, other: &CacheRow) -> Ordering
     }
 }
 
-// Puts a row behind the others, if it is told.
+// Puts a row behind the others, if it is reported.
 fn push_reported(rows: &mut Vec<CacheRow>, row: Option<CacheRow>) -> Result<(), NoMemory>
     ensures { OnOk result (rows.new.items ≡ rows.old.items
         ++ filter is_reported (option_to_list row)) }
@@ -44,7 +44,7 @@ fn push_reported(rows: &mut Vec<CacheRow>, row: Option<CacheRow>) -> Result<(), 
     Ok(())
 }
 
-// The rows that are told, in the order of first writes.
+// The reported rows, in the order of first writes.
 fn unsorted(alloc: Global, caches: &Caches) -> Result<Vec<CacheRow>, NoMemory>
     ensures { IfOk result (λ rows. rows.items ≡ filter is_reported
         (map (row_kept caches.now.shape caches.now.parts.lines) caches.now.parts.rows)) }
@@ -56,7 +56,7 @@ fn unsorted(alloc: Global, caches: &Caches) -> Result<Vec<CacheRow>, NoMemory>
     Ok(rows)
 }
 
-// The rows that are told, in their order.
+// The reported rows, in their order.
 fn sorted(alloc: Global, caches: &Caches) -> Result<Vec<CacheRow>, NoMemory>
     ensures { IfOk result (λ rows. rows.items ≡ reported_rows
         (map (row_kept caches.now.shape caches.now.parts.lines) caches.now.parts.rows)) }
@@ -194,7 +194,7 @@ fn write_kept(alloc: Global, caches: &Caches, total: Totals) -> Result<Vec<u8>, 
 /// The text of caches: their shape, of each line that is taken from a hart in unbounded caches its
 /// counts, the sums over all lines, and `end`.
 ///
-/// NoMemory comes where there is no memory for the text, or for the told rows and their sort.
+/// NoMemory comes where there is no memory for the text, or for the reported rows and their sort.
 pub fn write_caches(alloc: Global, caches: &Caches) -> Result<Vec<u8>, NoMemory>
     // for each list that they stand for, it is the text of the list
     ensures of_list { (t : AccessList) → StandsFor t caches.now

@@ -1,4 +1,4 @@
--- What the phases after each call tell its caller.
+-- What each call returns to its caller, by the phases after it.
 use Rattle.std.proofs.Common.{◌≡◌, ◌≢◌, ◌↔◌, ℕ, ◌<◌, ◌∙◌, Bool, true, false, List, length, map}
 use Rattle.std.proofs.Common.{get_or, set, refl, sym, ap, arith, None}
 use Rattle.std.proofs.Common.{Some}

@@ -52,7 +52,7 @@ pub noted-none : (l : Line) (from : ℕ) (u : List Sited) (k : LineInvalidations
     → k ≡ kept_of l from u → k ≡ kept_of l from (u ++ [])
 noted-none l from u k is = is ∙ ap (kept_of l from) (sym (append-nil u))
 
--- an access of which the explainer is told
+-- an access that the explainer notes
 pub noted-one : (l : Line) (from : ℕ) (u : List Sited) (old new : LineInvalidations) (s : Sited)
     → old ≡ kept_of l from u → new ≡ note_access old s → new ≡ kept_of l from (u ++ s ∷ [])
 noted-one l from u old new s is noted =

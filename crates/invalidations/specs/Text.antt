@@ -1,4 +1,4 @@
--- The text of what is told of a line, as lines of words.
+-- The text of what is reported of a line, as lines of words.
 use Rattle.std.specs.Prelude.{ℕ, pos, List, [], ◌∷◌, ◌++◌, codes, length, map, Option}
 use Rattle.std.specs.Fmt.{decimal}
 use Rattle.base.specs.Addresses.{address_text}
@@ -91,6 +91,6 @@ reported_lines ending symbols k = head_lines ending k ++ table_lines symbols k
 abbrev pub reported_text : Ending → List Symbol → LineInvalidations → List ℕ
 reported_text ending symbols k = text_of (reported_lines ending symbols k)
 
--- what is told of line l from a start on of a sited list that ended so
+-- what is reported of line l from a start on of a sited list that ended so
 abbrev pub explain_text : Ending → List Symbol → Line → ℕ → List Sited → List ℕ
 explain_text ending symbols l start u = reported_text ending symbols (kept_of l start u)

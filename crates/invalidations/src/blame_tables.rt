@@ -23,8 +23,8 @@ use base::NoMemory;
 use indexmap::IndexMap;
 use misses::Recent;
 
-/// Of a line the two accesses that tell the next invalidation, and how many invalidations there
-/// were.
+/// Of a line the two accesses that determine the next invalidation, and how many invalidations
+/// there were.
 #[derive(Clone, Copy, Debug)]
 pub struct LineTaken {
     pub two: LatestTwo,

@@ -1,4 +1,4 @@
-// The text of what an explainer tells.
+// The text of what an explainer reports.
 ghost use Rattle.std.specs.Prelude.{◌≡◌, ◌∷◌, ◌++◌, [], IfOk, List, OnOk, codes, map};
 ghost use Rattle.std.specs.Prelude.{option_map, pos};
 ghost use Rattle.std.specs.Fmt.{decimal};
@@ -241,7 +241,7 @@ fn text_of_rows(
     Ok(text.into_bytes())
 }
 
-/// What an explainer tells of its line, with how the run ended and the functions of its program:
+/// What an explainer reports of its line, with how the run ended and the functions of its program:
 /// its sites by rising pc; the pairs of instructions by invalidations falling; and the pairs of
 /// harts.
 ///

@@ -32,7 +32,7 @@ wastes_more x y =
     || ((x.costs.useful == y.costs.useful)
     && int_lt (range_of x.line).base (range_of y.line).base)))
 
--- the lines that are told, in order
+-- the reported lines, in order
 abbrev pub reported_rows : List Row → List Row
 reported_rows rows = in_order wastes_more (filter is_reported rows)
 
@@ -49,14 +49,14 @@ abbrev pub miss_lines : Objects → ℕ → Row → List TextLine
 miss_lines objects end x = miss_line x ∷ lines_on objects (range_of x.line) 0 end
 
 -- the layout, how many accesses there are, how many there were before a filtered trace was
--- filtered, and how many lines are told
+-- filtered, and how many lines are reported
 abbrev pub miss_heads : Grid → ℕ → Option ℕ → ℕ → List TextLine
 miss_heads g accesses whole lines =
     (codes "misses" ∷ decimal g.size ∷ decimal g.offset ∷ [])
     ∷ (codes "accesses" ∷ decimal accesses ∷ [])
     ∷ (whole_lines whole ++ (codes "lines" ∷ decimal lines ∷ []) ∷ [])
 
--- the sums over all lines, those that aren't told with the others
+-- the sums over all lines, those that aren't reported with the others
 abbrev pub total_line : Costs → TextLine
 total_line total = codes "total" ∷ cost_words total
 

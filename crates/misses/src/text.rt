@@ -31,7 +31,7 @@ fn order(one: &Row, other: &Row) -> Ordering
     }
 }
 
-// Puts a line behind the others, if it is told.
+// Puts a line behind the others, if it is reported.
 fn push_reported(rows: &mut Vec<Row>, row: Option<Row>) -> Result<(), NoMemory>
     ensures { OnOk result (rows.new.items ≡ rows.old.items
         ++ filter is_reported (option_to_list row)) }
@@ -44,7 +44,7 @@ fn push_reported(rows: &mut Vec<Row>, row: Option<Row>) -> Result<(), NoMemory>
     Ok(())
 }
 
-// The lines that are told, in the order of their first accesses.
+// The reported lines, in the order of their first accesses.
 fn unsorted(alloc: Global, misses: &Misses) -> Result<Vec<Row>, NoMemory>
     ensures { IfOk result (λ rows. rows.items
         ≡ filter is_reported (map (row_of misses.now.grid) misses.now.lines)) }
@@ -56,7 +56,7 @@ fn unsorted(alloc: Global, misses: &Misses) -> Result<Vec<Row>, NoMemory>
     Ok(rows)
 }
 
-// The lines that are told, in their order.
+// The reported lines, in their order.
 fn sorted(alloc: Global, misses: &Misses) -> Result<Vec<Row>, NoMemory>
     ensures { IfOk result (λ rows. rows.items
         ≡ reported_rows (map (row_of misses.now.grid) misses.now.lines)) }
@@ -86,7 +86,7 @@ fn push_line(text: &mut String, row: &Row) -> Result<(), AllocError>
     push_costs(text, row.costs)
 }
 
-// A told line, and what stands on it.
+// A reported line, and what stands on it.
 fn push_row(
     text: &mut String,
     row: &Row,
@@ -99,7 +99,7 @@ fn push_row(
     push_objects(text, index, row.line.range(), 0, end)
 }
 
-// The told lines.
+// The reported lines.
 fn push_rows(
     text: &mut String,
     rows: &[Row],
@@ -182,8 +182,8 @@ fn push_misses(
     push_ends(text, total)
 }
 
-/// The text of misses, with these sums over all lines, and of the objects on the lines that are
-/// told. Of a filtered trace it also says how many accesses the whole one has.
+/// The text of misses, with these sums over all lines, and of the objects on the reported lines. Of
+/// a filtered trace it also says how many accesses the whole one has.
 pub fn write_misses(
     alloc: Global,
     misses: &Misses,

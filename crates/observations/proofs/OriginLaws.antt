@@ -157,7 +157,7 @@ blocks_of_list items = by_push (λ done. All (IsBlockOf done) (objects_of done).
         (λ b was. block_on done x b (is_none b.died && ends_at b.addr x) was) old each))
         (blocks_made done x))
 
--- ---- each symbol was told by a record
+-- ---- each symbol comes from a record
 
 symbols_recorded : (all items : List TraceRecord) → All (Contains all) items
     → All (IsSymbolOf all) (symbols_in items)

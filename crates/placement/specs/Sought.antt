@@ -8,7 +8,7 @@ use Rattle.trace_format.specs.declared.record.TraceRecord.{TraceRecord}
 use Rattle.trace_format.specs.declared.record.TraceRecord.TheVariants as records
 use Rattle.placement.specs.declared.extent.Extent.{Extent}
 
--- where the object symbol of a record lies, if the record tells one of the name
+-- where the object symbol of a record lies, if the record states one of the name
 abbrev pub symbol_named : List ℕ → TraceRecord → Option Extent
 symbol_named name (records.Symbol kind addr size stated) =
     if is_same_kind kind Object && bytes_eq stated name

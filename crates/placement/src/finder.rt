@@ -29,7 +29,7 @@ pub struct Finder {
     pub ghost some: { IfSome symbol (λ e. 1 ≤ e.size) } by { Prim.hlevel props },
 }
 
-// Where the object symbol of a record lies, if it tells one of the name.
+// Where the object symbol of a record lies, if it states one of the name.
 fn symbol_of(name: &[u8], item: &TraceRecord) -> Option<Extent>
     requires { IsWritable item.now }
     ensures value { result ≡ symbol_named name.now item.now }
@@ -107,7 +107,7 @@ impl Finder {
         })
     }
 
-    // A record that may tell the symbol.
+    // A record that may state the symbol.
     fn note_symbol(&mut self, item: &TraceRecord)
         requires { IsWritable item.now }
         ensures symbol { self.new.symbol

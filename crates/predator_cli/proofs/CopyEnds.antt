@@ -74,7 +74,7 @@ rose_at [] before now rose = rose
 rose_at (n ∷ names) before now (inl rose) = inl rose
 rose_at (n ∷ names) before now (inr rose) = inr (rose_at names before now rose)
 
--- where nothing is told
+-- where nothing is known
 unknown : {A : Type 0} (P : A → Type 0) (o : Option A) → o ≡ None → Known o P
 unknown {A = A} P o none = subst (λ (x : Option A). Known x P) (sym none) tt
 
@@ -210,7 +210,7 @@ module _ (d : Demand) (name : List ℕ) (text : Trace → List ℕ) (outputs : T
         writes = failed.stopped.cause.write_quiet unwritten;
       }
 
-      -- or it was refused once the copies were begun, and nothing is told any more
+      -- or it was refused once the copies were begun, and nothing is known any more
       changed_faulty : (s : Status) → IsRefusal s → b.held ≡ None → fault ≢ ReadFault
           → fault ≢ WriteFault → IsFaulty (Some d) a b s
       changed_faulty s judged none other unwritten =

@@ -127,7 +127,7 @@ at_done : (P : Demand → Files → Type 0) (k : Kind) (demand : Demand) (files 
     → WhereDone P (Some demand) files k
 at_done P k demand files is holds = rw is holds
 
--- what is told of what was done, once a text is printed behind it
+-- what is known of what was done, once a text is printed behind it
 printed_texts : (demand : Demand) (a b d : Outside) (s : Status) (text : List ℕ)
     → IsWorked demand a b s text
     → OnlyPrints b d

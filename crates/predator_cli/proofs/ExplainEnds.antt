@@ -1,4 +1,4 @@
--- How the command ends that tells of one line of a run.
+-- How the command ends that explains one line of a run.
 use Rattle.std.proofs.Common.{◌≡◌, List, Ok, ap, refl, sym, ◌∙◌}
 use Rattle.std.specs.Prelude.{IsTrue}
 use Rattle.base.specs.Lines.{is_layout}

@@ -12,7 +12,7 @@ use Rattle.predator_cli.specs.Written.{StandsWhole, Writes}
 use Rattle.shelf.specs.Files.{AreWhole}
 use Rattle.shelf.specs.Shelf.{Adds, Files, Goes, Outside, Known}
 
--- what is told holds of these contents
+-- what is known holds of these contents
 passed_of : (P : Files → Type 0) (files : Files) (seen : Seen) → AgreesWith files seen
     → Known (held_by files seen.done) P
     → P files

@@ -149,7 +149,7 @@ symbols_few file short = few_in file (find is_symbols (section_headers file)) sh
 
 -- ---- their records
 
--- one symbol more is told
+-- one symbol more is recorded
 pub listed_more : (before after : List TraceRecord) (stated : TraceRecord) (symbols next : List Symbol)
     (s : Symbol) (all : List TraceRecord)
     → after ≡ before ++ stated ∷ [] → stated ≡ symbol_record s → symbols ≡ s ∷ next

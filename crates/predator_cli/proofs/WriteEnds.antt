@@ -87,14 +87,14 @@ written_cut outputs a b written = record {
 
 -- ---- how the command ends
 
--- what is known of what is told to be held, before the files are written and behind: all that is
--- read is accepted, and so is the work
+-- what is known of the held files, before the files are written and behind: all that is read is
+-- accepted, and so is the work
 pub record IsToWrite (d : Demand) (w : Work) (held : Option Files) : Type 0 where
   pub accepts : Known held (λ files. first_refusal (readings_of d) files ≡ None)
   pub works : Known held (λ files. work_of d files ≡ w)
   pub names : names_in w.outputs ≡ outputs_of d
 
--- it is known still where less is told
+-- it stays known where less is known
 pub still_to_write : (d : Demand) (w : Work) (o n : Option Files) → Narrows o n → IsToWrite d w o
     → IsToWrite d w n
 still_to_write d w o n narrow ready = record {

@@ -1,5 +1,5 @@
 -- What is promised of a run: the replay of the trace that it wrote, and what a trace with pcs
--- tells.
+-- records.
 use Rattle.std.specs.Prelude.{◌≡◌, ℕ, true, false, List, map, Option, Some, None}
 use Rattle.command_line.specs.Replay.{ReplayDemand}
 use Rattle.command_line.specs.Run.{RunDemand}
@@ -46,12 +46,12 @@ ReplayRepeatsRun demand files =
 
 -- ---- the trace with pcs
 
--- the same run, whose trace tells no pcs
+-- the same run, whose trace records no pcs
 abbrev pub without_sites : RunDemand → RunDemand
 without_sites demand = record demand { pcs = false }
 
 -- A trace has the records of the trace without pcs but for the pcs, and its accesses with their pcs
--- are the sited list of the run, of which `explain` tells; as `blame` reads them, too.
+-- are the sited list of the run, of which `explain` reports; as `blame` reads them, too.
 pub record RecordsSites (demand : RunDemand) (settings : Settings) (files : Files) (t : Trace) :
     Type 0 where
   pub header : t.header ≡ (trace_for_demand (without_sites demand) settings files).header

@@ -37,7 +37,7 @@ pub record Command : Type 1 where
   pub work : Files → Work
   -- when it begins to write, and what a refusal leaves then
   pub manner : Manner
-  -- what other commands repeat of it or of its files, or tell alike, once its work is done
+  -- what other commands repeat of it or of its files, or report alike, once its work is done
   pub repeats : Files → Type 0
   -- it makes at most as many steps as its budget has
   pub within : Files → Type 0

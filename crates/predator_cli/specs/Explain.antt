@@ -1,4 +1,4 @@
--- The command `explain`: what it reads, and what it tells of one line of a run.
+-- The command `explain`: what it reads, and what it reports of one line of a run.
 use Rattle.std.specs.Prelude.{◌≡◌, false, List, [], None}
 use Rattle.command_line.specs.Explain.{ExplainDemand}
 use Rattle.command_line.specs.Run.{RunDemand}
@@ -30,7 +30,7 @@ as_run demand = record {
 abbrev pub explain_readings : ExplainDemand → List Reading
 explain_readings demand = run_readings (as_run demand)
 
--- what is told of the line in a run of a program with these symbols
+-- what is reported of the line in a run of a program with these symbols
 abbrev pub explained : ExplainDemand → List TraceRecord → Run → Work
 explained demand symbols r = record {
   status = status_for r.ending.outcome;

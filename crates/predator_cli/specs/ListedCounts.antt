@@ -1,4 +1,4 @@
--- What is promised of `explain`: of a line that a run of the same files lists, it tells the count
+-- What is promised of `explain`: of a line that a run of the same files lists, it reports the count
 -- that is listed.
 use Rattle.std.specs.Prelude.{◌≡◌, ℕ, Bool, List, ◌∷◌, ◌++◌, Option, None}
 use Rattle.base.specs.TextLines.{text_of}
@@ -36,7 +36,7 @@ ReportsCount l start count text = (ending : Ending) × (rest : List TextLine) ×
     (text ≡ text_of ((title_line ∷ outcome_lines ending) ++ counted_line l start count ∷ rest))
 
 -- Where a run of the same files lists a line with the base, the size and the start that are asked
--- about, the count that is told is the one that it lists.
+-- about, the count that is reported is the one that it lists.
 abbrev pub ReportsListedCount : ExplainDemand → Files → Type 0
 ReportsListedCount demand files =
     let l = line_at demand.layout demand.base in

@@ -29,7 +29,7 @@ records_of bytes = option_map_or all_records (trace_of bytes) []
 abbrev pub records_for : PlaceDemand → Files → List TraceRecord
 records_for demand files = records_of (content files demand.trace)
 
--- the text of the placement, or why no place is told
+-- the text of the placement, or why no place is reported
 abbrev pub place_work : PlaceDemand → Files → Work
 place_work demand files =
     done_or_refused (result_map_both (λ text. text) status.Place

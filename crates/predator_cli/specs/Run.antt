@@ -117,7 +117,7 @@ pub record HasNameAndSize (s : Symbol) : Type 0 where
   pub some : 1 ≤ s.size
   pub no_zero : All (λ b. b ≢ 0) s.name
 
--- a symbol as a trace tells it: its name is cut
+-- a symbol as a trace records it: its name is cut
 abbrev pub symbol_record : Symbol → TraceRecord
 symbol_record s = records.Symbol s.kind s.addr s.size (name_of s.name)
 

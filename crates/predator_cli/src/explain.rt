@@ -76,7 +76,7 @@ fn run_of<'a>(options: &ExplainOptions<'a>) -> RunOptions<'a>
     }
 }
 
-// The run of a guest that is loaded, and what is told of the line.
+// The run of a guest that is loaded, and what is reported of the line.
 fn watch(alloc: Global, options: &ExplainOptions<'_>, loaded: Loaded) -> Result<Explained, NoMemory>
     requires allowed { IsAllowed loaded.settings }
     requires budget { loaded.guest.setup.budget ≡ loaded.settings.budget }
@@ -91,7 +91,7 @@ fn watch(alloc: Global, options: &ExplainOptions<'_>, loaded: Loaded) -> Result<
     explain_run(alloc, guest, line, options.start, &table)
 }
 
-// Runs a guest, and prints what is told of the line.
+// Runs a guest, and prints what is reported of the line.
 fn explain_loaded<S: Shelf>(
     alloc: Global,
     options: &ExplainOptions<'_>,

@@ -99,7 +99,7 @@ fn count_moved<S: Shelf>(
     }
 }
 
-// What is told of a plan for the object that is meant.
+// What is reported of a plan for the object that is meant.
 fn print_plan<S: Shelf>(
     alloc: Global,
     options: &PlaceOptions<'_>,
@@ -128,7 +128,7 @@ fn print_plan<S: Shelf>(
     }
 }
 
-// What is told of the object that is meant.
+// What is reported of the object that is meant.
 fn print_object<S: Shelf>(
     alloc: Global,
     options: &PlaceOptions<'_>,
@@ -157,7 +157,7 @@ fn print_object<S: Shelf>(
     }
 }
 
-// What is told, from the first reading on.
+// What is reported, from the first reading on.
 fn print_place<S: Shelf>(
     alloc: Global,
     options: &PlaceOptions<'_>,
@@ -179,8 +179,8 @@ fn print_place<S: Shelf>(
     }
 }
 
-/// Tells a new place for each word of an object in the trace of a name, by who touches it, and what
-/// the accesses come to then. The trace is read three times.
+/// Reports a new place for each word of an object in the trace of a name, by who touches it, and
+/// what the accesses come to then. The trace is read three times.
 pub fn place<S: Shelf>(alloc: Global, options: &PlaceOptions<'_>, shelf: &mut S) -> Status
     requires { IsTrue (is_line_size options.now.size) }
     ensures { Meets (Some (asks (place_meaning options.now)))

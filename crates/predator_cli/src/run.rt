@@ -58,7 +58,7 @@ pub fn status_of(outcome: Outcome) -> Status
     }
 }
 
-/// A program in memory, and its symbols as its trace tells them.
+/// A program in memory, and its symbols as its trace records them.
 #[derive(Drop)]
 pub struct Loading {
     /// Its image.

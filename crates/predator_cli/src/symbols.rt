@@ -1,4 +1,4 @@
-// The symbols of a program, as its trace tells them.
+// The symbols of a program, as its trace records them.
 ghost use Rattle.std.specs.Prelude.{◌≡◌, ◌≤◌, ◌≢◌, IfOk, map};
 ghost use Rattle.std.specs.List.{All};
 ghost use Rattle.base.specs.Names.{name_of};
@@ -12,7 +12,7 @@ use program_files::Symbols;
 use std::alloc::Global;
 use trace_format::TraceRecord;
 
-// A symbol of some bytes, as a trace tells it: of a name of more than 1024 bytes the first 1024.
+// A symbol of some bytes, as a trace records it: of a name of more than 1024 bytes the first 1024.
 fn record_of(
     alloc: Global,
     kind: SymbolKind,

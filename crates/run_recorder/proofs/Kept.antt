@@ -259,7 +259,7 @@ few_touches (e ∷ events) =
 
 -- ---- the end
 
--- the end of a run may be told in a trace
+-- the end of a run may be recorded in a trace
 pub allowed_end : (harts steps : ℕ) (o : Outcome) → IsEndOf harts o → IsAllowedEnd steps o
 allowed_end harts steps (Exit code) is = tt
 allowed_end harts steps Budget is = tt

@@ -1,4 +1,4 @@
--- What a trace with pcs tells beside one without: the same records but for the pcs, and the pcs.
+-- What a trace with pcs records beside one without: the same records but for the pcs, and the pcs.
 use Rattle.std.proofs.Common.{◌≡◌, ◌∙◌, ℕ, List, [], ◌∷◌, ◌++◌, None, refl, sym, ap}
 use Rattle.std.proofs.lemmas.List.{map-append}
 use Rattle.std.proofs.lemmas.List.Elements.{filter_map-append}

@@ -1,4 +1,4 @@
-// The law of what a trace with pcs tells.
+// The law of what a trace with pcs records.
 ghost use Rattle.std.specs.Prelude.{◌≡◌, ℕ, List, Some};
 ghost use Rattle.std.specs.List.{All};
 ghost use Rattle.guest.specs.Runs.{Run};

@@ -117,7 +117,7 @@ fn is_in_time(start: u64, count: u64, position: u64) -> bool
     }
 }
 
-// What a head tells with a start, or with none.
+// What a head states with a start, or with none.
 fn head_with(layout: Layout, start: Option<(u64, History)>, bytes: &[u8]) -> TrackHead
     requires { 32 ≤ length bytes.now }
     ensures kind { result.kind ≡ kind_of (slice_index bytes.now 0) }

@@ -15,7 +15,7 @@ pub record Waiting : Type 0 where
 abbrev pub kept_of : List ℕ → List ℕ
 kept_of bytes = if nat_lt (length bytes) 65536 then bytes else []
 
--- the name has a written file, where files are told
+-- the name has a written file, where files are known
 abbrev pub IsBegun : List ℕ → Outside → Type 0
 IsBegun name outside = ForSome outside.written (λ files. IsSome (files name))
 

@@ -25,7 +25,7 @@ pub struct Failing {
     pub keep: u32,
 }
 
-/// Files and a printed text in memory. It tells everything.
+/// Files and a printed text in memory. All of these are known.
 ///
 /// A call answers `Failed` exactly where its number is among those that are to fail, or where it
 /// reads a name that isn't held. It counts its faults by kind, for all names alike. A number of

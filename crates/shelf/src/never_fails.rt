@@ -11,7 +11,7 @@ use crate::files::read_file;
 use crate::read_log::{ReadBytes, ReadLog};
 use crate::{HeldFile, Shelf, ShelfError};
 
-/// Files in memory that are read without a fault. It tells these files alone: what is written or
+/// Files in memory that are read without a fault. These files alone are known: what is written or
 /// printed is dropped. Its calls take no memory and always answer Ok.
 #[derive(Drop)]
 pub struct NeverFails {

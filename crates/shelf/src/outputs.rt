@@ -85,8 +85,8 @@ impl<'a> Outputs<'a> {
     ///
     /// At an error each file is a front of all that was put into it, these bytes included, and none
     /// has lost what was written to it. `Failed` comes only where the faults of writing one of the
-    /// names rose, `NoMemory` for want of memory. The condition is that each file is begun, where the
-    /// shelf tells what is written.
+    /// names rose, `NoMemory` for want of memory. The condition is that each file is begun, where
+    /// what is written is known.
     #[inline]
     pub fn put<S: Shelf>(
         &mut self,
@@ -120,8 +120,8 @@ impl<'a> Outputs<'a> {
     ///
     /// At an error each file is a front of all that was put into it, and none has lost what was
     /// written to it. `Failed` comes only where the faults of writing one of the names rose,
-    /// `NoMemory` for want of memory. The condition is that each file is begun, where the shelf tells
-    /// what is written.
+    /// `NoMemory` for want of memory. The condition is that each file is begun, where what is
+    /// written is known.
     pub fn finish<S: Shelf>(&mut self, shelf: &mut S) -> Result<(), ShelfError>
         requires { AreBegun (names_of self.old) (S.outside shelf.old) }
         ensures count { OnOk result (length self.new ≡ length self.old) }

@@ -117,10 +117,10 @@ fn read_pieces<S: Shelf>(
 /// condition is a limit below 2^63.
 ///
 /// `ReadFault` comes only where the shelf's faults of reading this name rose in this call;
-/// `TooLong` exactly where the shelf gave `limit + 1` bytes, which where the shelf still tells its
-/// files are the bytes of a longer one; `NoMemory` for want of memory. Nothing of the shelf changes
-/// but its faults of reading, which stay at each other answer than `ReadFault`, and that its files
-/// may be told no more.
+/// `TooLong` exactly where the shelf gave `limit + 1` bytes, which where the shelf's files are
+/// still known are the bytes of a longer one; `NoMemory` for want of memory. Nothing of the shelf
+/// changes but its faults of reading, which stay at each other answer than `ReadFault`, and that
+/// its files may be known no more.
 pub fn fetch<S: Shelf>(
     alloc: Global,
     shelf: &mut S,

@@ -16,7 +16,7 @@ groups_taken z = grind (arith, nat_tests)
 few_more : (z a b : ℕ) → z ≤ a + b + 1 → taken z ≤ taken a + taken b + 1
 few_more z a b within = grind (arith, nat_tests)
 
--- a distance as it is told, by how far up it is
+-- a distance as it is recorded, by how far up it is
 abbrev stated : ℕ → ℕ
 stated up = cond (ltb up (2 ^ 31)) (2 * up) (2 * (2 ^ 32 - up) - 1)
 

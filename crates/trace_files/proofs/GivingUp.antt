@@ -137,7 +137,7 @@ none_held : (near : ℕ) (table : List Move) (seen : List TraceRecord) (fault : 
 none_held near table seen fault none first =
     let no_one : None ≡ Some fault = ap (first_fault near table) (sym none) ∙ first in absurd cc
 
--- the bytes where an access is refused, or all that are told behind them
+-- the bytes where an access is refused, or all that are known behind them
 held_by : (held : Option Files) (trace file : List ℕ) (table : List Move) (bytes : List ℕ)
     → Known held (λ fs. IsFront (content fs trace) bytes) → (before now : Outside)
     (fault : MoveFault)

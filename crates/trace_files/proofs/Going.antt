@@ -58,7 +58,7 @@ module _ {A : Type 0} (waiting : A → List Waiting) (files : A → List TraceRe
           (sym to.files_stay) (to.outputs way.seen way.before way.came way.outputs);
     }
 
--- What was read stands as long as its file is told.
+-- What was read stands as long as its file is known.
 come_still : (o n : Option Files) (name bytes : List ℕ) (cursor : Reached) → Narrows o n
     → HasCome o name unfiltered bytes cursor → HasCome n name unfiltered bytes cursor
 come_still o n name bytes cursor narrow come = record {

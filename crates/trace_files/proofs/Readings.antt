@@ -41,7 +41,7 @@ seen_more items i x below is seen =
 pub first_none : (held : Option Files) (name : List ℕ) → AreFirst held name []
 first_none held name = if_known held (λ files. ((reading_of (content files name)).0, refl))
 
--- they are the first ones as long as their file is told
+-- they are the first ones as long as their file is known
 pub first_still : (o n : Option Files) (name : List ℕ) (seen : List TraceRecord) → Narrows o n
     → AreFirst o name seen → AreFirst n name seen
 first_still o n name seen narrow first =

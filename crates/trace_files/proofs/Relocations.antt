@@ -281,7 +281,7 @@ module _ (table : List Move) (trace file : List ℕ) (m : Mover) (cursor : Reach
         (subst (λ (h : Option (Version × Header)). P m.name.now h (reading_of all).0 old) head_is
         (subst (λ (l : List TraceRecord). P m.name.now head l old) all_is here))
 
--- the bytes that were read are the first of the name's, as long as these are told
+-- the bytes that were read are the first of the name's, as long as these are known
 pub front_still : (o n : Option Files) (trace bytes : List ℕ) → n ≡ o
     → Known o (λ fs. IsFront (content fs trace) bytes)
     → Known n (λ fs. IsFront (content fs trace) bytes)

@@ -55,7 +55,7 @@ pub halves_more : Grows → (cut : ℕ) (seen : List TraceRecord) (item : TraceR
 halves_more grows cut seen item side is =
     grows cut seen item ∙ ap (λ (s : Side). put_behind s item (halves_of cut seen)) (sym is)
 
--- the splitter's count of what it met is not told in the files
+-- the splitter's count of what it met is not stated in the files
 pub same_files : (first second : List ℕ) (v : Version) (old new : Split) → SameCut old new
     → halves_so_far first second v new ≡ halves_so_far first second v old
 same_files first second v old new same = λ i seen.

@@ -226,12 +226,12 @@ short_other held name files seen waiting before now refusal first on =
     (passes.Refused refusal)
     (record { later = λ n. omega arith; failed = λ e. absurd cc; quiet = λ e. refl })
 
--- ---- two readings of what is told
+-- ---- two readings of what is known
 
 pub same_trace : (a b : Trace) (x : Option Trace) → x ≡ Some a → x ≡ Some b → a ≡ b
 same_trace a b x one two = let both : Some a ≡ Some b = sym one ∙ two in cc
 
--- the parts of the trace that is told
+-- the parts of the trace that is known
 pub known_parts : (held : Option Files) (name : List ℕ) (first : Passed) → IsAccepted held name first
     → Known held (λ files. (t : Trace) → trace_of (content files name) ≡ Some t
     → (items : List TraceRecord) × (t ≡ trace_with first items))
@@ -242,7 +242,7 @@ known_parts held name first accepted =
           (ap trace_of (sym same) ∙ accepted.is),
     )) accepted.whole
 
--- two readings tell the same parts, where the bytes are told
+-- two readings give the same parts, where the bytes are known
 pub same_parts : (held : Option Files) (name : List ℕ) (first second : Passed) (bytes : List ℕ)
     (items : List TraceRecord)
     → IsAccepted held name first → Known held (λ files. bytes ≡ content files name)
@@ -264,7 +264,7 @@ unknown (Some files) P holds never = absurd (never holds)
 
 -- ---- an accepted trace
 
--- it is accepted as long as its bytes are told
+-- it is accepted as long as its bytes are known
 pub accepted_still : (o n : Option Files) (name : List ℕ) (first : Passed) → Narrows o n
     → IsAccepted o name first → IsAccepted n name first
 accepted_still o n name first narrow accepted = record {
@@ -284,7 +284,7 @@ known_accepted held name first accepted =
     (trace_with first accepted.items) accepted.is accepted.plain)
     accepted.whole
 
--- it isn't refused where its bytes are told
+-- it isn't refused where its bytes are known
 pub never_refused : (held : Option Files) (name : List ℕ) (first : Passed)
     → IsAccepted held name first → (refusal : Refusal)
     → Known held (λ files. refusal_of unfiltered (content files name) ≡ Some refusal) → held ≡ None

@@ -110,7 +110,7 @@ difference first second =
     (Some second.header))
     (count_difference first.ending.accesses second.ending.accesses))
 
--- what is told of a trace that was read
+-- what is stated of a trace that was read
 abbrev pub passed_of : Trace → Passed
 passed_of t = record { version = t.version; header = t.header; ending = t.ending }
 
@@ -128,8 +128,8 @@ IsOther name first refusal before now =
 
 -- ---- what a call says
 
--- There are bytes, the held ones of the name where these are still told, that are a trace, of which
--- this is told, and whose outputs are written.
+-- There are bytes, the held ones of the name where these are still known, that are a trace, of
+-- which this is stated, and whose outputs are written.
 pub record HasCopied (held : Option Files) (name : List ℕ) (outputs : Trace → List Output)
     (says : Trace → Type 0)
     (before now : Outside) : Type 0 where
@@ -168,7 +168,7 @@ pub record HasCopyCause (name : List ℕ) (outputs : List (List ℕ)) (before no
   pub write_quiet : fault ≢ WriteFault → now.write_faults ≡ before.write_faults
 
 -- A copy gave up. Its outputs are begun in their order, each a front of its bytes, where the trace is
--- still told, and each other file is as it was; it is known who is the cause.
+-- still known, and each other file is as it was; it is known who is the cause.
 pub record HasStopped (held : Option Files) (name : List ℕ) (names : List (List ℕ))
     (outputs : Trace → List Output)
     (before now : Outside) (fault : CopyFault) : Type 0 where

@@ -72,8 +72,8 @@ pub record HasSplit (s : Splitting) (seen : List TraceRecord) : Type 0 where
 
 -- ---- two readings
 
--- There are bytes, the held ones where these are told, that are a trace of these parts, which isn't
--- filtered.
+-- There are bytes, the held ones where these are known, that are a trace of these parts, which
+-- isn't filtered.
 pub record IsAccepted (held : Option Files) (name : List ℕ) (passed : Passed) : Type 0 where
   pub bytes : List ℕ
   pub whole : Known held (λ files. bytes ≡ content files name)
@@ -89,7 +89,7 @@ pub record HasChanged (name : List ℕ) (refusal : Refusal) (before now : List G
   pub accepted : HasShown name (HasParts first) before between
   pub other : IsOther name first refusal between now
 
--- two readings told the same version, header and number of accesses
+-- two readings stated the same version, header and number of accesses
 pub record AreAlike (first second : Passed) : Type 0 where
   pub version : second.version ≡ first.version
   pub header : second.header ≡ first.header
@@ -104,7 +104,7 @@ pub record IsUnderWay (waiting : List Waiting) (files : List TraceRecord → Lis
   pub came : has seen
   pub outputs : IsOutputs waiting (files seen) before now
 
--- All records of a trace came to the target, which the held bytes are where these are still told.
+-- All records of a trace came to the target, which the held bytes are where these are still known.
 pub record IsCopied (held : Option Files) (name : List ℕ) (passed : Passed)
     (files : List TraceRecord → List Output)
     (has : List TraceRecord → Type 0) (waiting : List Waiting)
@@ -116,7 +116,7 @@ pub record IsCopied (held : Option Files) (name : List ℕ) (passed : Passed)
   pub came : has (all_records (trace_with passed items))
   pub outputs : IsOutputs waiting (files (all_records (trace_with passed items))) before now
 
--- these are the first records that the held bytes have, where these are told
+-- these are the first records that the held bytes have, where these are known
 abbrev pub AreFirst : Option Files → List ℕ → List TraceRecord → Type 0
 AreFirst held name seen =
     Known held (λ files. (more : List TraceRecord)

@@ -125,7 +125,7 @@ pub record HasMoveCause (name file : List ℕ) (before now : Outside) (fault : M
     pub read_quiet : fault ≢ ReadFault → now.read_faults ≡ before.read_faults
     pub write_quiet : fault ≢ WriteFault → now.write_faults ≡ before.write_faults
 
--- It gave up. The file is a front of what is written of the bytes, where these are told, and each
+-- It gave up. The file is a front of what is written of the bytes, where these are known, and each
 -- other file is as it was; it is known who is the cause.
 pub record HasGivenUp (held : Option Files) (name file : List ℕ) (table : List Move)
     (before now : Outside) (fault : MoveFault) : Type 0 where
@@ -139,7 +139,7 @@ pub record HasGivenUp (held : Option Files) (name file : List ℕ) (table : List
   pub print_faults : now.print_faults ≡ before.print_faults
 
 -- The bytes are refused so, and all is written that is written of them; they are the held ones of
--- the name, where these are told.
+-- the name, where these are known.
 pub record IsRefused (held : Option Files) (name file : List ℕ) (table : List Move)
     (before now : Outside) (fault : MoveFault) : Type 0 where
   pub bytes : List ℕ

@@ -48,7 +48,7 @@ fn unfiltered() -> Wanted
     }
 }
 
-// Sees nothing: the first reading judges, and its end tells how many accesses there are.
+// Sees nothing: the first reading judges, and its end states how many accesses there are.
 #[derive(Clone, Copy)]
 struct Unseeing;
 

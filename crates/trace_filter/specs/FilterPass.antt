@@ -84,7 +84,7 @@ pub record HasFilterCause (name file : List ℕ) (before now : Outside) (fault :
     pub write_quiet : fault ≢ WriteFault → now.write_faults ≡ before.write_faults
 
 -- The bytes are refused so, and all is written that is written of them; they are the held ones of
--- the name, where these are told.
+-- the name, where these are known.
 pub record IsRefused (held : Option Files) (name file : List ℕ) (k : ℕ) (before now : Outside)
     (refusal : Refusal) : Type 0 where
   pub bytes : List ℕ
@@ -92,9 +92,9 @@ pub record IsRefused (held : Option Files) (name file : List ℕ) (k : ℕ) (bef
   pub refused : refusal_of sited bytes ≡ Some refusal
   pub written : AreWritten (written_of k file bytes) before now
 
--- It gave up. The file is a front of what is written of the bytes, where these are told, and each
--- other file is as it was; it is known who is the cause. Where the trace is refused, the file is all
--- that is written of it.
+-- It gave up. The file is a front of what is written of the bytes, where these are known, and each
+-- other file is as it was; it is known who is the cause. Where the trace is refused, the file is
+-- all that is written of it.
 pub record HasGivenUp (held : Option Files) (name file : List ℕ) (k : ℕ) (before now : Outside)
     (fault : FilterFault) : Type 0 where
   pub fronts : Known held (λ files. Goes before.written now.written

@@ -378,7 +378,7 @@ no_zero_found (b ∷ bs) none =
     let other : eqb 0 b ≡ false = both.0 in
     All-cons (λ b. b ≢ 0) b bs (λ zero. grind (arith, nat_tests)) (no_zero_found bs both.1)
 
--- a symbol has as many bytes as it tells
+-- a symbol has as many bytes as it states
 long_enough : (bytes : List ℕ) → length bytes ≡ symbol_extent bytes → number_at w16 10 bytes ≤ 1024
     → length bytes ≡ 12 + number_at w16 10 bytes
 unfolding symbol_extent

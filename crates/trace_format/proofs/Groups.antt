@@ -1,4 +1,4 @@
--- Numbers that are told in groups.
+-- Numbers that are stated in groups.
 use Rattle.std.proofs.Common.{◌≡◌, ℕ, ◌+◌, ◌^◌, ◌<◌, ◌≤◌, true, List, [], ◌∷◌, length, take, drop}
 use Rattle.std.proofs.Common.{sym, ap, ◌∙◌, arith}
 use Rattle.std.proofs.lemmas.Bool.Decides.{nat_tests}
@@ -6,7 +6,7 @@ use Rattle.std.proofs.lemmas.List.{drop-take}
 use Rattle.trace_format.specs.Ahead.{HasNumber, HasNumberAt}
 use Rattle.trace_format.specs.Numbers.{are_groups, group_count, number_in}
 
--- Groups that a number below 2^32 is spelled in tell such a number.
+-- Groups in which a number below 2^32 is spelled state such a number.
 pub small_number : (stated : List ℕ) → length stated ≤ 5 → are_groups stated ≡ true
     → number_in stated < 2 ^ 32
 small_number [] few good = omega arith

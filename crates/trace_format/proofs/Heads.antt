@@ -1,4 +1,4 @@
--- What a header tells stays told, and is what the bytes have.
+-- What a header states stays known, and is what the bytes have.
 use Rattle.std.proofs.Common.{◌≡◌, ℕ, List, ◌++◌, Option, Some, None, IsSome, refl, sym, ap, subst}
 use Rattle.std.proofs.Common.{◌∙◌}
 use Rattle.trace_format.specs.declared.read_so_far.ReadSoFar.{ReadSoFar}
@@ -18,13 +18,13 @@ same_both p q r first later = record {
       first.header ∙ later.header;
 }
 
--- what tells as a header that is told tells too
+-- a state with the same header as one that has a header has it too
 pub stated_too : (p q : Option ReadSoFar) → SameHead p q → IsSome q → IsSome p
 stated_too (Some p) q same some = refl
 stated_too None None same some = some
 stated_too None (Some q) same some = let version = same.version in cc
 
--- nothing is told that was not told before
+-- nothing is known that was not known before
 pub as_before : (old new : Reading) (bytes : List ℕ) → new.progress ≡ old.progress
     → KeepsHead old bytes new
 as_before old new bytes is =
@@ -37,7 +37,7 @@ as_before old new bytes is =
           (subst (λ (p : Option ReadSoFar). IsSome p) is some)));
     }
 
--- what tells the same
+-- a state with the same progress keeps the header too
 pub keeps_with : (old mid new : Reading) (bytes : List ℕ) → new.progress ≡ mid.progress
     → KeepsHead old bytes mid
     → KeepsHead old bytes new
@@ -50,7 +50,7 @@ keeps_with old mid new bytes is keeps =
           (keeps.stated (subst (λ (p : Option ReadSoFar). IsSome p) is some));
     }
 
--- a header that was told in a front of the bytes
+-- a header that was known from a front of the bytes
 pub keeps_longer : (old new : Reading) (piece front back : List ℕ) → piece ≡ front ++ back
     → KeepsHead old front new
     → KeepsHead old piece new

@@ -44,7 +44,7 @@ use Rattle.trace_format.specs.Rules.{last_position}
 abbrev pub header_length : ℕ
 header_length = 20
 
--- A symbol's name is as long as it tells. One that is too long is judged without it.
+-- A symbol's name is as long as the symbol states. One that is too long is judged without it.
 unfoldable pub symbol_extent : List ℕ → ℕ
 symbol_extent bytes =
     if nat_lt (length bytes) 12 then 12
@@ -64,7 +64,7 @@ abbrev pub end_extent : Version → ℕ
 end_extent Four = 33
 end_extent _ = 25
 
--- a record of a tag, as far as its bytes tell
+-- a record of a tag, as far as its bytes state it
 abbrev pub extent_of : Version → Tag → List ℕ → ℕ
 extent_of v (tags.Touch kind) bytes = 8
 extent_of v (tags.ShortTouch kind size) bytes = short_touch_extent bytes
@@ -284,7 +284,7 @@ touch_counted p (Err fault) = Err fault
 touch_counted p (Ok sited) = if nat_lt (p.header.first + p.counted) last_position then Ok
     (records.Touch sited.0 sited.1) else Err faults.TooLong
 
--- An end that is good in itself tells how many accesses there were.
+-- An end that is good in itself states how many accesses there were.
 abbrev pub end_counted : ReadSoFar → List ℕ → Result Outcome TraceFault
     → Result TraceRecord TraceFault
 end_counted p bytes (Err fault) = Err fault

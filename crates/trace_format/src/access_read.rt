@@ -102,7 +102,7 @@ fn with_group(byte: u8, above: u64) -> u64
     u64::from(byte % 128) + 128 * above
 }
 
-// The number that groups tell.
+// The number that groups state.
 #[inline(always)]
 fn number_in(stated: &[u8]) -> u64
     requires some { 1 ≤ length stated.now }
@@ -190,7 +190,7 @@ pub(crate) fn without_pc(
     }
 }
 
-// An access, and the pc that the groups behind it tell.
+// An access, and the pc that the groups behind it state.
 #[tactic(auto, using(crate::proofs::Groups::small_number))]
 #[inline(always)]
 fn with_pc(

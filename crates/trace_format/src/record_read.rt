@@ -99,7 +99,7 @@ fn counted(
     }
 }
 
-// How many accesses the list had before it was filtered, where the version tells.
+// How many accesses the list had before it was filtered, where the version states it.
 fn whole_at(version: Version, bytes: &[u8]) -> Option<u64>
     requires { end_extent version ≤ length bytes.now }
     ensures { result ≡ whole_at version bytes.now }

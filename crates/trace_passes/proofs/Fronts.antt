@@ -113,7 +113,7 @@ stops_there w bytes buffer at n size fits sited stops =
           omega (arith, size, few, length-take-le n buffer fits);
     }
 
--- what was read stands as long as its file is told
+-- what was read stands as long as its file is known
 pub come_still : (o n : Option Files) (name : List ℕ) (w : Wanted) (bytes : List ℕ) (now : Reached)
     → Narrows o n → HasCome o name w bytes now
     → HasCome n name w bytes now

@@ -92,7 +92,7 @@ pub record GoesOn (old new : Outside) (name : List ℕ) (w : Wanted) (bytes : Li
   pub front : (before : List Given) → HasReadFront name bytes before old.given
       → HasReadFront name (bytes ++ more) before new.given
 
--- These bytes are all of the name's, where these are told, and they are a trace of these parts, as
+-- These bytes are all of the name's, where these are known, and they are a trace of these parts, as
 -- wanted.
 pub record HasEnded (held : Option Files) (name : List ℕ) (w : Wanted) (bytes : List ℕ)
     (passed : Passed) : Type 0 where
@@ -105,8 +105,8 @@ pub record HasEnded (held : Option Files) (name : List ℕ) (w : Wanted) (bytes 
   pub near : near_refusal w.lines passed.header.near ≡ None
   pub accepted : refusal_of w bytes ≡ None
 
--- These bytes are all of the name's, where these are told, and are refused so. The cursor holds the
--- records that became whole in them behind those before, and knows their header.
+-- These bytes are all of the name's, where these are known, and are refused so. The cursor holds
+-- the records that became whole in them behind those before, and knows their header.
 pub record HasStopped (held : Option Files) (name : List ℕ) (w : Wanted) (bytes : List ℕ)
     (refusal : Refusal) (now : Reached) : Type 0 where
   pub all : List ℕ

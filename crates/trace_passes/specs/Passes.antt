@@ -136,7 +136,7 @@ abbrev pub HasParts : Passed → List ℕ → Type 0
 HasParts passed bytes =
     (items : List TraceRecord) × (trace_of bytes ≡ Some (trace_with passed items))
 
--- There are bytes, the held ones of the name where these are told, that are such a trace, whose
+-- There are bytes, the held ones of the name where these are known, that are such a trace, whose
 -- records were given.
 pub record HasPassed (held : Option Files) (name : List ℕ) (passed : Passed)
     (given : List TraceRecord → Type 0) :

@@ -221,7 +221,7 @@ impl Cursor {
         ensures ended { (passed : Parts) → result ≡ Ok (Some passed) → (bytes : List ℕ)
             → HasCome (S.outside shelf.old).held name.now wanted.now bytes self.old
             → HasEnded (S.outside shelf.new).held name.now wanted.now bytes passed }
-        // What reads have given shows that, also where none are told.
+        // What reads have given shows that, also where none are known.
         ensures shown { (passed : Parts) → result ≡ Ok (Some passed) → (bytes : List ℕ)
             → HasCome (S.outside shelf.old).held name.now wanted.now bytes self.old
             → (before : List Given)
@@ -230,7 +230,7 @@ impl Cursor {
         ensures refused { (refusal : Refused) → result ≡ Err (PassFault.Refused refusal)
             → Known (S.outside shelf.new).held
             (λ files. refusal_of wanted.now (content files name.now) ≡ Some refusal) }
-        // It is that of some bytes, also where none are told.
+        // It is that of some bytes, also where none are known.
         ensures found { (refusal : Refused) → result ≡ Err (PassFault.Refused refusal)
             → (bytes : List ℕ) × (refusal_of wanted.now bytes ≡ Some refusal) }
         // What reads have given shows it.

@@ -123,7 +123,7 @@ pub fn pass<S: Shelf, O: Observer>(
     ensures refused { (refusal : Refused) → result ≡ Err (PassFault.Refused refusal)
         → Known (S.outside shelf.new).held
         (λ files. refusal_of wanted.now (content files name.now) ≡ Some refusal) }
-    // What the reads of this call have given shows so much, also where none are told.
+    // What the reads of this call have given shows so much, also where none are known.
     ensures shown { IfOk result (λ passed. HasShown name.now (HasParts passed)
         (S.outside shelf.old).given (S.outside shelf.new).given) }
     ensures shown_refused { (refusal : Refused) → result ≡ Err (PassFault.Refused refusal)

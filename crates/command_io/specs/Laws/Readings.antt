@@ -286,6 +286,6 @@ accepted_behind s1 s2 a b d first later =
       read = read_both a b d first.read later.read;
     }
 
--- what is told holds of what is told still, once more was read
+-- what holds of the known files holds of those still known, once more was read
 pub known_again : (P : Files → Type 0) (a b : Outside) → HasRead a b → Known a.held P → Known b.held P
 known_again P a b read is = known_still P a.held b.held read.only.held is

@@ -171,7 +171,7 @@ no-group eq exact key (x ∷ xs) k none =
     rw parts.0 (no-group eq exact key xs k
     (sym (any-without eq exact k (key x) (keys_once eq (map key xs)) parts.0) ∙ parts.1))
 
--- what is kept under a key: what is told of its group
+-- what is kept under a key: what is stated of its group
 pub looked-up : {K X V : Type 0} (eq : K → K → Bool) → IsExact K eq → (key : X → K)
     (stated : List X → V) (xs : List X) (k : K)
     → option_map_or (λ v. v) (lookup (eq k) (groups eq key stated xs)) (stated [])
@@ -183,7 +183,7 @@ looked-up eq exact key stated xs k =
       | inr none ↦ rw none (ap stated (sym (no-group eq exact key xs k none)))
     ])
 
--- an element more: its key's group is told anew
+-- an element more: its key's group is stated anew
 pub groups-push : {K X V : Type 0} (eq : K → K → Bool) → IsExact K eq → (key : X → K)
     (stated : List X → V) (xs : List X) (x : X)
     → groups eq key stated (xs ++ x ∷ [])

@@ -1,4 +1,4 @@
--- The elements of a list that are told, with one element more.
+-- The elements of a list that are reported, with one element more.
 use Rattle.std.proofs.Common.{◌≡◌, ℕ, ◌+◌, ◌<◌, Bool, List, [], ◌∷◌, ◌++◌, filter, map, take, length}
 use Rattle.std.proofs.Common.{Option, sym, ap, ◌∙◌, arith, option_to_list, slice_get, inl, inr}
 use Rattle.std.proofs.lemmas.List.{map-append, take_more}

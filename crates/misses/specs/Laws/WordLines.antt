@@ -63,7 +63,7 @@ layout-keeps n o h x y same =
 pub word_lines-part : PartsWords (line_number 4 0)
 word_lines-part x y same = omega (arith, same)
 
--- A word's number is told by its line and its place there.
+-- A word's number is determined by its line and its place there.
 quarter : (n k x : ℕ) → n ≡ 4 * k → x / 4 ≡ k * (x / n) + x % n / 4
 quarter n k x e =
     let whole : n * (x / n) + x % n ≡ x = div-add-mod x n in

@@ -1,4 +1,4 @@
--- What is told for an object that a name means, or why nothing is.
+-- What is reported for an object that a name means, or why nothing is.
 use Rattle.std.proofs.Common.{◌≡◌, ℕ, List, Option, None, Some, Ok, Err, false, true, refl, ap, ◌∙◌}
 use Rattle.std.specs.Option.{option_map_or}
 use Rattle.trace_format.specs.Rules.{touches_in}

@@ -18,7 +18,7 @@ use Rattle.shelf.specs.OneFile.{Waiting, AddsUp, IsBegun, Sunk, Holds, HoldsFron
 use Rattle.shelf.specs.OnTheirWay.{names_of, IsNew, AreBegun, AreSunk, IsOutputs, outputs_with}
 use Rattle.shelf.specs.Laws.Known.{goes_map, reads_alone, writes_both}
 
--- ---- meanings that a shelf may leave untold
+-- ---- meanings that may be unknown
 
 pub goes_then : {A : Type 0} (P Q R : A → A → Type 0) (a b c : Option A)
     → ((x y z : A) → P x y → Q y z → R x z) → Goes a b P

@@ -1,11 +1,11 @@
--- What holds of a told meaning, of one that goes over into another, and of faults that rose.
+-- What holds of a known meaning, of one that goes over into another, and of faults that rose.
 use Rattle.std.proofs.Common.{◌≡◌, ℕ, ◌≤◌, List, [], ◌∷◌, ◌++◌, Option, Some, None, arith, length}
 use Rattle.std.proofs.Common.{◌∙◌, ap, append_assoc, refl, subst, sym}
 use Rattle.std.proofs.Math.Seq.{take-length}
 use Rattle.shelf.specs.Shelf.{Known, Narrows, Goes, Rose, Adds, AddsFront, Given, Grows, HasRead}
 use Rattle.shelf.specs.Shelf.{OnlyReads, OnlyWrites, OnlyWritesAndReads, Outside}
 
--- what holds of each value holds where it is told
+-- what holds of each value holds where it is known
 pub if_known : {A : Type 0} {P : A → Type 0} (o : Option A) → ((x : A) → P x) → Known o P
 if_known None p = tt
 if_known (Some x) p = p x
@@ -20,13 +20,13 @@ pub known_both : {A : Type 0} {P Q R : A → Type 0} (o : Option A) → ((x : A)
 known_both None f p q = tt
 known_both (Some x) f p q = f x p q
 
--- ---- a meaning of which less is told
+-- ---- a meaning of which less is known
 
 pub narrows_same : {A : Type 0} (o : Option A) → Narrows o o
 narrows_same None = tt
 narrows_same (Some x) = refl
 
--- what held where it was told holds where it is told still
+-- what held where it was known holds where it is known still
 pub known_still : {A : Type 0} (P : A → Type 0) (o n : Option A) → Narrows o n → Known o P → Known n P
 known_still P o None narrow p = tt
 known_still {A = A} P o (Some x) narrow p = subst (λ (h : Option A). Known h P) narrow p

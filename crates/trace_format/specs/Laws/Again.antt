@@ -341,7 +341,7 @@ first_of_symbol : (kind : SymbolKind) (addr size : ℕ) (name : List ℕ)
 unfolding spell_symbol
 first_of_symbol kind addr size name = refl
 
--- what a record needs of the records before it: an access has a position, and an end tells how
+-- what a record needs of the records before it: an access has a position, and an end states how
 -- many accesses there were
 abbrev pub ComesAt : ReadSoFar → TraceRecord → Type 0
 ComesAt p (records.Touch a pc) = p.header.first + p.counted < last_position

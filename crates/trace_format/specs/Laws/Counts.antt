@@ -59,7 +59,7 @@ pub record IsCounted (p : ReadSoFar) (items : List TraceRecord) : Type 0 where
   pub counted : p.counted ≡ length (touches_in items)
   pub positions : p.header.first + p.counted ≤ last_position
 
--- this end is the last record and the only one of its kind, and tells how many accesses there are
+-- this end is the last record and the only one of its kind, and states how many accesses there are
 pub record EndsWith (items : List TraceRecord) (e : TraceEnd) : Type 0 where
   pub before : List TraceRecord
   pub inner : All IsInner before

@@ -100,7 +100,7 @@ module _ (k : ℕ) (bytes : List ℕ) (some : 1 ≤ k) (le : k ≤ length bytes)
             (drop n (take k bytes)))) again (groups_front whole)
       ]
 
-  -- the length that a symbol tells, where it is there
+  -- the length that a symbol states, where it is there
   stated_again : 12 ≤ k → number_at w16 10 (take k bytes) ≡ number_at w16 10 bytes
   stated_again enough =
       let cut : drop 10 (take (10 + (k - 10)) bytes) ≡ take (k - 10) (drop 10 bytes) =

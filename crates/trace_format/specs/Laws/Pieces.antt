@@ -1,4 +1,4 @@
--- What follows for any bytes: a header that is told stays told, and accesses are few.
+-- What follows for any bytes: a header that is known stays known, and accesses are few.
 use Rattle.std.proofs.Common.{◌≡◌, ℕ, ◌+◌, ◌≤◌, ◌<◌, Bool, true, false, cond, ◌&&◌, eqb, ltb, List, []}
 use Rattle.std.proofs.Common.{◌∷◌, ◌++◌, length, drop, Option, Some, None, IsSome, Result, Ok, Err}
 use Rattle.std.proofs.Common.{refl, sym, ap, subst, ◌∙◌, append_assoc, arith}
@@ -129,7 +129,7 @@ module _ (stated : Option ReadSoFar) (some : IsSome stated) where
       → SameHead (Some (progress_after p item (length bytes))) stated
   record_same items p bytes item same is = record { version = same.version; header = same.header }
 
--- Once told, a header stays with each part that is read, and whatever bytes follow.
+-- Once known, a header stays with each part that is read, and whatever bytes follow.
 pub part_at-head : (r : Reading) (bytes : List ℕ) → IsSome r.progress
     → SameHead (part_at r r.progress r.ending bytes).1.progress r.progress
 part_at-head r bytes some =

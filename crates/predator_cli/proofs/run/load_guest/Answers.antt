@@ -108,7 +108,7 @@ returns-in-Err-make_guest-clause-stopped g c =
     memory_stopped (run_readings (run_meaning c.args.options.now)) a b all.read.faults
     all.read.only
 
--- ---- what is told still once the schedule was read
+-- ---- what is known still once the schedule was read
 
 settings_last : (g : Over) (c : After-make_guest g)
     → Known (g.S.Shelf.outside c.read_judged.new.shelf).held

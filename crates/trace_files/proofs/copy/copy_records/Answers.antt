@@ -191,7 +191,7 @@ returns-in-Err-advance-clause-found g c = λ refusal same.
     c.pieces.target c.pieces.cursor old (g.S.Shelf.outside c.pieces.shelf) x c.unfiltered.result
     c.unfiltered.ensures) old.given x.front)
 
--- ---- no more is told than before
+-- ---- no more is known than before
 
 pub returns-in-Err-clause-keeps_held : goal.returns-in-Err-clause-keeps_held
 returns-in-Err-clause-keeps_held g c = narrows_same (g.S.Shelf.outside c.args.shelf.now).held
