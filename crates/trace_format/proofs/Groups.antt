@@ -6,7 +6,7 @@ use Rattle.std.proofs.lemmas.List.{drop-take}
 use Rattle.trace_format.specs.Ahead.{HasNumber, HasNumberAt}
 use Rattle.trace_format.specs.Numbers.{are_groups, group_count, number_in}
 
--- Groups in which a number below 2^32 is spelled state such a number.
+-- The groups of a spelled number below 2^32 state such a number.
 pub small_number : (stated : List ℕ) → length stated ≤ 5 → are_groups stated ≡ true
     → number_in stated < 2 ^ 32
 small_number [] few good = omega arith
