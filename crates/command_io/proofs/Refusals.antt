@@ -23,16 +23,16 @@ otherwise b x y e = rw e refl
 
 -- one that isn't too long is refused as it is read, as it is placed, and then by its symbols
 pub refused_by : (settings : Settings) (file view : List ℕ) (space : Space)
-    (read placed told : Option ElfFault) → length file ≤ 2 ^ 24 → view ≡ file
+    (read placed stated : Option ElfFault) → length file ≤ 2 ^ 24 → view ≡ file
     → space ≡ space_of settings → read_fault file ≡ read → place_fault space view ≡ placed
-    → symbols_fault view ≡ told
-    → program_refusal settings file ≡ option_map status.Elf (option_or read (option_or placed told))
-refused_by settings file view space read placed told short same is reads places tells =
+    → symbols_fault view ≡ stated
+    → program_refusal settings file ≡ option_map status.Elf (option_or read (option_or placed stated))
+refused_by settings file view space read placed stated short same is reads places keeps_held =
     let fits : nat_lt (2 ^ 24) (length file) ≡ false = grind (arith, nat_tests) in
     let at : place_fault (space_of settings) file ≡ placed =
     subst (λ (x : Space). place_fault x file ≡ placed) is
     (subst (λ (x : List ℕ). place_fault space x ≡ placed) same places) in
-    let of : symbols_fault file ≡ told = subst (λ (x : List ℕ). symbols_fault x ≡ told) same tells in
+    let of : symbols_fault file ≡ stated = subst (λ (x : List ℕ). symbols_fault x ≡ stated) same keeps_held in
     otherwise _ _ _ fits
     ∙ ap (λ (x : Option ElfFault). option_map status.Elf (option_or x
     (option_or (place_fault (space_of settings) file) (symbols_fault file)))) reads

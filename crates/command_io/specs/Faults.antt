@@ -68,8 +68,8 @@ trace_text trace.BadHarts = codes "BadHarts"
 trace_text (trace.BadTag place) = codes "BadTag " ++ decimal place
 trace_text (trace.BadField place) = codes "BadField " ++ decimal place
 trace_text (trace.Truncated size) = codes "Truncated " ++ decimal size
-trace_text (trace.CountMismatch told counted) = codes "CountMismatch " ++
-    (decimal told ++ (codes " " ++ decimal counted))
+trace_text (trace.CountMismatch stated counted) = codes "CountMismatch " ++
+    (decimal stated ++ (codes " " ++ decimal counted))
 trace_text (trace.AfterEnd place) = codes "AfterEnd " ++ decimal place
 trace_text trace.TooLong = codes "TooLong"
 trace_text trace.NoMemory = codes "NoMemory"

@@ -2,7 +2,7 @@
 -- that order decides an end.
 use Rattle.std.specs.Prelude.{◌≡◌, ◌≢◌, ◌⊎◌, ℕ, false, List, [], ◌∷◌, Option, Some, None}
 use Rattle.std.specs.Option.{option_or}
-use Rattle.shelf.specs.Shelf.{Files, Outside, Told, Rose, OnlyReads, HasRead, content}
+use Rattle.shelf.specs.Shelf.{Files, Outside, Known, Rose, OnlyReads, HasRead, content}
 use Rattle.command_io.specs.Statuses.{Kind, kind_of, done, refusal, read_fault, write_fault}
 use Rattle.command_io.specs.Statuses.{no_memory, hides_no_memory}
 use Rattle.command_io.specs.declared.status.Status.{Status}
@@ -57,11 +57,11 @@ FailsInOrder (r ∷ later) files before now =
 abbrev pub StopsBy : List Reading → Outside → Outside → Kind → Status → Type 0
 StopsBy readings old now done s = ⊥
 StopsBy readings old now refusal s =
-    Told now.held (λ files. first_refusal readings files ≡ Some s)
+    Known now.held (λ files. first_refusal readings files ≡ Some s)
     × (now.read_faults ≡ old.read_faults)
 StopsBy readings old now read_fault s =
     RoseAt (names_of readings) old.read_faults now.read_faults
-    × Told now.held (λ files. FailsInOrder readings files old.read_faults now.read_faults)
+    × Known now.held (λ files. FailsInOrder readings files old.read_faults now.read_faults)
 StopsBy readings old now write_fault s = ⊥
 StopsBy readings old now no_memory s = now.read_faults ≡ old.read_faults
 
@@ -74,7 +74,7 @@ pub record IsStopped (readings : List Reading) (old now : Outside) (s : Status) 
 
 -- its files are accepted, and it did nothing but read
 pub record IsAccepted (readings : List Reading) (old now : Outside) : Type 0 where
-  pub accepts : Told now.held (λ files. first_refusal readings files ≡ None)
+  pub accepts : Known now.held (λ files. first_refusal readings files ≡ None)
   pub read : HasRead old now
 
 -- ---- one file
@@ -98,8 +98,8 @@ pub record IsJudged (refused : Option Status) (s : Status) : Type 0 where
   pub words : s ≢ status.Usage
   pub memory : hides_no_memory s ≡ false
 
--- P holds of the bytes that were read under a name, which are the held ones where these are told
+-- P holds of the bytes that were read under a name, which are the held ones where these are known
 pub record IsReadFrom (held : Option Files) (name : List ℕ) (P : List ℕ → Type 0) : Type 0 where
   pub bytes : List ℕ
-  pub whole : Told held (λ files. bytes ≡ content files name)
+  pub whole : Known held (λ files. bytes ≡ content files name)
   pub given : P bytes

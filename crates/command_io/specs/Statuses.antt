@@ -1,4 +1,4 @@
--- How a call ends, by the kinds of status that its clauses tell apart, and the status that each
+-- How a call ends, by the kinds of status that its clauses distinguish, and the status that each
 -- lower fault has.
 use Rattle.std.specs.Prelude.{Bool, true, false}
 use Rattle.program_files.specs.declared.image.PlaceFault.{PlaceFault}
@@ -88,7 +88,7 @@ status_of_trace trace.BadHarts = status.Trace trace.BadHarts
 status_of_trace (trace.BadTag place) = status.Trace (trace.BadTag place)
 status_of_trace (trace.BadField place) = status.Trace (trace.BadField place)
 status_of_trace (trace.Truncated size) = status.Trace (trace.Truncated size)
-status_of_trace (trace.CountMismatch told counted) = status.Trace (trace.CountMismatch told counted)
+status_of_trace (trace.CountMismatch stated counted) = status.Trace (trace.CountMismatch stated counted)
 status_of_trace (trace.AfterEnd place) = status.Trace (trace.AfterEnd place)
 status_of_trace trace.TooLong = status.Trace trace.TooLong
 status_of_trace trace.NoMemory = status.NoMemory

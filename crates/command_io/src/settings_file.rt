@@ -5,7 +5,7 @@ ghost use Rattle.sharing_rules.specs.Listed.{may_predict};
 ghost use Rattle.command_line.specs.Demands.{text_of};
 ghost use Rattle.command_line.specs.Set.{asked_under};
 ghost use Rattle.settings.specs.Allowed.{IsAllowed};
-ghost use Rattle.shelf.specs.Shelf.{Told};
+ghost use Rattle.shelf.specs.Shelf.{Known};
 ghost use Rattle.settings.specs.Answers.{usual_under};
 ghost use Rattle.settings.specs.Changed.{no_changes};
 ghost use Rattle.command_io.specs.Readings.{IsAccepted, IsRefusal, IsStopped};
@@ -77,7 +77,7 @@ pub fn read_settings<S: Shelf>(
     name: Option<&str>,
     changes: &Changes,
 ) -> Result<Settings, Status>
-    ensures read { IfOk result (λ settings. Told (S.outside shelf.new).held
+    ensures read { IfOk result (λ settings. Known (S.outside shelf.new).held
         (λ files. settings_in (asked_under (text_of name.entry) changes.now) files
         ≡ Ok settings)) }
     ensures allowed { IfOk result IsAllowed }

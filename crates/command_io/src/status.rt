@@ -68,7 +68,7 @@ pub enum Status {
     Deadlock,
     /// The whole work is done, and the run ended at an instruction that could not be carried out.
     Trapped,
-    /// No place is told for an object, for this reason.
+    /// An object gets no place, for this reason.
     Place(PlaceRefusal),
     /// The table of moves has this fault, which is never want of memory.
     Table(TableFault),

@@ -55,8 +55,8 @@ pub fn trace_name(alloc: Global, fault: TraceFault) -> Result<String, AllocError
         TraceFault::BadTag(place) => format!(in alloc; "BadTag {place}"),
         TraceFault::BadField(place) => format!(in alloc; "BadField {place}"),
         TraceFault::Truncated(size) => format!(in alloc; "Truncated {size}"),
-        TraceFault::CountMismatch { told, counted } => {
-            format!(in alloc; "CountMismatch {told} {counted}")
+        TraceFault::CountMismatch { stated, counted } => {
+            format!(in alloc; "CountMismatch {stated} {counted}")
         }
         TraceFault::AfterEnd(place) => format!(in alloc; "AfterEnd {place}"),
         TraceFault::TooLong => String::from_str(alloc, "TooLong"),
@@ -80,9 +80,9 @@ pub fn trace_advice(alloc: Global, fault: TraceFault) -> Result<String, AllocErr
         TraceFault::Truncated(size) => {
             format!(in alloc; "the trace is cut off after {size} bytes: {CUT}")
         }
-        TraceFault::CountMismatch { told, counted } => {
+        TraceFault::CountMismatch { stated, counted } => {
             format!(in alloc;
-                "the end record says {told} accesses, the trace has {counted}: {DAMAGED}"
+                "the end record says {stated} accesses, the trace has {counted}: {DAMAGED}"
             )
         }
         TraceFault::AfterEnd(place) => {

@@ -17,7 +17,7 @@ abbrev pub explain_usage : Text
 explain_usage =
     codes "usage: predator explain PROGRAM BASE SIZE START [--settings F] [--schedule F]\n"
 
--- run a program, and tell of the invalidations of one line above a start: the line of a layout that
+-- run a program, and report the invalidations of one line above a start: the line of a layout that
 -- begins at a base
 pub record ExplainDemand : Type 0 where
   pub program : Text

@@ -15,7 +15,7 @@ run_usage =
     codes "usage: predator run PROGRAM [--settings F] [--schedule F] [--trace F] [--pcs] [--output F]\n"
 
 -- run a program under settings: its schedule, and where its trace and its output are written, each
--- if it is named, and whether the trace tells the pc of each access
+-- if it is named, and whether the trace records the pc of each access
 pub record RunDemand : Type 0 where
   pub program : Text
   pub settings : AskedSettings

@@ -50,34 +50,34 @@ pub enum Demand<'a> {
     /// Count a trace's accesses, and report. The file that it writes has the name of none that it
     /// reads.
     Replay(ReplayOptions<'a>),
-    /// Load and place a program, and tell of it.
+    /// Load and place a program, and describe it.
     Check(CheckOptions<'a>),
     /// Run a program, and report. No file that it writes has the name of another that it reads or
     /// writes.
     Run(RunOptions<'a>),
-    /// Cut a trace in two, and tell of both. The trace and its halves have three names.
+    /// Cut a trace in two, and report both. The trace and its halves have three names.
     Split(SplitOptions<'a>),
-    /// Make a trace, and tell of it.
+    /// Make a trace, and report it.
     Gen(GenOptions<'a>),
-    /// Write a trace in the other version, and tell of it. The file has another name than the
-    /// trace.
+    /// Write a trace in the other version, and report it. The file has another name than the trace.
     Convert(ConvertOptions<'a>),
-    /// Count every shift of a line size in a trace, and tell which counts least.
+    /// Count every shift of a line size in a trace, and report which counts least.
     Sweep(SweepOptions<'a>),
-    /// Tell what is left of a trace's invalidations in private caches of a shape.
+    /// Report what is left of a trace's invalidations in private caches of a shape.
     Caches(CachesOptions<'a>),
     /// Give the words of an object of a trace new places, and count again.
     Place(PlaceOptions<'a>),
-    /// Write a trace with its accesses moved as a table says, and tell of it. The file has another
+    /// Write a trace with its accesses moved as a table says, and report it. The file has another
     /// name than the trace and the table.
     Move(MoveOptions<'a>),
-    /// Write the filtered trace of a trace, and tell of it. The file has another name than the trace.
+    /// Write the filtered trace of a trace, and report it. The file has another name than the
+    /// trace.
     Filter(FilterOptions<'a>),
-    /// Tell what the sharing of each line costs in a trace.
+    /// Report what the sharing of each line costs in a trace.
     Misses(LayoutOptions<'a>),
     /// Print which instructions and which harts take the lines of a trace from each other.
     Blame(LayoutOptions<'a>),
-    /// Run a program, and tell which instructions take one line from each other.
+    /// Run a program, and report which instructions take one line from each other.
     Explain(ExplainOptions<'a>),
 }
 

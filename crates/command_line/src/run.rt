@@ -25,7 +25,7 @@ pub struct RunOptions<'a> {
     pub schedule: Option<&'a str>,
     /// The name under which the trace is written, where one is given.
     pub trace: Option<&'a str>,
-    /// Whether the trace tells the pc of each access. Then there is a trace.
+    /// Whether the trace records the pc of each access. Then there is a trace.
     pub pcs: bool,
     /// The name under which what the guest writes is written, where one is given.
     pub output: Option<&'a str>,

@@ -35,7 +35,7 @@ use Rattle.detector.specs.Watch.{writes_after}
 use Rattle.detector.specs.Named.{number_of}
 use Rattle.detector.proofs.CountLaws.{count_at-counts_of, entry_at-empty}
 use Rattle.detector.proofs.SettleLaws.{counted-names, counted-writes, layout-small}
-use Rattle.detector.proofs.ToldLaws.{under}
+use Rattle.detector.proofs.StatedLaws.{under}
 use Rattle.detector.proofs.TouchLaws.{indexed-touched}
 use Rattle.sharing_rules.specs.Opened.{even_lower}
 use Rattle.detector.proofs.NamedLaws.{is_some-kept, named-map}

@@ -34,8 +34,9 @@ use Rattle.sharing_rules.specs.Laws.Kinds.{observed_ones-member, opened_doubled-
 use Rattle.sharing_rules.specs.Laws.Kinds.{opened_observed-is, opened_shifted-is}
 use Rattle.sharing_rules.specs.Laws.Kinds.{shifted_ones-member}
 use Rattle.sharing_rules.specs.Laws.Lists.{length-below, slice_cases}
-use Rattle.sharing_rules.specs.Laws.Opened.{opened_shifted-is_some, shifted_opening-observed}
-use Rattle.sharing_rules.specs.Laws.Opened.{some_is}
+use Rattle.sharing_rules.specs.Laws.Opened.{opened_shifted-is_some}
+use Rattle.sharing_rules.specs.Laws.OpenedObserved.{shifted_opening-observed}
+use Rattle.sharing_rules.specs.Laws.OpenedObserved.{some_is}
 use Rattle.sharing_rules.specs.Laws.Words.{length-words_since}
 use Rattle.line_tracks.specs.Laws.WordLines.{layout-sized}
 use Rattle.line_tracks.specs.Laws.Few.{at_most_four, holds}
@@ -46,7 +47,7 @@ use Rattle.detector.specs.Amounts.{HasHalfDoubled, IsSmallUnpredicted, doubled_c
 use Rattle.detector.specs.Amounts.{is_of, kind_count, observed_count, shifted_count, word_count}
 use Rattle.detector.specs.Standing.{StandsFor}
 use Rattle.detector.specs.Watch.{Watch}
-use Rattle.detector.proofs.ToldLaws.{under}
+use Rattle.detector.proofs.StatedLaws.{under}
 
 sum_mapped : {X Y : Type 0} (f : Y → ℕ) (g : X → Y) (xs : List X) → sum_by f (map g xs)
     ≡ sum_by (λ x. f (g x)) xs

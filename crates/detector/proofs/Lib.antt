@@ -13,7 +13,7 @@ pub mod SettleLaws
 pub mod ShapeLaws
 pub mod StandsLaws
 pub mod TaskLaws
-pub mod ToldLaws
+pub mod StatedLaws
 pub mod TotalLaws
 pub mod TouchLaws
 pub mod UndoLaws

@@ -23,7 +23,7 @@ use Rattle.line_tracks.specs.Laws.WordLines.{held-inside, layout-sized}
 use Rattle.detector.specs.Quiet.{AreQuietWhereFalse, IsQuietWhereFalse}
 use Rattle.detector.specs.Standing.{StandsFor}
 use Rattle.detector.specs.Watch.{Watch}
-use Rattle.detector.proofs.ToldLaws.{good_lines}
+use Rattle.detector.proofs.StatedLaws.{good_lines}
 
 abbrev is_false : Verdict → Bool
 is_false FalseSharing = true

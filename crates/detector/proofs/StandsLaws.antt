@@ -50,7 +50,7 @@ use Rattle.detector.specs.Watch.{tracks_after, tracks_noted, watched, writes_aft
 use Rattle.sharing_rules.specs.Listed.{may_predict}
 use Rattle.std.specs.Prelude.{IsTrue}
 use Rattle.detector.proofs.CountLaws.{count_at-with_write}
-use Rattle.detector.proofs.ToldLaws.{MayKeep, good_lines, looked_up, noted-told, noted_at, under}
+use Rattle.detector.proofs.StatedLaws.{MayKeep, good_lines, looked_up, noted-stated, noted_at, under}
 
 -- a track by its kind, its range and what is traced of it
 kept_of_track : (t : AccessList) (o : Opened) (x : TrackValue) → x.kind ≡ o.kind
@@ -232,7 +232,7 @@ opens_as n P v t a xs some noted =
       | inr quiet ↦ rw quiet
     ]
 
--- Where w stands for t: what it asks of an access is what the list tells.
+-- Where w stands for t: its test of an access has the result that the list determines.
 same_test : (t : AccessList) (w : Watch) (k : ℕ) (is : Bool) (test : ℕ → Bool) → StandsFor t w
     → (is && test (count_at w.writes k)) ≡
     (is && test (write_count (is_inside (grid_line w.grid k)) t))
@@ -324,7 +324,7 @@ stands_tracks t w a st may some =
     let one : IsPermutation noted (map f os) = noted_as t w a st may in
     let opens : opened_tracks (opens_at w (number_of w.grid a) a noted) ≡ map f later =
     opens_at-as t w a noted st may.may
-    (looked_up g (t ++ a ∷ []) os (noted_at g v t a) noted (noted-told g v t a may some) one) in
+    (looked_up g (t ++ a ∷ []) os (noted_at g v t a) noted (noted-stated g v t a may some) one) in
     let all : map f os ++ map f later ≡ map f (opened g v t ++ opened_now g v t a) =
     sym (map-append f os later) ∙ ap (map f) (append_assoc (opened g v t)
     (option_to_list (observed_now g v.tracking t a)) later) in

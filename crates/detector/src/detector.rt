@@ -272,7 +272,7 @@ impl<I: LineIndex> Detector<I> {
         ensures shaped { (i : ℕ) (x : TrackValue) → slice_get self.now.tracks i ≡ Some x
             → IsShaped self.now.grid (line_of_base self.now.grid x.range) x.kind x.range }
         // for each list that it stands for
-        ensures told { (t : AccessList) → StandsFor t self.now → HasEach t self.now }
+        ensures stated { (t : AccessList) → StandsFor t self.now → HasEach t self.now }
         ensures shifted { (t : AccessList) → StandsFor t self.now → HasFewerShifted self.now }
         ensures doubled { (t : AccessList) → StandsFor t self.now → HasHalfDoubled self.now }
         ensures entries { (t : AccessList) → StandsFor t self.now → HasFewEntries self.now }

@@ -16,9 +16,9 @@ mod ranges;
 #[cfg(test)]
 mod shadows;
 #[cfg(test)]
-mod texts;
+mod stated;
 #[cfg(test)]
-mod told;
+mod texts;
 #[cfg(test)]
 mod tracks;
 #[cfg(test)]

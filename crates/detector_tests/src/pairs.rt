@@ -1,7 +1,7 @@
 // One search, by hand.
 ghost use Rattle.std.specs.Prelude.{◌≡◌, ◌<◌};
 
-use crate::told::{Told, note_all};
+use crate::stated::{StatedAccess, note_all};
 use base::Kind::{Read, Write};
 use base::{Range, Steps};
 use line_tracks::{Pair, Shadow, best_pair};
@@ -20,14 +20,14 @@ const UPPER: Range = Range {
     size: 32,
 };
 
-const WRITES: [Told; 4] = [
+const WRITES: [StatedAccess; 4] = [
     (0, 0x1000, Write),
     (0, 0x101c, Write),
     (0, 0x1000, Write),
     (0, 0x101c, Write),
 ];
 
-const READS: [Told; 4] = [
+const READS: [StatedAccess; 4] = [
     (1, 0x1020, Read),
     (1, 0x1024, Read),
     (1, 0x1020, Read),

@@ -1,5 +1,5 @@
 // The words of a range, by hand.
-use crate::told::{access_of, note, shows_word};
+use crate::stated::{access_of, note, shows_word};
 use base::{Access, Hart, Kind, Range};
 use line_tracks::Shadow;
 use sharing_rules::{Owner, Word};

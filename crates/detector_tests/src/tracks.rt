@@ -4,7 +4,7 @@ ghost use Rattle.sharing_rules.specs.Listed as listed;
 ghost use Rattle.detector.specs.Entries.{no_entries};
 
 use crate::MapIndex;
-use crate::told::{Told, access_of};
+use crate::stated::{StatedAccess, access_of};
 use base::Kind::{Read, Write};
 use base::{Kind, Layout, Thresholds};
 use detector::{Detector, LineIndex, PagedIndex, see};
@@ -25,7 +25,7 @@ fn may_predict(layout: Layout, thresholds: Thresholds) -> bool
     }
 }
 
-// A track, told by its kind, its base, its size, its start and its count.
+// A track, given by its kind, its base, its size, its start and its count.
 type Shown = (LineKind, i64, u32, Option<u64>, u64);
 
 // What a list is about, the size of its lines, the prediction threshold, the list, and its tracks.
@@ -33,7 +33,7 @@ struct Row {
     name: &'static str,
     size: u32,
     prediction: u64,
-    told: &'static [Told],
+    stated: &'static [StatedAccess],
     shown: &'static [Shown],
 }
 
@@ -51,9 +51,9 @@ fn is_shown(track: &Track, shown: &Shown) -> bool {
 fn see_all<I: LineIndex>(
     rt: &impl Abort,
     detector: &mut Detector<I>,
-    told: &[Told],
+    stated: &[StatedAccess],
 ) -> Result<(), Fail> {
-    for one in told {
+    for one in stated {
         let access = access_of(one).ok_or("an access")?;
         assert!(rt; detector.position() < 1 << 40);
         see(detector, access)?;
@@ -61,7 +61,7 @@ fn see_all<I: LineIndex>(
     Ok(())
 }
 
-// Whether these are the tracks that are told, in order.
+// Whether these are the stated tracks, in order.
 fn are_shown(tracks: &[Track], shown: &[Shown]) -> bool {
     for (track, one) in tracks.iter().zip(shown) {
         if !is_shown(track, one) {
@@ -77,7 +77,7 @@ fn shows_tracks<I: LineIndex>(
     detector: &mut Detector<I>,
     row: &Row,
 ) -> Result<(), Fail> {
-    see_all(rt, detector, row.told)?;
+    see_all(rt, detector, row.stated)?;
     assert!(rt; are_shown(detector.tracks(), row.shown), "{}", row.name);
     Ok(())
 }
@@ -106,7 +106,7 @@ fn shows_row(rt: &impl Abort, alloc: Global, row: &Row) -> Result<(), Fail> {
     shows_over(rt, alloc, PagedIndex::new(alloc), layout, thresholds, row)
 }
 
-const ACROSS: [Told; 6] = [
+const ACROSS: [StatedAccess; 6] = [
     (0, 0x103c, Write),
     (1, 0x1040, Write),
     (0, 0x103c, Write),
@@ -120,7 +120,7 @@ const ROWS: [Row; 10] = [
         name: "neighbouring words open a shifted and a doubled line",
         size: 64,
         prediction: 2,
-        told: &ACROSS,
+        stated: &ACROSS,
         shown: &[
             (Observed, 0x1000, 64, Some(0), 0),
             (Observed, 0x1040, 64, Some(1), 0),
@@ -132,7 +132,7 @@ const ROWS: [Row; 10] = [
         name: "an opening at the third write starts later",
         size: 64,
         prediction: 3,
-        told: &ACROSS,
+        stated: &ACROSS,
         shown: &[
             (Observed, 0x1000, 64, Some(0), 0),
             (Observed, 0x1040, 64, Some(1), 0),
@@ -144,7 +144,7 @@ const ROWS: [Row; 10] = [
         name: "an opened line waits for its next write",
         size: 64,
         prediction: 2,
-        told: &[
+        stated: &[
             (0, 0x103c, Write),
             (1, 0x1040, Write),
             (0, 0x103c, Write),
@@ -161,7 +161,7 @@ const ROWS: [Row; 10] = [
         name: "one hart alone opens nothing",
         size: 64,
         prediction: 2,
-        told: &[
+        stated: &[
             (0, 0x103c, Write),
             (0, 0x1040, Write),
             (0, 0x103c, Write),
@@ -176,7 +176,7 @@ const ROWS: [Row; 10] = [
         name: "words too far apart open a doubled line alone",
         size: 64,
         prediction: 2,
-        told: &[
+        stated: &[
             (0, 0x1000, Write),
             (1, 0x1040, Write),
             (0, 0x1000, Write),
@@ -193,7 +193,7 @@ const ROWS: [Row; 10] = [
         name: "no even pair opens a shifted line alone",
         size: 64,
         prediction: 2,
-        told: &[
+        stated: &[
             (0, 0x107c, Write),
             (1, 0x1080, Write),
             (0, 0x107c, Write),
@@ -211,14 +211,14 @@ const ROWS: [Row; 10] = [
         name: "the last word of memory opens nothing",
         size: 64,
         prediction: 2,
-        told: &[(0, 0xffff_fffc, Write), (1, 0xffff_fffc, Write)],
+        stated: &[(0, 0xffff_fffc, Write), (1, 0xffff_fffc, Write)],
         shown: &[(Observed, 0xffff_ffc0, 64, Some(0), 1)],
     },
     Row {
         name: "lines of 32 bytes",
         size: 32,
         prediction: 2,
-        told: &[
+        stated: &[
             (0, 0x101c, Write),
             (1, 0x1020, Write),
             (0, 0x101c, Write),
@@ -237,7 +237,7 @@ const ROWS: [Row; 10] = [
         name: "words of one line open nothing",
         size: 64,
         prediction: 2,
-        told: &[
+        stated: &[
             (0, 0x101c, Write),
             (1, 0x1020, Write),
             (0, 0x101c, Write),
@@ -249,7 +249,7 @@ const ROWS: [Row; 10] = [
         name: "lines of 256 bytes",
         size: 256,
         prediction: 2,
-        told: &ACROSS,
+        stated: &ACROSS,
         shown: &[(Observed, 0x1000, 256, Some(0), 5)],
     },
 ];

@@ -1,5 +1,5 @@
 // The verdict after each access.
-use crate::told::{Told, note_all};
+use crate::stated::{StatedAccess, note_all};
 use base::{Kind, Range};
 use line_tracks::{Shadow, verdict};
 use sharing_rules::Verdict;
@@ -7,13 +7,13 @@ use std::process::Abort;
 use std::test::Fail;
 
 // A further access, and the verdict then.
-fn then(rt: &impl Abort, shadow: &mut Shadow, told: Told) -> Result<Verdict, Fail> {
-    note_all(rt, shadow, &[told])?;
+fn then(rt: &impl Abort, shadow: &mut Shadow, stated: StatedAccess) -> Result<Verdict, Fail> {
+    note_all(rt, shadow, &[stated])?;
     Ok(verdict(shadow))
 }
 
 // Each access, and the verdict after it.
-const ROWS: [(Told, Verdict); 4] = [
+const ROWS: [(StatedAccess, Verdict); 4] = [
     ((0, 0x1000, Kind::Write), Verdict::FalseSharing),
     ((1, 0x1004, Kind::Write), Verdict::FalseSharing),
     ((1, 0x1000, Kind::Read), Verdict::Mixed),
@@ -22,8 +22,8 @@ const ROWS: [(Told, Verdict); 4] = [
 
 fn judges_rows(rt: &impl Abort, shadow: &mut Shadow) -> Result<(), Fail> {
     for row in &ROWS {
-        let (told, want) = *row;
-        assert_eq!(rt; then(rt, shadow, told)?, want, "after {told:?}");
+        let (stated, want) = *row;
+        assert_eq!(rt; then(rt, shadow, stated)?, want, "after {stated:?}");
     }
     Ok(())
 }

@@ -1,5 +1,5 @@
 -- What the system's files mean as a shelf: what its calls have read, written and printed, and any
--- contents that one thinks of, which it tells as long as all that was read is theirs.
+-- contents that one thinks of, which are known as long as all that was read is theirs.
 use Rattle.std.specs.Prelude.{ℕ, ◌+◌, Some, None, Bool, true, false, ◌&&◌, ◌||◌, not, nat_lt}
 use Rattle.std.specs.Prelude.{nat_le, ◌==◌, List, [], ◌∷◌, ◌++◌, length, take, drop, string_bytes}
 use Rattle.std.specs.Prelude.{Option, if◌then◌else◌, option_map}
@@ -73,8 +73,8 @@ abbrev pub how_many : (Done → Bool) → List Done → ℕ
 how_many test [] = 0
 how_many test (d ∷ before) = if test d then how_many test before + 1 else how_many test before
 
--- it tells these files as long as what was read is of them, and all that was written, printed and
--- read, and how often reading or writing each file has failed
+-- these files are known as long as what was read is of them; all that was written, printed and read
+-- is known, and how often reading or writing each file has failed
 abbrev pub disk_outside : Files → Seen → Outside
 disk_outside files seen = record {
   held = held_by files seen.done;

@@ -5,7 +5,7 @@
 ghost use Rattle.std.specs.Prelude.{◌≡◌, ◌≢◌, ◌≤◌, ◌↔◌, IfOk, OnOk, Some, false, length};
 ghost use Rattle.std.specs.Io.{ReadsAtMost};
 ghost use Rattle.std.specs.IoError.{error_kind};
-ghost use Rattle.shelf.specs.Shelf.{content, Told, HasCauseAt, OnlyReads, Reads, given_after};
+ghost use Rattle.shelf.specs.Shelf.{content, Known, HasCauseAt, OnlyReads, Reads, given_after};
 ghost use Rattle.disk_shelf.specs.Disk.{has_other_name};
 
 use crate::known_files::{FileId, KnownFiles};
@@ -38,15 +38,15 @@ const STREAMS: [&str; 3] = [INPUT_PATH, OUTPUT_PATH, ERROR_PATH];
 // The name of a trace that is standard input.
 const INPUT: &str = "-";
 
-// The most bytes of a file that are told again.
+// The most bytes of a file that are given again.
 const LONGEST_FRONT: usize = 1 << 16;
 
 // Why a file isn't begun that is read or written under another name.
 const IN_USE: &str = "the file is in use under another name and stays unchanged: name another file";
 
-/// Contents of files that one thinks of. No code reads them: a shelf of the system's files tells
-/// them as long as all that it has read is theirs. So what is proved of the files that it tells,
-/// which is proved for any contents, holds of all that agree with what was read.
+/// Contents of files that one thinks of. No code reads them: on a shelf of the system's files they
+/// are known as long as all that it has read is theirs. What is proved of the known files is proved
+/// for any contents, and so holds of all that agree with what was read.
 pub trait Contents {
     ghost use Rattle.shelf.specs.Shelf.{Files};
 
@@ -63,7 +63,7 @@ impl Contents for Brand {
 
 /// The files of the system and its standard output, as a shelf.
 ///
-/// What it holds are contents that one thinks of: it tells them as long as all that it has read is
+/// What it holds are contents that one thinks of: they are known as long as all that it has read is
 /// theirs, and no more from the first reading on that gave other bytes. What was written and
 /// printed is what it handed to the system in calls that were answered Ok. Contracts see how often
 /// reading and writing each file has failed, want of memory aside.
@@ -322,8 +322,8 @@ impl<'a, R: Files + Print + Eprint + Clock + AllocGlobal, K: Contents> DiskShelf
         }
     }
 
-    /// The shelf of a runtime, which has done nothing yet: it tells any contents, and that nothing
-    /// was written or printed and no call has failed.
+    /// The shelf of a runtime, which has done nothing yet: any contents are known, and it is known
+    /// that nothing was written or printed and no call has failed.
     pub fn new(runtime: &'a R) -> Self
         ensures { disk_outside K.files result ≡ fresh_outside K.files }
     {
@@ -391,7 +391,7 @@ impl<R: Files + Print + Eprint + Clock + AllocGlobal, K: Contents> Shelf for Dis
 
     fn read_at(&mut self, name: &str, at: u64, into: &mut [u8]) -> Result<usize, ShelfError>
         ensures bound { ReadsAtMost result into.new }
-        ensures bytes { IfOk result (λ n. Told (disk_outside K.files self.new).held
+        ensures bytes { IfOk result (λ n. Known (disk_outside K.files self.new).held
             (λ files. Reads (content files name.now) at n into.new)) }
         ensures given { (disk_outside K.files self.new).given ≡ given_after result name.now at
             into.new (disk_outside K.files self.old).given }
@@ -399,8 +399,8 @@ impl<R: Files + Print + Eprint + Clock + AllocGlobal, K: Contents> Shelf for Dis
             (disk_outside K.files self.new).read_faults result }
         ensures only { OnlyReads (disk_outside K.files self.old) (disk_outside K.files self.new) }
 
-        // Beyond the trait's: what is told stays told where what was read is of it.
-        ensures stays { Told (disk_outside K.files self.old).held
+        // Beyond the trait's: what is known stays known where what was read is of it.
+        ensures stays { Known (disk_outside K.files self.old).held
             (λ files. IfOk result (λ n. Reads (content files name.now) at n into.new)
             → (disk_outside K.files self.new).held ≡ Some files) }
     {

@@ -15,7 +15,7 @@ pub struct FileId {
 }
 
 impl FileId {
-    /// The file that the system tells of, if it is a regular one. In another, as a terminal or a
+    /// The file that the system describes, if it is a regular one. In another, as a terminal or a
     /// pipe, nothing stands that could be lost.
     pub fn of(metadata: &Metadata) -> Option<FileId>
         ensures { IsSome result ↔ IsFile (file_type metadata.now) }
@@ -103,6 +103,10 @@ impl KnownFiles {
     ) -> Result<(), AllocError>
         ensures known { OnOk result
             (IfSome id (λ id. IsTrue (has_name id name.now self.new.files.items))) }
+        ensures kept { (other : FileId) (called : List ℕ)
+            → IsTrue (has_name other called self.old.files.items)
+            → IsTrue (has_name other called self.new.files.items) }
+        ensures err { OnErr result (self.new.files.items ≡ self.old.files.items) }
     {
         match id {
             Some(id) => self.note(alloc, id, name),

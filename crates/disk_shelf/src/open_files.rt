@@ -13,7 +13,7 @@ const READ_ONCE: &str = "a pipe or a terminal can be read only once: write it to
 const WRITTEN_ONCE: &str = "a pipe or a terminal cannot be written again: name a file";
 
 /// How many bytes a call has read, and how many the file had when it was opened: 0 where that
-/// can't be told.
+/// can't be known.
 #[derive(Clone, Copy)]
 pub struct ReadBytes {
     pub count: usize,

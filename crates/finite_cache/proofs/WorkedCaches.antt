@@ -19,9 +19,9 @@ abbrev shape : ℕ → ℕ → ℕ → CacheShape
 shape n s w = record { size = n; sets = s; ways = w }
 
 -- of each row its start, its counts in bounded and in unbounded caches, and its evictions
-abbrev told : List CacheRow → List (ℕ × ℕ × ℕ × ℕ)
-told [] = []
-told (x ∷ xs) = (x.start, x.bounded, x.unbounded, x.evicted) ∷ told xs
+abbrev stated : List CacheRow → List (ℕ × ℕ × ℕ × ℕ)
+stated [] = []
+stated (x ∷ xs) = (x.start, x.bounded, x.unbounded, x.evicted) ∷ stated xs
 
 abbrev sums : Totals → ℕ × ℕ × ℕ
 sums x = (x.bounded, x.unbounded, x.evicted)
@@ -31,20 +31,20 @@ abbrev in_between : List Touch
 in_between = wr 0 0x1000 ∷ (wr 1 0x1000 ∷ (wr 1 0x2000 ∷ (wr 0 0x1000 ∷ [])))
 
 -- with room for one line the second hart lost the line before the first wrote it again
-one_way : (told (rows_of (shape 64 1 1) in_between) ≡ (0, 1, 2, 1) ∷ (2, 0, 0, 0) ∷ [])
+one_way : (stated (rows_of (shape 64 1 1) in_between) ≡ (0, 1, 2, 1) ∷ (2, 0, 0, 0) ∷ [])
     × (sums (totals_of (shape 64 1 1) in_between) ≡ (1, 2, 1))
 unfolding count_places first_place
 one_way = (refl, refl)
 
 -- with room for two, or in another set, nothing is lost
-two_ways : (told (rows_of (shape 64 1 2) in_between) ≡ (0, 2, 2, 0) ∷ (2, 0, 0, 0) ∷ [])
+two_ways : (stated (rows_of (shape 64 1 2) in_between) ≡ (0, 2, 2, 0) ∷ (2, 0, 0, 0) ∷ [])
     × (sums (totals_of (shape 64 1 2) in_between) ≡ (2, 2, 0))
 unfolding count_places first_place
 two_ways = (refl, refl)
 
 -- lines 0x1000 and 0x2000 of 64 bytes are in one set of 64, and in two of 256
-one_set : (told (rows_of (shape 64 64 1) in_between) ≡ (0, 1, 2, 1) ∷ (2, 0, 0, 0) ∷ [])
-    × (told (rows_of (shape 64 256 1) in_between) ≡ (0, 2, 2, 0) ∷ (2, 0, 0, 0) ∷ [])
+one_set : (stated (rows_of (shape 64 64 1) in_between) ≡ (0, 1, 2, 1) ∷ (2, 0, 0, 0) ∷ [])
+    × (stated (rows_of (shape 64 256 1) in_between) ≡ (0, 2, 2, 0) ∷ (2, 0, 0, 0) ∷ [])
 unfolding count_places first_place
 one_set = (refl, refl)
 
@@ -54,12 +54,12 @@ lists : (bounded (shape 64 1 2) (rd 0 0x40 ∷ (rd 0 0x80 ∷ (rd 0 0x40 ∷ (rd
 lists = refl
 
 -- an eviction before the first write counts, and a line that is taken by a write isn't evicted
-evicted_before : told (rows_of (shape 64 1 1) (rd 0 0x40 ∷ (rd 0 0x80 ∷ (wr 1 0x40 ∷ []))))
+evicted_before : stated (rows_of (shape 64 1 1) (rd 0 0x40 ∷ (rd 0 0x80 ∷ (wr 1 0x40 ∷ []))))
     ≡ (2, 0, 0, 1) ∷ []
 unfolding count_places first_place
 evicted_before = refl
 
-taken : told (rows_of (shape 64 1 2) (rd 0 0x40 ∷ (wr 1 0x40 ∷ (rd 0 0x80 ∷ (rd 0 0xc0 ∷ [])))))
+taken : stated (rows_of (shape 64 1 2) (rd 0 0x40 ∷ (wr 1 0x40 ∷ (rd 0 0x80 ∷ (rd 0 0xc0 ∷ [])))))
     ≡ (1, 0, 0, 0) ∷ []
 unfolding count_places first_place
 taken = refl

@@ -10,5 +10,5 @@ pub mod Stands
 pub mod Steps
 pub mod Tables
 pub mod Texts
-pub mod Told
+pub mod Stated
 pub mod Ways

@@ -1,4 +1,4 @@
--- What is told of each written line, and of all.
+-- What is reported of each written line, and of all.
 use Rattle.std.specs.Prelude.{ℕ, ◌&&◌, nat_lt, List, Option, length, map, sum_by}
 use Rattle.std.specs.Option.{option_map_or}
 use Rattle.sharing_rules.specs.AccessLists.{AccessList}

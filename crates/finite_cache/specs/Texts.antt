@@ -13,8 +13,8 @@ use Rattle.finite_cache.specs.declared.rows.CacheRow.{CacheRow}
 use Rattle.finite_cache.specs.declared.rows.Totals.{Totals}
 
 -- a line that is taken from a hart in unbounded caches
-abbrev pub is_told : CacheRow → Bool
-is_told x = nat_lt 0 x.unbounded
+abbrev pub is_reported : CacheRow → Bool
+is_reported x = nat_lt 0 x.unbounded
 
 -- unbounded falling, then base rising
 abbrev pub comes_first : CacheRow → CacheRow → Bool
@@ -22,9 +22,9 @@ comes_first x y =
     nat_lt y.unbounded x.unbounded
     || ((x.unbounded == y.unbounded) && int_lt x.range.base y.range.base)
 
--- the rows that are told, in order
-abbrev pub told_rows : List CacheRow → List CacheRow
-told_rows rows = in_order comes_first (filter is_told rows)
+-- the reported rows, in order
+abbrev pub reported_rows : List CacheRow → List CacheRow
+reported_rows rows = in_order comes_first (filter is_reported rows)
 
 abbrev pub count_words : ℕ → ℕ → ℕ → List (List ℕ)
 count_words bounded unbounded evicted =
@@ -35,14 +35,15 @@ abbrev pub row_line : CacheRow → List (List ℕ)
 row_line x =
     codes "line" ∷ address_text x.range.base ∷ count_words x.bounded x.unbounded x.evicted
 
--- the shape, and how many accesses and told lines there are
+-- the shape, and how many accesses and reported lines there are
 abbrev pub head_lines : CacheShape → ℕ → ℕ → List (List (List ℕ))
 head_lines k accesses lines =
     (codes "caches" ∷ decimal k.size ∷ decimal k.sets ∷ decimal k.ways ∷ [])
     ∷ (codes "accesses" ∷ decimal accesses ∷ [])
     ∷ (codes "lines" ∷ decimal lines ∷ []) ∷ []
 
--- the sums over all rows, those that aren't told with the others, and the evictions of all lines
+-- the sums over all rows, those that aren't reported with the others, and the evictions of all
+-- lines
 abbrev pub total_line : Totals → List (List ℕ)
 total_line x = codes "total" ∷ count_words x.bounded x.unbounded x.evicted
 
@@ -56,4 +57,4 @@ lines_of_caches k accesses rows total =
 -- the text of a list of accesses, under a shape
 unfoldable pub caches_text : CacheShape → AccessList → List ℕ
 caches_text k t =
-    text_of (lines_of_caches k (length t) (told_rows (rows_of k t)) (totals_of k t))
+    text_of (lines_of_caches k (length t) (reported_rows (rows_of k t)) (totals_of k t))

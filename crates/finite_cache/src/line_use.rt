@@ -72,7 +72,7 @@ impl LineUse {
         ensures arrived { OnOk result (self.new ≡ record self.old {
           harts = note_arrival self.old.harts hart;
         }) }
-        ensures told { IfOk result (λ new. new ≡ not (list_any (eqb hart) self.old.harts)) }
+        ensures stated { IfOk result (λ new. new ≡ not (list_any (eqb hart) self.old.harts)) }
         ensures refused { OnErr result (self.new ≡ self.old) }
         ensures known { IsTrue (list_any (eqb hart) self.old.harts) → IsOk result }
     {

@@ -1,10 +1,10 @@
-// What is told of a line, and of all lines.
+// What is reported of a line, and of all lines.
 ghost use Rattle.std.specs.Prelude.{◌≡◌, ◌≤◌};
 ghost use Rattle.finite_cache.specs.Counts as counts;
 
 use base::Range;
 
-/// What is told of a line that was written.
+/// What is reported of a line that was written.
 #[derive(Clone, Copy, PartialEq, Eq, Debug)]
 pub struct CacheRow {
     /// Its addresses.

@@ -235,7 +235,7 @@ fn come(
     requires noted { AreNoted shape (lists_of shape sets.old.entries)
         (harts_of lines.old.entries) }
     requires few { (r : ℕ) → (use_of lines.old.entries r).evicted < 2 ^ 40 }
-    ensures told { IfOk result (λ evicted. evicted ≡ is_some (left shape line
+    ensures stated { IfOk result (λ evicted. evicted ≡ is_some (left shape line
         (lists_of shape sets.old.entries hart (set_of shape line)))) }
     ensures used { OnOk result ((c : ℕ) → lines_at sets.new.entries c
         ≡ if eqb c (cell_of shape hart (set_of shape line)) then used shape line
@@ -275,7 +275,7 @@ fn write(
     requires writes { IsTrue (is_write access.now.kind) }
     requires shaped { IsTrue (is_shape shape) }
     requires fit { AreFit shape position (parts_of sets.old lines.old rows.old) }
-    ensures told { IfOk result (λ evicted. evicted ≡ is_some
+    ensures stated { IfOk result (λ evicted. evicted ≡ is_some
         (evicted_now shape (parts_of sets.old lines.old rows.old) access.now)) }
     ensures stepped { OnOk result (IsStep shape position access.now
         (parts_of sets.old lines.old rows.old) (parts_of sets.new lines.new rows.new)) }
@@ -315,7 +315,7 @@ pub fn step(
     requires early { position < 2 ^ 40 }
     requires shaped { IsTrue (is_shape shape) }
     requires fit { AreFit shape position (parts_of sets.old lines.old rows.old) }
-    ensures told { IfOk result (λ evicted. evicted ≡ is_some
+    ensures stated { IfOk result (λ evicted. evicted ≡ is_some
         (evicted_now shape (parts_of sets.old lines.old rows.old) access.now)) }
     ensures stepped { OnOk result (IsStep shape position access.now
         (parts_of sets.old lines.old rows.old) (parts_of sets.new lines.new rows.new)) }

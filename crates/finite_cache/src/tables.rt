@@ -127,7 +127,7 @@ fn arrive_at(lines: &mut IndexMap<u64, LineUse>, index: usize, hart: Hart) -> Re
     ensures arrived { OnOk result (IfSome (slice_get (values lines.old) index)
         (λ l. lines.new.entries ≡ set_value_at lines.old.entries index
         (record l { harts = note_arrival l.harts hart }))) }
-    ensures told { IfOk result (λ new. IfSome (slice_get (values lines.old) index)
+    ensures stated { IfOk result (λ new. IfSome (slice_get (values lines.old) index)
         (λ l. new ≡ not (list_any (eqb hart) l.harts))) }
     ensures refused { OnErr result (lines.new.entries ≡ lines.old.entries) }
     ensures known { IfSome (slice_get (values lines.old) index)
@@ -143,7 +143,7 @@ fn arrive_at(lines: &mut IndexMap<u64, LineUse>, index: usize, hart: Hart) -> Re
 fn arrive_first(lines: &mut IndexMap<u64, LineUse>, line: u64, hart: Hart) -> Result<bool, NoMemory>
     ensures arrived { OnOk result (lines.new.entries ≡ insert_entry nat_eq lines.old.entries line
         (record { harts = hart ∷ []; evicted = 0 })) }
-    ensures told { IfOk result (λ new. IsTrue new) }
+    ensures stated { IfOk result (λ new. IsTrue new) }
     ensures refused { OnErr result (lines.new.entries ≡ lines.old.entries) }
 {
     let used = match LineUse::by(*lines.allocator(), hart) {
@@ -163,7 +163,7 @@ pub fn arrive(lines: &mut IndexMap<u64, LineUse>, line: u64, hart: Hart) -> Resu
         then record (use_of lines.old.entries line) {
           harts = note_arrival (harts_of lines.old.entries line) hart;
         } else use_of lines.old.entries r) }
-    ensures told { IfOk result (λ new. new
+    ensures stated { IfOk result (λ new. new
         ≡ not (list_any (eqb hart) (harts_of lines.old.entries line))) }
     ensures refused { OnErr result (lines.new.entries ≡ lines.old.entries) }
     ensures known { IsTrue (list_any (eqb hart) (harts_of lines.old.entries line))

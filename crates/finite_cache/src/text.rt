@@ -12,8 +12,8 @@ ghost use Rattle.base.specs.Shapes.{CacheShape};
 ghost use Rattle.finite_cache.specs.CacheState.{StandsFor, nothing_kept, row_kept};
 ghost use Rattle.finite_cache.specs.Seen.{HasSeen, caches_of_records};
 ghost use Rattle.finite_cache.specs.Texts.{caches_text, comes_first, count_words, end_lines};
-ghost use Rattle.finite_cache.specs.Texts.{head_lines, is_told, lines_of_caches, row_line};
-ghost use Rattle.finite_cache.specs.Texts.{told_rows, total_line};
+ghost use Rattle.finite_cache.specs.Texts.{head_lines, is_reported, lines_of_caches, row_line};
+ghost use Rattle.finite_cache.specs.Texts.{reported_rows, total_line};
 
 use crate::caches::Caches;
 use crate::rows::{CacheRow, Totals};
@@ -31,10 +31,10 @@ fn order(one: &CacheRow, other: &CacheRow) -> Ordering
     }
 }
 
-// Puts a row behind the others, if it is told.
-fn push_told(rows: &mut Vec<CacheRow>, row: Option<CacheRow>) -> Result<(), NoMemory>
+// Puts a row behind the others, if it is reported.
+fn push_reported(rows: &mut Vec<CacheRow>, row: Option<CacheRow>) -> Result<(), NoMemory>
     ensures { OnOk result (rows.new.items ≡ rows.old.items
-        ++ filter is_told (option_to_list row)) }
+        ++ filter is_reported (option_to_list row)) }
 {
     if let Some(row) = row {
         if row.unbounded > 0 {
@@ -44,21 +44,21 @@ fn push_told(rows: &mut Vec<CacheRow>, row: Option<CacheRow>) -> Result<(), NoMe
     Ok(())
 }
 
-// The rows that are told, in the order of first writes.
+// The reported rows, in the order of first writes.
 fn unsorted(alloc: Global, caches: &Caches) -> Result<Vec<CacheRow>, NoMemory>
-    ensures { IfOk result (λ rows. rows.items ≡ filter is_told
+    ensures { IfOk result (λ rows. rows.items ≡ filter is_reported
         (map (row_kept caches.now.shape caches.now.parts.lines) caches.now.parts.rows)) }
 {
     let mut rows = Vec::new(alloc);
     for i in 0..caches.row_count() {
-        push_told(&mut rows, caches.row(i))?;
+        push_reported(&mut rows, caches.row(i))?;
     }
     Ok(rows)
 }
 
-// The rows that are told, in their order.
+// The reported rows, in their order.
 fn sorted(alloc: Global, caches: &Caches) -> Result<Vec<CacheRow>, NoMemory>
-    ensures { IfOk result (λ rows. rows.items ≡ told_rows
+    ensures { IfOk result (λ rows. rows.items ≡ reported_rows
         (map (row_kept caches.now.shape caches.now.parts.lines) caches.now.parts.rows)) }
 {
     let mut rows = unsorted(alloc, caches)?;
@@ -182,7 +182,7 @@ fn push_caches(
 // The text of what is kept, with these sums.
 fn write_kept(alloc: Global, caches: &Caches, total: Totals) -> Result<Vec<u8>, NoMemory>
     ensures { IfOk result (λ text. text.items ≡ text_of
-        (lines_of_caches caches.now.shape caches.now.position (told_rows
+        (lines_of_caches caches.now.shape caches.now.position (reported_rows
         (map (row_kept caches.now.shape caches.now.parts.lines) caches.now.parts.rows)) total)) }
 {
     let rows = sorted(alloc, caches)?;
@@ -194,7 +194,7 @@ fn write_kept(alloc: Global, caches: &Caches, total: Totals) -> Result<Vec<u8>, 
 /// The text of caches: their shape, of each line that is taken from a hart in unbounded caches its
 /// counts, the sums over all lines, and `end`.
 ///
-/// NoMemory comes where there is no memory for the text, or for the told rows and their sort.
+/// NoMemory comes where there is no memory for the text, or for the reported rows and their sort.
 pub fn write_caches(alloc: Global, caches: &Caches) -> Result<Vec<u8>, NoMemory>
     // for each list that they stand for, it is the text of the list
     ensures of_list { (t : AccessList) → StandsFor t caches.now

@@ -49,7 +49,7 @@ built hart x calls plan steps accesses c = record c {
   accesses = accesses;
 }
 
--- told in two ways
+-- one configuration stated in two ways
 same_built : (hart : ℕ) (x : Machine) (c : Config) (calls calls' : List ℕ) (plan plan' : Plan)
     (steps steps' accesses accesses' : ℕ) → calls ≡ calls' → plan ≡ plan' → steps ≡ steps'
     → accesses ≡ accesses'

@@ -17,7 +17,7 @@ pub mod PassedTurns
 pub mod RunSteps
 pub mod SoundChanges
 pub mod ThreadPlaces
-pub mod ThreadsTold
+pub mod ThreadAnswers
 pub mod Tiles
 pub mod TreeHeights
 pub mod TurnAnswers

@@ -15,7 +15,7 @@ use Rattle.guest.specs.declared.phase.HartPhase.TheVariants.{Ended}
 use Rattle.guest.specs.Phases.{phase_of, is_runnable, lone_runnable}
 use Rattle.guest.specs.ThreadChanges.{RunsAlone}
 use Rattle.guest.proofs.ThreadPlaces.{other_at}
-use Rattle.guest.proofs.ThreadsTold.{runnable_since}
+use Rattle.guest.proofs.ThreadAnswers.{runnable_since}
 
 idle : (phase : HartPhase) → cond (is_runnable phase) 1 0 ≤ 0 → is_runnable phase ≡ false
 idle Free few = refl
@@ -107,7 +107,7 @@ pub lone_found : (phases : List HartPhase) (running : ℕ) (o : Option ℕ) → 
 lone_found phases running o counted one found =
     rw (eq-eqb (count_by is_runnable phases) 1 (sym counted ∙ one)) found
 
-pub lone_tells : (phases : List HartPhase) (o : Option ℕ) → o ≡ lone_runnable phases
+pub lone_answer : (phases : List HartPhase) (o : Option ℕ) → o ≡ lone_runnable phases
     → IfSome o (RunsAlone phases)
-lone_tells phases None is = tt
-lone_tells phases (Some hart) is = lone_alone phases hart (sym is)
+lone_answer phases None is = tt
+lone_answer phases (Some hart) is = lone_alone phases hart (sym is)

@@ -1,4 +1,4 @@
--- Whether a range is mapped, by what reading it tells.
+-- Whether a range is mapped, by the result of reading it.
 use Rattle.std.proofs.Common.{◌≡◌, ℕ, zero, suc, ◌+◌, ◌<◌, ◌≤◌, Bool, true, false, refl, arith, inl}
 use Rattle.std.proofs.Common.{inr}
 use Rattle.std.proofs.lemmas.Bool.{cases_lt}

@@ -1,5 +1,5 @@
--- Phases by hart: what a changed list has at a hart, and what a search for a phase tells of each
--- hart.
+-- Phases by hart: what a changed list has at a hart, and what a search for a phase determines of
+-- each hart.
 use Rattle.std.proofs.Common.{◌≡◌, ◌≢◌, ℕ, zero, suc, ◌<◌, ◌≤◌, ◌∙◌, Bool, false, cond, List, []}
 use Rattle.std.proofs.Common.{◌∷◌, length, set, refl, arith, inl, inr}
 use Rattle.std.proofs.Common.{nat_eq, nat_lt, None, Some, get_or-set_same, get_or-set_other}

@@ -63,8 +63,8 @@ none_wakes = refl
 the_joiner_goes_on : exited (Joining 2 ∷ Free ∷ Runnable ∷ []) 2 5 ≡ Runnable ∷ Free ∷ Free ∷ []
 the_joiner_goes_on = refl
 
-the_joiner_is_told : joiner_of (Joining 2 ∷ Free ∷ Runnable ∷ []) 2 ≡ Some 0
-the_joiner_is_told = refl
+the_joiner_is_answered : joiner_of (Joining 2 ∷ Free ∷ Runnable ∷ []) 2 ≡ Some 0
+the_joiner_is_answered = refl
 
 the_code_is_kept : exited (Runnable ∷ Free ∷ Runnable ∷ []) 2 5 ≡ Runnable ∷ Free ∷ Ended 5 ∷ []
 the_code_is_kept = refl

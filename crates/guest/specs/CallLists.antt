@@ -1,6 +1,6 @@
--- The calls that a hart has made and not returned from: where each was made, the newest first. What
--- calls and what returns is told by the link registers x1 and x5, as the unprivileged specification
--- hints to those who predict returns.
+-- The calls that a hart has made and not returned from: where each was made, the newest first. The
+-- link registers x1 and x5 determine which instructions call and which return, as the unprivileged
+-- specification hints to those who predict returns.
 use Rattle.std.specs.Prelude.{ℕ, Bool, not, ◌&&◌, ◌||◌, if◌then◌else◌, nat_eq, List, ◌∷◌, take}
 use Rattle.std.specs.Prelude.{drop, unwrap_or, slice_get, []}
 use Rattle.rv32_decode.specs.declared.instruction.Instr.{Instr}

@@ -95,7 +95,7 @@ output_in (e ∷ events) = bytes_in e ++ output_in events
 abbrev pub output_of : Run → List ℕ
 output_of r = output_in r.events
 
--- a run of at most so many steps, whose end tells how many accesses it made
+-- a run of at most so many steps, whose end states how many accesses it made
 pub record IsShort (s : Setup) (r : Run) : Type 0 where
   pub events : length r.events ≤ s.budget
   pub steps : r.ending.steps ≤ s.budget

@@ -92,7 +92,7 @@ impl Threads {
     pub fn spawn(&mut self) -> Option<Hart>
         ensures answer { result ≡ lowest_free self.old }
         ensures after { self.new ≡ spawned self.old }
-        ensures tells { MatchOption result (StartsNone self.old self.new)
+        ensures effect { MatchOption result (StartsNone self.old self.new)
             (Starts self.old self.new) }
     {
         match self.lowest_free() {
@@ -113,7 +113,7 @@ impl Threads {
         requires runs { phase_of self.old caller ≡ HartPhase.Runnable }
         ensures answer { result ≡ join_end self.old caller target }
         ensures after { self.new ≡ joined self.old caller target }
-        ensures tells { Joins self.old self.new caller target result }
+        ensures effect { Joins self.old self.new caller target result }
     {
         match self.joinable(caller, target) {
             None => JoinEnd::Bad,
@@ -137,7 +137,7 @@ impl Threads {
     pub fn wake(&mut self, addr: u32, most: u32) -> u32
         ensures answer { result ≡ woken_count self.old addr most }
         ensures after { self.new ≡ woken self.old addr most }
-        ensures tells { WakesLowest self.old self.new addr most }
+        ensures effect { WakesLowest self.old self.new addr most }
     {
         let mut count = 0;
         for place in 0..self.phases.len() {
@@ -156,7 +156,7 @@ impl Threads {
         requires runs { phase_of self.old caller ≡ HartPhase.Runnable }
         ensures answer { result ≡ joiner_of self.old caller }
         ensures after { self.new ≡ exited self.old caller code }
-        ensures tells { MatchOption result (ExitsAlone self.old self.new caller code)
+        ensures effect { MatchOption result (ExitsAlone self.old self.new caller code)
             (ExitsJoined self.old self.new caller) }
     {
         match self.joiner_of(caller) {

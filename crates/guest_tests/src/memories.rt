@@ -77,7 +77,7 @@ const FETCH_FAULTS: [(u32, MemFault); 3] = [
     (0x11000, MemFault::NotExecutable),
 ];
 
-// Whether a store of four bytes has this fault, told before it is made too.
+// Whether a store of four bytes has this fault, reported before it is made too.
 fn is_unstored(memory: &mut Memory, addr: u32, fault: MemFault) -> bool {
     memory.store_fault(addr, 4) == Some(fault) && memory.store(addr, 4, 1) == Err(fault)
 }
@@ -95,7 +95,7 @@ fn refuse_all(rt: &impl Abort, memory: &mut Memory) {
 }
 
 #[test]
-fn the_first_fault_is_told(rt: HostRuntime) -> Result<(), Fail> {
+fn the_first_fault_is_reported(rt: HostRuntime) -> Result<(), Fail> {
     let mut memory = two_pages(rt.alloc())?;
     refuse_all(&rt, &mut memory);
     Ok(())

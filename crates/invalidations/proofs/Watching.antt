@@ -52,7 +52,7 @@ pub noted-none : (l : Line) (from : ℕ) (u : List Sited) (k : LineInvalidations
     → k ≡ kept_of l from u → k ≡ kept_of l from (u ++ [])
 noted-none l from u k is = is ∙ ap (kept_of l from) (sym (append-nil u))
 
--- an access of which the explainer is told
+-- an access that the explainer notes
 pub noted-one : (l : Line) (from : ℕ) (u : List Sited) (old new : LineInvalidations) (s : Sited)
     → old ≡ kept_of l from u → new ≡ note_access old s → new ≡ kept_of l from (u ++ s ∷ [])
 noted-one l from u old new s is noted =
@@ -197,12 +197,12 @@ touches_watched touches place first now all so l from u is =
     (take_all place touches all)
 
 -- the text of an explainer that stands for the run
-pub told_text_is : (ending end : Ending) (symbols : List Symbol) (l : Line) (from : ℕ)
+pub reported_text_is : (ending end : Ending) (symbols : List Symbol) (l : Line) (from : ℕ)
     (u : List Sited) (k : LineInvalidations) (text : List ℕ) → ending ≡ end → k ≡ kept_of l from u
     → ((v : List Sited) → StandsFor v k
     → text ≡ explain_text ending symbols k.line k.start v)
     → text ≡ explain_text end symbols l from u
-told_text_is ending end symbols l from u k text same is tells =
-    tells u (subst (StandsFor u) (sym is) refl)
+reported_text_is ending end symbols l from u k text same is keeps_held =
+    keeps_held u (subst (StandsFor u) (sym is) refl)
     ∙ ap (λ (x : LineInvalidations). explain_text ending symbols x.line x.start u) is
     ∙ ap (λ e. explain_text e symbols l from u) same

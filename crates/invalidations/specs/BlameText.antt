@@ -13,7 +13,7 @@ use Rattle.invalidations.specs.Blame.{TakenLine, all_invalidations, most_taken}
 use Rattle.invalidations.specs.Text.{hart_lines, pair_lines}
 
 -- how many accesses there are, how many there were before a filtered trace was filtered, the layout,
--- and how many lines are told
+-- and how many lines are reported
 abbrev pub count_lines : Grid → ℕ → Option ℕ → ℕ → List TextLine
 count_lines g accesses whole lines =
     (codes "accesses" ∷ decimal accesses ∷ [])

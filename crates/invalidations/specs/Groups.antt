@@ -15,7 +15,7 @@ keys_once eq (k ∷ ks) = k ∷ filter (λ j. not (eq j k)) (keys_once eq ks)
 abbrev pub group_of : {K X : Type 0} → (K → K → Bool) → (X → K) → List X → K → List X
 group_of eq key xs k = filter (λ x. eq k (key x)) xs
 
--- what is told of each group, by its key, in the order in which the keys came
+-- the value of each group, by its key, in the order in which the keys came
 abbrev pub groups : {K X V : Type 0} → (K → K → Bool) → (X → K) → (List X → V) → List X
     → List (K × V)
-groups eq key told xs = map (λ k. (k, told (group_of eq key xs k))) (keys_once eq (map key xs))
+groups eq key stated xs = map (λ k. (k, stated (group_of eq key xs k))) (keys_once eq (map key xs))

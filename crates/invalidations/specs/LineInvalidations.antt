@@ -42,8 +42,8 @@ two_of l u = record {
   held = option_map_or (λ v. holds_line l u v.access.hart) (latest_other l u) false;
 }
 
--- What these tell of an access by hart h: whether the latest access is its own, the latest one by
--- another hart, and whether another hart holds the line.
+-- What these determine of an access by hart h: whether the latest access is its own, the latest one
+-- by another hart, and whether another hart holds the line.
 abbrev pub is_latest_by : LatestTwo → ℕ → Bool
 is_latest_by x h = option_map_or (λ a. a.access.hart == h) x.latest false
 

@@ -1,4 +1,4 @@
--- The text of what is told of a line, as lines of words.
+-- The text of what is reported of a line, as lines of words.
 use Rattle.std.specs.Prelude.{ℕ, pos, List, [], ◌∷◌, ◌++◌, codes, length, map, Option}
 use Rattle.std.specs.Fmt.{decimal}
 use Rattle.base.specs.Addresses.{address_text}
@@ -85,12 +85,12 @@ table_lines symbols k =
     ++ (codes "end" ∷ []) ∷ []
 
 -- the whole text
-abbrev pub told_lines : Ending → List Symbol → LineInvalidations → List TextLine
-told_lines ending symbols k = head_lines ending k ++ table_lines symbols k
+abbrev pub reported_lines : Ending → List Symbol → LineInvalidations → List TextLine
+reported_lines ending symbols k = head_lines ending k ++ table_lines symbols k
 
-abbrev pub told_text : Ending → List Symbol → LineInvalidations → List ℕ
-told_text ending symbols k = text_of (told_lines ending symbols k)
+abbrev pub reported_text : Ending → List Symbol → LineInvalidations → List ℕ
+reported_text ending symbols k = text_of (reported_lines ending symbols k)
 
--- what is told of line l from a start on of a sited list that ended so
+-- what is reported of line l from a start on of a sited list that ended so
 abbrev pub explain_text : Ending → List Symbol → Line → ℕ → List Sited → List ℕ
-explain_text ending symbols l start u = told_text ending symbols (kept_of l start u)
+explain_text ending symbols l start u = reported_text ending symbols (kept_of l start u)

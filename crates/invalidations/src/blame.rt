@@ -19,7 +19,7 @@ use std::marker::Model;
 /// The invalidations of all lines of a layout, so far.
 ///
 /// Contracts see the layout, how many accesses there were, how many invalidations, and the parts:
-/// of each line the two accesses that tell the next invalidation, and the tables of pairs of
+/// of each line the two accesses that determine the next invalidation, and the tables of pairs of
 /// instructions and of pairs of harts, each of all lines.
 #[derive(Drop)]
 pub struct Blame {

@@ -23,8 +23,8 @@ use base::NoMemory;
 use indexmap::IndexMap;
 use misses::Recent;
 
-/// Of a line the two accesses that tell the next invalidation, and how many invalidations there
-/// were.
+/// Of a line the two accesses that determine the next invalidation, and how many invalidations
+/// there were.
 #[derive(Clone, Copy, Debug)]
 pub struct LineTaken {
     pub two: LatestTwo,
@@ -238,7 +238,7 @@ fn count_if_taken(
         ≡ note_sides_in pcs_of line pairs.old.entries invalidation) }
     ensures harts { OnOk result (harts.new.entries
         ≡ note_sides_in harts_of line harts.old.entries invalidation) }
-    ensures told { IfOk result (λ taken. taken ≡ is_some invalidation) }
+    ensures stated { IfOk result (λ taken. taken ≡ is_some invalidation) }
     ensures same_pairs { OnErr result (pairs.new.entries ≡ pairs.old.entries) }
     ensures same_harts { OnErr result (harts.new.entries ≡ harts.old.entries) }
     ensures known { IsFalse (has_new_sides (record {
@@ -367,7 +367,7 @@ impl BlameTables {
         requires few_harts { AreFew self.old.harts.entries }
         ensures noted { OnOk result (parts_of self.new
             ≡ note_parts (parts_of self.old) line position sited) }
-        ensures told { IfOk result (λ taken. taken
+        ensures stated { IfOk result (λ taken. taken
             ≡ is_some (invalidation_in (parts_of self.old) line position sited)) }
         ensures refused { OnErr result (parts_of self.new ≡ parts_of self.old) }
         ensures known { IsFalse (has_new_sides (parts_of self.old) line
@@ -393,7 +393,7 @@ impl BlameTables {
         requires { lookup (eqb line) self.old.lines.entries ≡ None }
         ensures noted { (position : ℕ) → OnOk result (parts_of self.new
             ≡ note_parts (parts_of self.old) line position sited) }
-        ensures told { (position : ℕ) → IfOk result (λ taken. taken
+        ensures stated { (position : ℕ) → IfOk result (λ taken. taken
             ≡ is_some (invalidation_in (parts_of self.old) line position sited)) }
         ensures refused { OnErr result (parts_of self.new ≡ parts_of self.old) }
     {
@@ -411,7 +411,7 @@ impl BlameTables {
         requires few_harts { AreFew self.old.harts.entries }
         ensures noted { OnOk result (parts_of self.new
             ≡ note_parts (parts_of self.old) line position sited) }
-        ensures told { IfOk result (λ taken. taken
+        ensures stated { IfOk result (λ taken. taken
             ≡ is_some (invalidation_in (parts_of self.old) line position sited)) }
         ensures refused { OnErr result (parts_of self.new ≡ parts_of self.old) }
         ensures known { IsFalse (wants_memory_in (parts_of self.old) line position sited)

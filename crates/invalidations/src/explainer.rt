@@ -18,8 +18,8 @@ use std::marker::Model;
 /// The invalidations of one line above a start, so far.
 ///
 /// Contracts see the line, the start, how many accesses there were, how many invalidations, the two
-/// accesses that tell the next one, and the tables of sites, of pairs of instructions and of pairs
-/// of harts.
+/// accesses that determine the next one, and the tables of sites, of pairs of instructions and of
+/// pairs of harts.
 #[derive(Drop)]
 pub struct Explainer {
     line: CacheLine,

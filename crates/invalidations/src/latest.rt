@@ -1,4 +1,4 @@
-// The two accesses of a line that tell every victim.
+// The two accesses of a line that determine every victim.
 ghost use Rattle.std.specs.Prelude.{◌≡◌};
 ghost use Rattle.invalidations.specs.LineInvalidations.{is_held_by, is_latest_by, note_two};
 ghost use Rattle.invalidations.specs.LineInvalidations.{invalidation_by, victim_by};

@@ -38,7 +38,7 @@ pub fn victims_hold_the_line()
 /// Of a line two accesses are enough, whatever the number of harts: the latest access, and the
 /// latest one by another hart than that, with whether this other hart holds the line.
 pub fn two_accesses_are_enough()
-    // they tell the latest access by another hart than any
+    // they determine the latest access by another hart than any
     ensures victim { (l : Line) (before : List Sited) (hart : ℕ)
         → latest (is_in_by_another l hart) before ≡ victim_by (two_of l before) hart }
     // and whether another hart than any holds the line
@@ -57,7 +57,7 @@ pub fn false_sharing_takes_no_word()
         → IsTrue (is_of_one_word (record { victim = v; taker = s })) → i < start }
 {}
 
-/// The count that is told of a listed line, from the start that is listed with it, is the count
+/// The count that is reported of a listed line, from the start that is listed with it, is the count
 /// that is listed.
 pub fn listed_counts_are_invalidations()
     ensures { (g : Grid) (v : Levels) (u : List Sited) (f : Finding)
@@ -75,7 +75,7 @@ pub fn invalidations_add_up()
         → taken_in (hart_pairs l start u) ≡ invalidation_count l start u }
 {}
 
-/// The invalidations that are told of a line add up to its number: those of its pairs of
+/// The invalidations that are reported of a line add up to its number: those of its pairs of
 /// instructions, and those of its pairs of harts.
 pub fn taken_lines_add_up()
     ensures pairs { (l : Line) (u : List Sited)
@@ -103,7 +103,8 @@ pub fn invalidations_beside_later_counts()
         → Member f (listed g v (accesses_of u)) → f.count ≤ (taken_line u f.line).invalidations }
 {}
 
-/// What is told of a line among all lines is what is told of the line alone from the start 0 on.
+/// What is reported of a line among all lines is what is reported of the line alone from the start
+/// 0 on.
 pub fn lines_count_as_alone()
     ensures invalidations { (l : Line) (u : List Sited)
         → (taken_line u l).invalidations ≡ (kept_of l 0 u).count }

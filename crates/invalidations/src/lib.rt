@@ -6,17 +6,17 @@
 //!
 //! The definitions stand in `specs/Invalidations.antt`, over whole lists of accesses with their
 //! pcs, and the laws in `specs/Laws/`: each invalidation has a victim, whose hart holds the line,
-//! and two accesses are enough to tell every victim, whatever the number of harts. [`Explainer`]
-//! keeps these two beside its tables, and [`write_explain`] prints what it tells. [`explain_run`]
-//! runs a guest to its end without a detector: the explainer notes each access with the pc of the
-//! instruction that made it.
+//! and two accesses are enough to determine every victim, whatever the number of harts.
+//! [`Explainer`] keeps these two beside its tables, and [`write_explain`] prints what it reports.
+//! [`explain_run`] runs a guest to its end without a detector: the explainer notes each access with
+//! the pc of the instruction that made it.
 //!
-//! [`Blame`] does so for all lines of a layout at once, from the first access on; what it tells is
-//! defined in `specs/Blame.antt`. Of each line it keeps these two accesses and a number, and it has
-//! one table of instructions and one of harts for all lines, since most lines have few rows.
-//! Where a line or a row is in its table is guessed first, and then looked up.
-//! It sees the records of a trace, whose accesses come with their pcs: `specs/BlameRecords.antt`.
-//! [`write_blame`] prints the lines that are taken, the most taken first.
+//! [`Blame`] does so for all lines of a layout at once, from the first access on; what it reports
+//! is defined in `specs/Blame.antt`. Of each line it keeps these two accesses and a number, and it
+//! has one table of instructions and one of harts for all lines, since most lines have few rows.
+//! Where a line or a row is in its table is guessed first, and then looked up. It sees the records
+//! of a trace, whose accesses come with their pcs: `specs/BlameRecords.antt`. [`write_blame`]
+//! prints the lines that are taken, the most taken first.
 #![tactic(auto)]
 
 mod blame;

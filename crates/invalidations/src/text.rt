@@ -1,4 +1,4 @@
-// The text of what an explainer tells.
+// The text of what an explainer reports.
 ghost use Rattle.std.specs.Prelude.{◌≡◌, ◌∷◌, ◌++◌, [], IfOk, List, OnOk, codes, map};
 ghost use Rattle.std.specs.Prelude.{option_map, pos};
 ghost use Rattle.std.specs.Fmt.{decimal};
@@ -10,7 +10,7 @@ ghost use Rattle.invalidations.specs.Rows.{is_hart_row_before, is_pair_row_befor
 ghost use Rattle.invalidations.specs.Rows.{is_site_row_before};
 ghost use Rattle.invalidations.specs.Text.{counted_line, counted_words, explain_text, hart_line};
 ghost use Rattle.invalidations.specs.Text.{head_lines, headed, owner_text, pair_line, site_line};
-ghost use Rattle.invalidations.specs.Text.{site_words, told_text};
+ghost use Rattle.invalidations.specs.Text.{site_words, reported_text};
 ghost use Rattle.invalidations.specs.declared.sited.Sited.{Sited as ASited};
 
 use crate::explainer::Explainer;
@@ -233,7 +233,7 @@ fn text_of_rows(
     requires pairs { pairs.now ≡ in_order is_pair_row_before explainer.now.pairs }
     requires harts { harts.now ≡ in_order is_hart_row_before explainer.now.harts }
     ensures { IfOk result (λ text. text.items
-        ≡ told_text ending.now index.now.symbols explainer.now) }
+        ≡ reported_text ending.now index.now.symbols explainer.now) }
 {
     let mut text = String::new(alloc);
     push_head(&mut text, ending, explainer)?;
@@ -241,7 +241,7 @@ fn text_of_rows(
     Ok(text.into_bytes())
 }
 
-/// What an explainer tells of its line, with how the run ended and the functions of its program:
+/// What an explainer reports of its line, with how the run ended and the functions of its program:
 /// its sites by rising pc; the pairs of instructions by invalidations falling; and the pairs of
 /// harts.
 ///
@@ -253,8 +253,8 @@ pub fn write_explain(
     objects: &ObjectTable,
     explainer: &Explainer,
 ) -> Result<Vec<u8>, NoMemory>
-    ensures told { IfOk result (λ text. text.items
-        ≡ told_text ending.now objects.now.symbols explainer.now) }
+    ensures stated { IfOk result (λ text. text.items
+        ≡ reported_text ending.now objects.now.symbols explainer.now) }
     // where it stands for a list, it is the text of the list
     ensures stands { (u : List ASited) → StandsFor u explainer.now
         → IfOk result (λ text. text.items ≡ explain_text ending.now objects.now.symbols

@@ -18,7 +18,7 @@ use objects::ObjectTable;
 use sharing_rules::CacheLine;
 use std::alloc::Global;
 
-/// How a run ended, and what is told of the line.
+/// How a run ended, and what is reported of the line.
 #[derive(Drop)]
 pub struct Explained {
     /// How it ended.
@@ -126,9 +126,9 @@ fn watch_all(
     follow(guest, explainer, &mut touches)
 }
 
-// Runs a guest to its end, and tells what is noted of it. (It owns neither: a function that owns
+// Runs a guest to its end, and reports what is noted of it. (It owns neither: a function that owns
 // both and may fail twice takes minutes to prove.)
-fn tell(
+fn watch_to_end(
     alloc: Global,
     guest: &mut Guest,
     explainer: &mut Explainer,
@@ -147,7 +147,7 @@ fn tell(
     Ok(Explained { ending, text })
 }
 
-/// Runs a guest to its end, and tells of the invalidations of a line above a start, with the
+/// Runs a guest to its end, and reports the invalidations of a line above a start, with the
 /// functions of a program. The guest has a budget of at most 2^36.
 ///
 /// NoMemory comes where there is no memory for the guest, for what is noted, or for the text.
@@ -165,5 +165,5 @@ pub fn explain_run(
         (sited_run (rest_of guest))) }
 {
     let mut explainer = Explainer::new(alloc, line, start);
-    tell(alloc, &mut guest, &mut explainer, objects)
+    watch_to_end(alloc, &mut guest, &mut explainer, objects)
 }

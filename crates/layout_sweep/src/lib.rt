@@ -6,9 +6,9 @@
 //! are all windows. [`Sweep`] keeps them by where they begin, in pages, and an access touches the
 //! N / 4 windows that hold its word, which are neighbours.
 //!
-//! A window keeps the first two harts that came since its last write, which tell whether a write
-//! finds another hart there, and whether that ever happened. A shift keeps two sums: its total, and
-//! how many of its lines have a part in it.
+//! A window keeps the first two harts that came since its last write, which determine whether a
+//! write finds another hart there, and whether that ever happened. A shift keeps two sums: its
+//! total, and how many of its lines have a part in it.
 //!
 //! [`LineCounts`] keeps the same of one layout alone, for an access list that others choose.
 //!

@@ -1,5 +1,5 @@
--- Two entries are enough: they follow the first two arrivals, and tell whether another hart holds
--- the line.
+-- Two entries are enough: they follow the first two arrivals, and determine whether another hart
+-- holds the line.
 use Rattle.std.proofs.Common.{◌≡◌, ℕ, Bool, true, false, eqb, List, [], ◌∷◌, ◌++◌, take, sym, ap}
 use Rattle.std.proofs.Common.{◌∙◌}
 use Rattle.std.specs.List.{list_any}

@@ -13,7 +13,7 @@ const NO_HART: u64 = 256;
 
 const MANY_HARTS: u64 = 257;
 
-/// A word whose owner is one number, so that one comparison tells whether an access leaves it.
+/// A word whose owner is one number, so that one comparison decides whether an access leaves it.
 ///
 /// Contracts see the word.
 #[derive(Clone, Copy)]

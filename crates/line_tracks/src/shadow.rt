@@ -121,8 +121,8 @@ impl Shadow {
         self.total = self.total - old.accesses() + word.accesses();
     }
 
-    /// Whether its range holds an address. (Its words tell how many bytes it has, so that a note
-    /// of the access that follows finds its word by the same comparison.)
+    /// Whether its range holds an address. (Its words determine how many bytes it has, so that a
+    /// note of the access that follows finds its word by the same comparison.)
     #[inline(always)]
     pub fn holds(&self, addr: u32) -> bool
         ensures { result ≡ holds_address self.now.range addr }

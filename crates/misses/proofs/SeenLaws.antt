@@ -23,7 +23,7 @@ use Rattle.trace_passes.specs.Rooms.{GivenNext, HasRoom}
 use Rattle.trace_passes.specs.Lives.{objects_after}
 use Rattle.misses.specs.Seen.{HasMissed, miss_account, missed, misses_begin_at}
 use Rattle.misses.specs.Seen.{misses_noted, nothing_missed}
-use Rattle.misses.specs.Texts.{misses_lines, misses_of_records, told_rows}
+use Rattle.misses.specs.Texts.{misses_lines, misses_of_records, reported_rows}
 use Rattle.trace_passes.specs.Lives.{objects_noted}
 use Rattle.misses.specs.declared.observer.MissObservations.{MissObservations}
 use Rattle.trace_format.specs.Laws.Touches.{counted-one, room-next}
@@ -111,19 +111,19 @@ pub missed_text : (g : Grid) (whole : Option ℕ) (now : MissObservations) (item
     → HasMissed (nothing_missed g) now items
     → ((t : AccessList) → StandsFor t now.misses → total ≡ all_costs now.misses.grid t)
     → text_of (misses_lines now.misses.grid now.misses.position whole now.objects
-    (told_rows (map (row_of now.misses.grid) now.misses.lines)) total) ≡ misses_of_records g whole items
+    (reported_rows (map (row_of now.misses.grid) now.misses.lines)) total) ≡ misses_of_records g whole items
 unfolding misses_of_records
 missed_text g whole now items total so_far costs =
     let t : AccessList = touches_in items in
     let k : MissCounts = now.misses in
     let stands : StandsFor t k = so_far.accesses.stands [] refl in
-    ap (λ (rs : List Row). text_of (misses_lines k.grid k.position whole now.objects (told_rows rs) total))
+    ap (λ (rs : List Row). text_of (misses_lines k.grid k.position whole now.objects (reported_rows rs) total))
     (rows-stand k t stands)
     ∙ ap (λ (c : Costs). text_of (misses_lines k.grid k.position whole now.objects
-    (told_rows (rows_of k.grid t)) c)) (costs t stands)
-    ∙ ap (λ (q : Grid). text_of (misses_lines q k.position whole now.objects (told_rows (rows_of q t))
+    (reported_rows (rows_of k.grid t)) c)) (costs t stands)
+    ∙ ap (λ (q : Grid). text_of (misses_lines q k.position whole now.objects (reported_rows (rows_of q t))
     (all_costs q t))) so_far.accesses.setting
-    ∙ ap (λ p. text_of (misses_lines g p whole now.objects (told_rows (rows_of g t)) (all_costs g t)))
+    ∙ ap (λ p. text_of (misses_lines g p whole now.objects (reported_rows (rows_of g t)) (all_costs g t)))
     (ap (λ (x : MissCounts). x.position) stands)
-    ∙ ap (λ (o : Objects). text_of (misses_lines g (length t) whole o (told_rows (rows_of g t))
+    ∙ ap (λ (o : Objects). text_of (misses_lines g (length t) whole o (reported_rows (rows_of g t))
     (all_costs g t))) so_far.objects

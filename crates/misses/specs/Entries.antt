@@ -1,4 +1,4 @@
--- What has to be kept of a list, so that each miss and each needed load can be told.
+-- What has to be kept of a list, so that each miss and each needed load can be determined.
 use Rattle.std.specs.Prelude.{ℕ, ◌+◌, Bool, ◌&&◌, ◌==◌, nat_lt, if◌then◌else◌, [], ◌∷◌, Option, None}
 use Rattle.std.specs.Prelude.{Some}
 use Rattle.std.specs.List.{list_any}

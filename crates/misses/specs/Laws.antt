@@ -11,7 +11,7 @@ pub mod KeptOf
 pub mod Loads
 pub mod Served
 pub mod Sums
-pub mod Told
+pub mod Stated
 pub mod Totals
 pub mod WordLines
 pub mod WordsApart

@@ -1,4 +1,4 @@
--- What a reader is told of each line, and of all.
+-- What is reported of each line, and of all.
 use Rattle.std.specs.Prelude.{ℕ, ◌-◌, List, map, sum_by}
 use Rattle.base.specs.Lines.{Grid}
 use Rattle.sharing_rules.specs.AccessLists.{AccessList}

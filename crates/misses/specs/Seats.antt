@@ -1,5 +1,5 @@
 -- Where the visits of each hart of a line are: in the seat at the place that the lowest bits of its
--- number say. There are as many seats as tell apart the harts that came.
+-- number say. There are as many seats as distinguish the harts that came.
 use Rattle.std.specs.Prelude.{◌≡◌, ◌⊎◌, ℕ, ◌-◌, ◌<◌, ◌^◌, Bool, not, ◌&&◌, ◌||◌, eqb, nat_lt}
 use Rattle.std.specs.Prelude.{List, length, Option, Some, None, if◌then◌else◌, slice_index_or}
 use Rattle.std.specs.Prelude.{bit_and}

@@ -20,8 +20,8 @@ use Rattle.trace_format.specs.declared.record.TraceRecord.{TraceRecord}
 use Rattle.trace_passes.specs.Lives.{objects_of}
 
 -- a line that misses beyond its cold ones
-abbrev pub is_told : Row → Bool
-is_told x = nat_lt 0 x.costs.useful || nat_lt 0 x.costs.useless
+abbrev pub is_reported : Row → Bool
+is_reported x = nat_lt 0 x.costs.useful || nat_lt 0 x.costs.useless
 
 -- useless falling, then useful falling, then base rising
 abbrev pub wastes_more : Row → Row → Bool
@@ -32,9 +32,9 @@ wastes_more x y =
     || ((x.costs.useful == y.costs.useful)
     && int_lt (range_of x.line).base (range_of y.line).base)))
 
--- the lines that are told, in order
-abbrev pub told_rows : List Row → List Row
-told_rows rows = in_order wastes_more (filter is_told rows)
+-- the reported lines, in order
+abbrev pub reported_rows : List Row → List Row
+reported_rows rows = in_order wastes_more (filter is_reported rows)
 
 abbrev pub cost_words : Costs → TextLine
 cost_words c =
@@ -49,14 +49,14 @@ abbrev pub miss_lines : Objects → ℕ → Row → List TextLine
 miss_lines objects end x = miss_line x ∷ lines_on objects (range_of x.line) 0 end
 
 -- the layout, how many accesses there are, how many there were before a filtered trace was
--- filtered, and how many lines are told
+-- filtered, and how many lines are reported
 abbrev pub miss_heads : Grid → ℕ → Option ℕ → ℕ → List TextLine
 miss_heads g accesses whole lines =
     (codes "misses" ∷ decimal g.size ∷ decimal g.offset ∷ [])
     ∷ (codes "accesses" ∷ decimal accesses ∷ [])
     ∷ (whole_lines whole ++ (codes "lines" ∷ decimal lines ∷ []) ∷ [])
 
--- the sums over all lines, those that aren't told with the others
+-- the sums over all lines, those that aren't reported with the others
 abbrev pub total_line : Costs → TextLine
 total_line total = codes "total" ∷ cost_words total
 
@@ -73,5 +73,5 @@ misses_lines g accesses whole objects rows total =
 unfoldable pub misses_of_records : Grid → Option ℕ → List TraceRecord → List ℕ
 misses_of_records g whole items =
     let t = touches_in items in
-    text_of (misses_lines g (length t) whole (objects_of items) (told_rows (rows_of g t))
+    text_of (misses_lines g (length t) whole (objects_of items) (reported_rows (rows_of g t))
     (all_costs g t))

@@ -73,7 +73,7 @@ fn note_known(
     requires fit { IfSome (slice_get (values lines.old) index) (λ l. (place < length l.words)
         × (l.counts.cold ≤ position) × (l.counts.misses ≤ position)
         × (l.counts.needed ≤ position)) }
-    ensures told { IfOk result (λ cost. IfSome (slice_get (values lines.old) index)
+    ensures stated { IfOk result (λ cost. IfSome (slice_get (values lines.old) index)
         (λ l. cost ≡ cost_of l place access.now.hart)) }
     ensures noted { OnOk result (IfSome (slice_get (values lines.old) index)
         (λ l. lines.new.entries ≡ set_value_at lines.old.entries index
@@ -100,7 +100,7 @@ fn note_new(
 ) -> Result<Cost, NoMemory>
     requires early { position < 2 ^ 40 }
     requires within { place < words }
-    ensures told { IfOk result (λ cost. cost ≡ cost_of (blank_line words) place access.now.hart) }
+    ensures stated { IfOk result (λ cost. cost ≡ cost_of (blank_line words) place access.now.hart) }
     ensures noted { OnOk result (lines.new.entries ≡ insert_entry nat_eq lines.old.entries number
         (note_line (blank_line words) position place access.now)) }
     ensures refused { OnErr result (lines.new.entries ≡ lines.old.entries) }
@@ -206,7 +206,7 @@ fn note_in(
     requires early { position < 2 ^ 40 }
     requires within { word_place line access.now.addr < line.size / 4 }
     requires fit { AreFit line.size position lines.old.entries }
-    ensures told { IfOk result (λ cost. cost ≡ cost_in lines.old.entries line access.now) }
+    ensures stated { IfOk result (λ cost. cost ≡ cost_in lines.old.entries line access.now) }
     ensures noted { OnOk result (lines.new.entries ≡ Rattle.misses.specs.MissCounts.note_in
         lines.old.entries line position access.now) }
     ensures refused { OnErr result (lines.new.entries ≡ lines.old.entries) }

@@ -9,7 +9,7 @@
 //! The definitions stand in `specs/Misses.antt`, over whole lists, and the laws in `specs/Laws/`:
 //! each needed load has a miss of its own, under lines of 4 bytes nothing is useless, and a line
 //! for each word saves at most what is useless. `Misses` keeps one latest write of each line and of
-//! each word in it, and two positions of each hart in it, which is enough to tell both.
+//! each word in it, and two positions of each hart in it, which is enough to determine both.
 //! [`MissObservations`] sees the records of a trace and has the text: `specs/Seen.antt` and
 //! `specs/Texts.antt`.
 #![tactic(auto)]

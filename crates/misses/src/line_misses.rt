@@ -204,7 +204,7 @@ impl LineMisses {
         requires early { position < 2 ^ 40 }
         requires within { place < length self.old.words }
         requires few { IsFew self.old.counts }
-        ensures told { IfOk result (λ cost. cost ≡ cost_of self.old place access.now.hart) }
+        ensures stated { IfOk result (λ cost. cost ≡ cost_of self.old place access.now.hart) }
         ensures noted { OnOk result (self.new ≡ note_line self.old position place access.now) }
         ensures refused { OnErr result (self.new ≡ self.old) }
         ensures known { IsTrue (has_come self.old access.now.hart) → IsOk result }

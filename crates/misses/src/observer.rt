@@ -84,8 +84,8 @@ impl MissObservations {
     /// The text of what was seen: of each line that has useful or useless misses what its sharing
     /// costs, with the objects that stand on it, and the sums over all lines.
     ///
-    /// NoMemory comes where there is no memory for the text, for the told lines and their sort, or
-    /// for 32 bytes each 256 blocks.
+    /// NoMemory comes where there is no memory for the text, for the reported lines and their sort,
+    /// or for 32 bytes each 256 blocks.
     pub fn text(&self, alloc: Global, whole: Option<u64>) -> Result<Vec<u8>, NoMemory>
         // where it has seen these records from the beginning, it is that of the records
         ensures { (g : Grid) (items : List Record)

@@ -8,7 +8,7 @@ use std::marker::Model;
 // Stands for no hart.
 pub(crate) const NO_HART: u16 = 256;
 
-// What 32 bits tell apart.
+// What 32 bits distinguish.
 const LOW: u64 = 4_294_967_296;
 
 /// The number of a hart, and its visits.

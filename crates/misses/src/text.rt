@@ -6,8 +6,8 @@ ghost use Rattle.base.specs.TextLines.{text_of};
 ghost use Rattle.misses.specs.Rows.{row_of};
 ghost use Rattle.report.specs.Added.{AddsLine, AddsLines, AddsText};
 ghost use Rattle.report.specs.Lines.{rest_of_line};
-ghost use Rattle.misses.specs.Texts.{cost_words, is_told, miss_ends, miss_heads};
-ghost use Rattle.misses.specs.Texts.{miss_line, miss_lines, misses_lines, told_rows};
+ghost use Rattle.misses.specs.Texts.{cost_words, is_reported, miss_ends, miss_heads};
+ghost use Rattle.misses.specs.Texts.{miss_line, miss_lines, misses_lines, reported_rows};
 ghost use Rattle.misses.specs.Texts.{total_line, wastes_more};
 
 use crate::all_lines::{Misses, Row};
@@ -31,10 +31,10 @@ fn order(one: &Row, other: &Row) -> Ordering
     }
 }
 
-// Puts a line behind the others, if it is told.
-fn push_told(rows: &mut Vec<Row>, row: Option<Row>) -> Result<(), NoMemory>
+// Puts a line behind the others, if it is reported.
+fn push_reported(rows: &mut Vec<Row>, row: Option<Row>) -> Result<(), NoMemory>
     ensures { OnOk result (rows.new.items ≡ rows.old.items
-        ++ filter is_told (option_to_list row)) }
+        ++ filter is_reported (option_to_list row)) }
 {
     if let Some(row) = row {
         if row.costs.useful > 0 || row.costs.useless > 0 {
@@ -44,22 +44,22 @@ fn push_told(rows: &mut Vec<Row>, row: Option<Row>) -> Result<(), NoMemory>
     Ok(())
 }
 
-// The lines that are told, in the order of their first accesses.
+// The reported lines, in the order of their first accesses.
 fn unsorted(alloc: Global, misses: &Misses) -> Result<Vec<Row>, NoMemory>
     ensures { IfOk result (λ rows. rows.items
-        ≡ filter is_told (map (row_of misses.now.grid) misses.now.lines)) }
+        ≡ filter is_reported (map (row_of misses.now.grid) misses.now.lines)) }
 {
     let mut rows = Vec::new(alloc);
     for i in 0..misses.line_count() {
-        push_told(&mut rows, misses.row(i))?;
+        push_reported(&mut rows, misses.row(i))?;
     }
     Ok(rows)
 }
 
-// The lines that are told, in their order.
+// The reported lines, in their order.
 fn sorted(alloc: Global, misses: &Misses) -> Result<Vec<Row>, NoMemory>
     ensures { IfOk result (λ rows. rows.items
-        ≡ told_rows (map (row_of misses.now.grid) misses.now.lines)) }
+        ≡ reported_rows (map (row_of misses.now.grid) misses.now.lines)) }
 {
     let mut rows = unsorted(alloc, misses)?;
     rows.sort_by(order)?;
@@ -86,7 +86,7 @@ fn push_line(text: &mut String, row: &Row) -> Result<(), AllocError>
     push_costs(text, row.costs)
 }
 
-// A told line, and what stands on it.
+// A reported line, and what stands on it.
 fn push_row(
     text: &mut String,
     row: &Row,
@@ -99,7 +99,7 @@ fn push_row(
     push_objects(text, index, row.line.range(), 0, end)
 }
 
-// The told lines.
+// The reported lines.
 fn push_rows(
     text: &mut String,
     rows: &[Row],
@@ -182,8 +182,8 @@ fn push_misses(
     push_ends(text, total)
 }
 
-/// The text of misses, with these sums over all lines, and of the objects on the lines that are
-/// told. Of a filtered trace it also says how many accesses the whole one has.
+/// The text of misses, with these sums over all lines, and of the objects on the reported lines. Of
+/// a filtered trace it also says how many accesses the whole one has.
 pub fn write_misses(
     alloc: Global,
     misses: &Misses,
@@ -193,7 +193,7 @@ pub fn write_misses(
 ) -> Result<Vec<u8>, NoMemory>
     ensures { IfOk result (λ text. text.items ≡ text_of
         (misses_lines misses.now.grid misses.now.position whole objects.now
-        (told_rows (map (row_of misses.now.grid) misses.now.lines)) total)) }
+        (reported_rows (map (row_of misses.now.grid) misses.now.lines)) total)) }
 {
     let rows = sorted(alloc, misses)?;
     let index = ObjectIndex::new(alloc, objects)?;

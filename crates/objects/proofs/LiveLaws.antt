@@ -61,6 +61,6 @@ module _ (f : ℕ → Option ℕ) (blocks : List Block) (index : IsIndex is_live
           (passes_at (is_live_at later.addr) blocks j d within here) in
           let first = index.has later.addr i
           (passes_at (is_live_at later.addr) blocks i d (omega arith) two.1) in
-          let told : Some i ≡ Some j = sym first ∙ second in
+          let stated : Some i ≡ Some j = sym first ∙ second in
           let same : i ≡ j = cc in
           omega arith

@@ -157,29 +157,29 @@ blocks_of_list items = by_push (λ done. All (IsBlockOf done) (objects_of done).
         (λ b was. block_on done x b (is_none b.died && ends_at b.addr x) was) old each))
         (blocks_made done x))
 
--- ---- each symbol was told by a record
+-- ---- each symbol comes from a record
 
-symbols_told : (all items : List TraceRecord) → All (Contains all) items
+symbols_recorded : (all items : List TraceRecord) → All (Contains all) items
     → All (IsSymbolOf all) (symbols_in items)
-symbols_told all [] each = All-nil (IsSymbolOf all)
-symbols_told all (records.Touch a pc ∷ items) each =
-    symbols_told all items (All-tail (Contains all) (records.Touch a pc) items each)
-symbols_told all (records.Alloc addr size sites ∷ items) each =
-    symbols_told all items (All-tail (Contains all) (records.Alloc addr size sites) items each)
-symbols_told all (records.Free addr ∷ items) each =
-    symbols_told all items (All-tail (Contains all) (records.Free addr) items each)
-symbols_told all (records.Symbol kind addr size name ∷ items) each =
+symbols_recorded all [] each = All-nil (IsSymbolOf all)
+symbols_recorded all (records.Touch a pc ∷ items) each =
+    symbols_recorded all items (All-tail (Contains all) (records.Touch a pc) items each)
+symbols_recorded all (records.Alloc addr size sites ∷ items) each =
+    symbols_recorded all items (All-tail (Contains all) (records.Alloc addr size sites) items each)
+symbols_recorded all (records.Free addr ∷ items) each =
+    symbols_recorded all items (All-tail (Contains all) (records.Free addr) items each)
+symbols_recorded all (records.Symbol kind addr size name ∷ items) each =
     let x : TraceRecord = records.Symbol kind addr size name in
     All-cons (IsSymbolOf all) (kept_symbol kind addr size name) (symbols_in items)
-    (record { told_name = name; told = All-head (Contains all) x items each; name = refl })
-    (symbols_told all items (All-tail (Contains all) x items each))
-symbols_told all (records.End e ∷ items) each =
-    symbols_told all items (All-tail (Contains all) (records.End e) items each)
+    (record { recorded_name = name; stated = All-head (Contains all) x items each; name = refl })
+    (symbols_recorded all items (All-tail (Contains all) x items each))
+symbols_recorded all (records.End e ∷ items) each =
+    symbols_recorded all items (All-tail (Contains all) (records.End e) items each)
 
 pub symbols_of_list : (items : List TraceRecord) → All (IsSymbolOf items) (objects_of items).symbols
 symbols_of_list items =
     All-symbols_of (IsSymbolOf items) (symbols_in items)
-    (symbols_told items items (All-contains_itself items))
+    (symbols_recorded items items (All-contains_itself items))
 
 -- ---- there are no more of either than records
 

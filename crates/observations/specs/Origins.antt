@@ -19,7 +19,7 @@ pub record IsBlockOf (items : List TraceRecord) (b : Block) : Type 0 where
 
 -- a symbol that records leave
 pub record IsSymbolOf (items : List TraceRecord) (s : Symbol) : Type 0 where
-  -- one of them told it, by a name that may be longer
-  pub told_name : List ℕ
-  pub told : Contains items (records.Symbol s.kind s.addr s.size told_name)
-  pub name : s.name ≡ name_of told_name
+  -- one of them recorded it, by a name that may be longer
+  pub recorded_name : List ℕ
+  pub stated : Contains items (records.Symbol s.kind s.addr s.size recorded_name)
+  pub name : s.name ≡ name_of recorded_name

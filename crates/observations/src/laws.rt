@@ -54,7 +54,7 @@ pub fn what_stands_was_noted()
     ensures lone { (items : List Record) → NoTwoLive (objects_of items).blocks }
     // each was made by one of the records, and has its life within the list
     ensures lives { (items : List Record) → All (IsBlockOf items) (objects_of items).blocks }
-    // each symbol was told by one of them
+    // each symbol comes from one of them
     ensures symbols { (items : List Record) → All (IsSymbolOf items) (objects_of items).symbols }
     // there are no more of either than records
     ensures few_blocks { (items : List Record) → length (objects_of items).blocks ≤ length items }

@@ -82,17 +82,17 @@ words_are : (words_of (extent 0x1003 2) ≡ 0x1000 ∷ 0x1004 ∷ [])
 words_are = (refl, refl)
 
 -- the first object of the name, no function, and a block that stood alone at its address
-abbrev told : List TraceRecord
-told =
+abbrev stated : List TraceRecord
+stated =
     records.Symbol Function 0x500 8 (codes "pair") ∷ (records.Symbol Object 0x1000 8 (codes "pair")
     ∷ (records.Symbol Object 0x2000 4 (codes "pair") ∷ (records.Alloc 0x8000 12 (0 ∷ 0 ∷ 0 ∷ 0 ∷ [])
     ∷ (records.Alloc 0x9000 12 (0 ∷ 0 ∷ 0 ∷ 0 ∷ []) ∷ (records.Free 0x9000
     ∷ (records.Alloc 0x9000 16 (0 ∷ 0 ∷ 0 ∷ 0 ∷ []) ∷ []))))))
 
-found : (object_of (codes "pair") None told ≡ Some (extent 0x1000 8))
-    × (object_of (codes "two") None told ≡ None)
-    × (object_of (codes "0x8000") (Some 0x8000) told ≡ Some (extent 0x8000 12))
-    × (object_of (codes "0x9000") (Some 0x9000) told ≡ None)
+found : (object_of (codes "pair") None stated ≡ Some (extent 0x1000 8))
+    × (object_of (codes "two") None stated ≡ None)
+    × (object_of (codes "0x8000") (Some 0x8000) stated ≡ Some (extent 0x8000 12))
+    × (object_of (codes "0x9000") (Some 0x9000) stated ≡ None)
 found = (refl, refl, refl, refl)
 
 limits : (is_too_large (extent 0 0x1000000) ≡ false) × (is_too_large (extent 0 0x1000001) ≡ true)

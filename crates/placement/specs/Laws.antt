@@ -9,5 +9,5 @@ pub mod Plans
 pub mod Recounts
 pub mod Saved
 pub mod Texts
-pub mod Told
+pub mod Stated
 pub mod Words

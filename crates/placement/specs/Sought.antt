@@ -8,10 +8,10 @@ use Rattle.trace_format.specs.declared.record.TraceRecord.{TraceRecord}
 use Rattle.trace_format.specs.declared.record.TraceRecord.TheVariants as records
 use Rattle.placement.specs.declared.extent.Extent.{Extent}
 
--- where the object symbol of a record lies, if the record tells one of the name
+-- where the object symbol of a record lies, if the record states one of the name
 abbrev pub symbol_named : List ℕ → TraceRecord → Option Extent
-symbol_named name (records.Symbol kind addr size told) =
-    if is_same_kind kind Object && bytes_eq told name
+symbol_named name (records.Symbol kind addr size stated) =
+    if is_same_kind kind Object && bytes_eq stated name
     then Some (record { addr = addr; size = size }) else None
 symbol_named name _ = None
 

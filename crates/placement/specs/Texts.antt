@@ -90,8 +90,8 @@ placed n name t e =
     else if has_room n (owned_of e t) then Ok (place_text n name e t)
     else Err refusals.NoRoom
 
--- What is told of a list of records under lines of n bytes, or why no place is told: for the object
--- that a name means, or an address where the name is one.
+-- What is reported of a list of records under lines of n bytes, or why no place is reported: for
+-- the object that a name means, or an address where the name is one.
 abbrev pub place_of_records : ℕ → List ℕ → Option ℕ → List TraceRecord
     → Result (List ℕ) PlaceRefusal
 place_of_records n name at items =

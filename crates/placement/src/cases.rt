@@ -1,4 +1,4 @@
-// What is told for an object that a name means, for whoever reads contracts alone.
+// What is reported for an object that a name means, for whoever reads contracts alone.
 ghost use Rattle.std.specs.Prelude.{◌≡◌, ℕ, Err, IsFalse, IsTrue, List, None, Ok, Option, Some};
 ghost use Rattle.trace_format.specs.Rules.{touches_in};
 ghost use Rattle.trace_format.specs.declared.record.TraceRecord.{TraceRecord as Record};
@@ -9,8 +9,8 @@ ghost use Rattle.placement.specs.Words.{owned_of};
 ghost use Rattle.placement.specs.declared.extent.Extent.{Extent as Object};
 ghost use Rattle.placement.specs.declared.refusal.PlaceRefusal.TheVariants as refusals;
 
-/// What is told of a trace, step by step as one comes to know its records: the object, its size,
-/// the room behind the accesses. Nothing is done.
+/// What is reported of a trace, step by step as one comes to know its records: the object, its
+/// size, the room behind the accesses. Nothing is done.
 pub fn cases_of_a_placement()
     // no object is meant
     ensures none { (n : ℕ) (name : List ℕ) (at : Option ℕ) (items : List Record)
@@ -25,7 +25,7 @@ pub fn cases_of_a_placement()
         → object_of name at items ≡ Some e → IsFalse (is_too_large e)
         → IsFalse (has_room n (owned_of e (touches_in items)))
         → place_of_records n name at items ≡ Err refusals.NoRoom }
-    // or they are told
+    // or they are reported
     ensures placed { (n : ℕ) (name : List ℕ) (at : Option ℕ) (items : List Record) (e : Object)
         → object_of name at items ≡ Some e → IsFalse (is_too_large e)
         → IsTrue (has_room n (owned_of e (touches_in items)))

@@ -29,7 +29,7 @@ pub struct Finder {
     pub ghost some: { IfSome symbol (λ e. 1 ≤ e.size) } by { Prim.hlevel props },
 }
 
-// Where the object symbol of a record lies, if it tells one of the name.
+// Where the object symbol of a record lies, if it states one of the name.
 fn symbol_of(name: &[u8], item: &TraceRecord) -> Option<Extent>
     requires { IsWritable item.now }
     ensures value { result ≡ symbol_named name.now item.now }
@@ -40,8 +40,8 @@ fn symbol_of(name: &[u8], item: &TraceRecord) -> Option<Extent>
             kind,
             addr,
             size,
-            name: told,
-        } if is_object(*kind) && told.bytes() == name => Some(Extent {
+            name: stated,
+        } if is_object(*kind) && stated.bytes() == name => Some(Extent {
             addr: *addr,
             size: *size,
         }),
@@ -107,7 +107,7 @@ impl Finder {
         })
     }
 
-    // A record that may tell the symbol.
+    // A record that may state the symbol.
     fn note_symbol(&mut self, item: &TraceRecord)
         requires { IsWritable item.now }
         ensures symbol { self.new.symbol

@@ -3,7 +3,7 @@
 //!
 //! `specs/Words.antt` says what the words of an object are, and who touches each;
 //! `specs/Plans.antt` where each goes, and `specs/Recounts.antt` what that saves. Three passes over
-//! a trace tell it all: [`Finder`] seeks the object, [`Owners`] keeps who touches its words, access
+//! a trace find it all: [`Finder`] seeks the object, [`Owners`] keeps who touches its words, access
 //! by access, and [`Recount`] counts the accesses where they are and where a [`Plan`] moves them.
 #![tactic(auto)]
 

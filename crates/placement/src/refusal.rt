@@ -1,6 +1,6 @@
 // Why an object's words have no places.
 
-/// Why no place is told.
+/// Why no place is reported.
 #[derive(Clone, Copy, PartialEq, Eq, Debug)]
 pub enum PlaceRefusal {
     /// No object has the name.

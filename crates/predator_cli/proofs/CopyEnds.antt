@@ -11,7 +11,7 @@ use Rattle.command_line.specs.Split.{SplitDemand}
 use Rattle.command_line.specs.Words.{Demand, convert, split, outputs as outputs_of}
 use Rattle.shelf.specs.Files.{BegunInOrder, Output}
 use Rattle.shelf.specs.OnTheirWay.{IsNew}
-use Rattle.shelf.specs.Shelf.{Files, Goes, HasRead, Outside, Told, content}
+use Rattle.shelf.specs.Shelf.{Files, Goes, HasRead, Outside, Known, content}
 use Rattle.trace_files.specs.Laws.Copies.{plain_found, plain_unrefused}
 use Rattle.trace_files.specs.Copies.{HasCopied, HasStopped, RoseAt as RoseAtCopy, StaysWhereRefused}
 use Rattle.trace_files.specs.Copies.{unfiltered, conversion, halves}
@@ -30,7 +30,7 @@ use Rattle.command_io.specs.Works.{Work, done_with}
 use Rattle.command_io.specs.declared.status.Status.{Status}
 use Rattle.command_io.specs.declared.status.Status.TheVariants as status
 use Rattle.command_io.specs.Laws.Readings.{none_alone, refused_stopped}
-use Rattle.shelf.specs.Laws.Told.{goes_map, told, told_both, told_map}
+use Rattle.shelf.specs.Laws.Known.{goes_map, if_known, known_both, known_map}
 use Rattle.predator_cli.specs.Answer.{answer_of}
 use Rattle.predator_cli.specs.Commands.{RepeatsReport, manner_of, readings_of, work_of}
 use Rattle.predator_cli.specs.Convert.{convert_text}
@@ -74,9 +74,9 @@ rose_at [] before now rose = rose
 rose_at (n ∷ names) before now (inl rose) = inl rose
 rose_at (n ∷ names) before now (inr rose) = inr (rose_at names before now rose)
 
--- where nothing is told
-untold : {A : Type 0} (P : A → Type 0) (o : Option A) → o ≡ None → Told o P
-untold {A = A} P o none = subst (λ (x : Option A). Told x P) (sym none) tt
+-- where nothing is known
+unknown : {A : Type 0} (P : A → Type 0) (o : Option A) → o ≡ None → Known o P
+unknown {A = A} P o none = subst (λ (x : Option A). Known x P) (sym none) tt
 
 -- ---- the two commands
 
@@ -115,11 +115,11 @@ pub record HasFailed (name : List ℕ) (names : List (List ℕ)) (outputs : Trac
     (a b : Outside) (fault : CopyFault) : Type 0
   where
     pub refused : (r : Refusal) → fault ≡ Refused r
-        → Told b.held (λ files. refusal_of unfiltered (content files name) ≡ Some r)
+        → Known b.held (λ files. refusal_of unfiltered (content files name) ≡ Some r)
     pub stays : (r : Refusal) → fault ≡ Refused r → HasRead a b
     pub memory : fault ≢ Refused (refusals.Trace trace.NoMemory)
     pub changed : (r : Refusal) → fault ≡ Changed r → b.held ≡ None
-    pub accepted : fault ≡ WriteFault → Told b.held (λ files. refusal_of unfiltered (content files name)
+    pub accepted : fault ≡ WriteFault → Known b.held (λ files. refusal_of unfiltered (content files name)
         ≡ None)
     pub begun : StaysWhereRefused b.held name a b
     pub stopped : HasStopped b.held name names outputs a b fault
@@ -140,13 +140,13 @@ module _ (d : Demand) (name : List ℕ) (text : Trace → List ℕ) (outputs : T
 
     -- ---- the copies are made
 
-    to_write : (bytes : List ℕ) (t : Trace) → Told b.held (λ files. bytes ≡ content files name)
+    to_write : (bytes : List ℕ) (t : Trace) → Known b.held (λ files. bytes ≡ content files name)
         → trace_of bytes ≡ Some t → near_refusal None t.header.near ≡ None
         → IsToWrite d (copy_with text outputs t) b.held
     to_write bytes t whole is plain = record {
-      accepts = told_map b.held (λ files same. accepts files
+      accepts = known_map b.held (λ files same. accepts files
           (ap (refusal_of unfiltered) (sym same) ∙ plain_unrefused bytes t is plain)) whole;
-      works = told_map b.held (λ files same. work_is files t (ap trace_of (sym same) ∙ is)) whole;
+      works = known_map b.held (λ files same. work_is files t (ap trace_of (sym same) ∙ is)) whole;
       names = copying.named t;
     }
 
@@ -157,8 +157,8 @@ module _ (d : Demand) (name : List ℕ) (text : Trace → List ℕ) (outputs : T
     copy_worked shown copied plain is =
         written_worked d (copy_with text outputs copied.trace) a b status.Done shown
         (to_write copied.bytes copied.trace copied.whole copied.is
-        (plain copied.trace copied.told)) refl is
-        (told b.held copying.again) copied.written
+        (plain copied.trace copied.stated)) refl is
+        (if_known b.held copying.again) copied.written
 
     -- ---- it gave up
 
@@ -185,7 +185,7 @@ module _ (d : Demand) (name : List ℕ) (text : Trace → List ℕ) (outputs : T
     refused_faulty r failed judged =
         let read = failed.stays r refl in
         let stopped = refused_stopped name (refuses_trace unfiltered name) a b (status_of_refusal r) judged
-        (told_map b.held (λ files e. ap (option_map status_of_refusal) e) (failed.refused r refl))
+        (known_map b.held (λ files e. ap (option_map status_of_refusal) e) (failed.refused r refl))
         read.faults read.only in
         stopped_faulty d a b (status_of_refusal r)
         (subst (λ (m : Manner). IsStopped (judged_first m (readings_of d)) a b
@@ -194,10 +194,10 @@ module _ (d : Demand) (name : List ℕ) (text : Trace → List ℕ) (outputs : T
         (sym copying.reads) stopped))
 
     module _ (fault : CopyFault) (failed : HasFailed name (outputs_of d) outputs a b fault) where
-      part : Told b.held (λ files. Goes a.written b.written
+      part : Known b.held (λ files. Goes a.written b.written
           (BegunInOrder (answer_of (Some d) files).outputs))
       part =
-          told_both b.held (λ files fronts stays. part_at files fronts stays
+          known_both b.held (λ files fronts stays. part_at files fronts stays
           (refusal_of unfiltered (content files name)) refl)
           failed.stopped.fronts failed.begun
 
@@ -210,22 +210,22 @@ module _ (d : Demand) (name : List ℕ) (text : Trace → List ℕ) (outputs : T
         writes = failed.stopped.cause.write_quiet unwritten;
       }
 
-      -- or it was refused once the copies were begun, and nothing is told any more
+      -- or it was refused once the copies were begun, and nothing is known any more
       changed_faulty : (s : Status) → IsRefusal s → b.held ≡ None → fault ≢ ReadFault
           → fault ≢ WriteFault → IsFaulty (Some d) a b s
       changed_faulty s judged none other unwritten =
           let none_failed : HasFailedBy (Some d) a b refusal = quiet other unwritten in
           let writes : Writes (Some d) a b refusal =
           subst (λ m. StaysAtRefusal m (Some d) b.held a.written b.written) (sym copying.copies)
-          (untold (λ files. Goes a.written b.written AreSame) b.held none) in
+          (unknown (λ files. Goes a.written b.written AreSame) b.held none) in
           record {
             fault = λ e. let k : refusal ≡ done = sym judged.kind ∙ e in cc;
-            ends = untold (λ files. EndsAs (Some d) files a b (kind_of s) s) b.held none;
+            ends = unknown (λ files. EndsAs (Some d) files a b (kind_of s) s) b.held none;
             usage = λ u. absurd (judged.words u);
             refuses = λ u. cc;
             memory = judged.memory;
             failed = rw judged.kind none_failed;
-            printable = untold (λ files. IsPrintable (Some d) files a b (fault_text s)) b.held none;
+            printable = unknown (λ files. IsPrintable (Some d) files a b (fault_text s)) b.held none;
             writes = rw judged.kind writes;
             only = only;
             held = failed.stopped.held_stay;
@@ -242,7 +242,7 @@ module _ (d : Demand) (name : List ℕ) (text : Trace → List ℕ) (outputs : T
           (sym copying.reads) (inl rose) in
           record {
             fault = λ e. cc;
-            ends = told b.held fails;
+            ends = if_known b.held fails;
             usage = λ u. cc;
             refuses = λ u. cc;
             memory = refl;
@@ -253,7 +253,7 @@ module _ (d : Demand) (name : List ℕ) (text : Trace → List ℕ) (outputs : T
               writes = failed.stopped.cause.write_quiet
                   (λ e. let no : ReadFault ≡ WriteFault = sym is ∙ e in cc);
             };
-            printable = told b.held (λ files. inr (inr (inl (refl, fails files))));
+            printable = if_known b.held (λ files. inr (inr (inl (refl, fails files))));
             writes = subst (λ m. StaysAtReadFault m (Some d) b.held a.written b.written)
                 (sym copying.copies) part;
             only = only;
@@ -268,7 +268,7 @@ module _ (d : Demand) (name : List ℕ) (text : Trace → List ℕ) (outputs : T
           (failed.stopped.cause.write_failed is) in
           record {
             fault = λ e. cc;
-            ends = told_map b.held (λ files none. first_accepted (manner_of d) (readings_of d) files
+            ends = known_map b.held (λ files none. first_accepted (manner_of d) (readings_of d) files
                 (accepts files none)) (failed.accepted is);
             usage = λ u. cc;
             refuses = λ u. cc;
@@ -278,7 +278,7 @@ module _ (d : Demand) (name : List ℕ) (text : Trace → List ℕ) (outputs : T
                   (λ e. let no : WriteFault ≡ ReadFault = sym is ∙ e in cc);
               writes = rose;
             };
-            printable = told b.held (λ files. inr (inr (inr (refl, rose))));
+            printable = if_known b.held (λ files. inr (inr (inr (refl, rose))));
             writes = inl (rose, part);
             only = only;
             held = failed.stopped.held_stay;

@@ -23,7 +23,7 @@ use Rattle.trace_format.specs.declared.record.TraceRecord.TheVariants as records
 use Rattle.trace_files.specs.Copies.{first_half, second_half}
 use Rattle.trace_passes.specs.Passes.{Trace, all_records}
 use Rattle.trace_files.specs.Halves.{AreHalves}
-use Rattle.predator_cli.specs.GoesOn.{IsCutIn, TellsItsCount, work_of_both}
+use Rattle.predator_cli.specs.GoesOn.{IsCutIn, StatesItsCount, work_of_both}
 use Rattle.predator_cli.specs.Replay.{ended_at, shown, work_after}
 use Rattle.predator_cli.specs.States.{state_of_records}
 
@@ -154,7 +154,7 @@ pub uncut : (whole : Trace) → whole.ending.accesses ≡ length (touches_in who
 uncut whole counted = record {
   items = refl;
   ending = ap (λ (n : ℕ). record (run_end whole.ending) { accesses = n }) counted;
-  told = All-cons TellsItsCount whole [] counted (All-nil TellsItsCount);
+  stated = All-cons StatesItsCount whole [] counted (All-nil StatesItsCount);
 }
 
 -- the halves of a trace are such parts of it
@@ -167,8 +167,8 @@ halves_cut at whole halves counted = record {
       ∙ ap (λ (xs : List TraceRecord). xs ++ (second_half at whole).items)
       (sym (append-nil (first_half at whole).items));
   ending = ap (λ (n : ℕ). record (run_end whole.ending) { accesses = n }) counted;
-  told = All-cons TellsItsCount (first_half at whole) (second_half at whole ∷ [])
+  stated = All-cons StatesItsCount (first_half at whole) (second_half at whole ∷ [])
       halves.first_is.good.good.counted
-      (All-cons TellsItsCount (second_half at whole) [] halves.second_is.good.good.counted
-      (All-nil TellsItsCount));
+      (All-cons StatesItsCount (second_half at whole) [] halves.second_is.good.good.counted
+      (All-nil StatesItsCount));
 }

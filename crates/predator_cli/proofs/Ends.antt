@@ -1,7 +1,7 @@
 -- How a command ends that did its work, and one whose words or files were not read.
 use Rattle.std.proofs.Common.{◌≡◌, ◌≢◌, ℕ, false, List, [], Option, Some, None}
 use Rattle.std.proofs.Common.{sym, ◌∙◌, ap, refl, inl, inr}
-use Rattle.shelf.specs.Shelf.{Files, Narrows, Outside, Told, Goes, Rose, OnlyPrints, OnlyReads}
+use Rattle.shelf.specs.Shelf.{Files, Narrows, Outside, Known, Goes, Rose, OnlyPrints, OnlyReads}
 use Rattle.shelf.specs.Shelf.{Adds}
 use Rattle.shelf.specs.Shelf.{AddsFront}
 use Rattle.command_line.specs.Words.{Demand, outputs as outputs_of}
@@ -13,8 +13,8 @@ use Rattle.shelf.specs.Files.{AreWhole, Output}
 use Rattle.command_io.specs.declared.status.Status.{Status}
 use Rattle.command_io.specs.declared.status.Status.TheVariants as status
 use Rattle.shelf.specs.Laws.Files.{none_begun}
-use Rattle.shelf.specs.Laws.Told.{goes_same, narrows_by, narrows_same, narrows_then, only_none}
-use Rattle.shelf.specs.Laws.Told.{told, told_both, told_map, told_same}
+use Rattle.shelf.specs.Laws.Known.{goes_same, narrows_by, narrows_same, narrows_then, only_none}
+use Rattle.shelf.specs.Laws.Known.{if_known, known_both, known_map, known_same}
 use Rattle.predator_cli.specs.Commands.{RepeatsReport, first_readings_of, manner_of, readings_of}
 use Rattle.predator_cli.specs.Commands.{work_of}
 use Rattle.predator_cli.specs.Manners.{Manner, judged_before, read_again, read_along}
@@ -51,8 +51,8 @@ own_text demand files text none is = ap (λ (w : Work). w.text) (accepted_answer
 
 own_texts : (demand : Demand) (a b : Outside) (s : Status) (text : List ℕ)
     → IsWorked demand a b s text
-    → Told b.held (λ files. (answer_of (Some demand) files).text ≡ text)
-own_texts demand a b s text worked = told_both b.held
+    → Known b.held (λ files. (answer_of (Some demand) files).text ≡ text)
+own_texts demand a b s text worked = known_both b.held
     (λ files none is. own_text demand files text none is) worked.accepts worked.same_text
 
 -- the outputs of a command whose files are accepted
@@ -64,10 +64,10 @@ own_outputs demand files P none p = rw (ap (λ (w : Work). w.outputs)
 
 whole_after : (demand : Demand) (a b : Outside) (s : Status) (text : List ℕ)
     → IsWorked demand a b s text
-    → Told b.held (λ files. Goes a.written b.written
+    → Known b.held (λ files. Goes a.written b.written
     (AreWhole (answer_of (Some demand) files).outputs))
 whole_after demand a b s text worked =
-    told_both b.held (λ files none whole. own_outputs demand files
+    known_both b.held (λ files none whole. own_outputs demand files
     (λ outputs. Goes a.written b.written (AreWhole outputs)) none whole)
     worked.accepts worked.whole
 
@@ -78,16 +78,16 @@ part_after demand a b s text worked = whole_later (Some demand) a b
     (whole_after demand a b s text worked)
 
 whole_writes : (k : Kind) (asked : Option Demand) (a b : Outside) → k ≡ done
-    → Told b.held (λ files. Goes a.written b.written (AreWhole (answer_of asked files).outputs))
+    → Known b.held (λ files. Goes a.written b.written (AreWhole (answer_of asked files).outputs))
     → Writes asked a b k
 whole_writes k asked a b is whole = rw is whole
 
 whole_printed : (demand : Demand) (a d : Outside) (s : Status) (text : List ℕ) → kind_of s ≡ done
-    → Told d.held (λ files. (answer_of (Some demand) files).text ≡ text)
+    → Known d.held (λ files. (answer_of (Some demand) files).text ≡ text)
     → Adds a.printed d.printed text
     → Prints (Some demand) a d (kind_of s) s
 whole_printed demand a d s text kind texts printed = rw kind
-    (told_map d.held (λ files is. rw is printed) texts)
+    (known_map d.held (λ files is. rw is printed) texts)
 
 peace_kept : (a d : Outside) (k : Kind) → k ≡ done → d.read_faults ≡ a.read_faults
     → ReadsInPeace a d k
@@ -127,13 +127,13 @@ at_done : (P : Demand → Files → Type 0) (k : Kind) (demand : Demand) (files 
     → WhereDone P (Some demand) files k
 at_done P k demand files is holds = rw is holds
 
--- what is told of what was done, once a text is printed behind it
+-- what is known of what was done, once a text is printed behind it
 printed_texts : (demand : Demand) (a b d : Outside) (s : Status) (text : List ℕ)
     → IsWorked demand a b s text
     → OnlyPrints b d
-    → Told d.held (λ files. (answer_of (Some demand) files).text ≡ text)
+    → Known d.held (λ files. (answer_of (Some demand) files).text ≡ text)
 printed_texts demand a b d s text worked only =
-    told_same (λ files. (answer_of (Some demand) files).text ≡ text) b.held d.held only.held
+    known_same (λ files. (answer_of (Some demand) files).text ≡ text) b.held d.held only.held
     (own_texts demand a b s text worked)
 
 held_after : (a b d : Outside) → Narrows a.held b.held → OnlyPrints b d → Narrows a.held d.held
@@ -148,9 +148,9 @@ finish_meets demand a b d s text kind worked only same printed =
     let whole : Adds a.printed d.printed text = rw (← worked.printed) printed in
     let quiet = quiet_after a b d only worked.quiet in
     record {
-      ends = told_same (λ files. EndsAs (Some demand) files a d (kind_of s) s) b.held d.held
+      ends = known_same (λ files. EndsAs (Some demand) files a d (kind_of s) s) b.held d.held
           only.held
-          (told_both b.held (λ files none is. finished_ends demand files a d s kind none is)
+          (known_both b.held (λ files none is. finished_ends demand files a d s kind none is)
           worked.accepts worked.ends);
       usage = λ u. absurd (no_usage s kind u);
       refuses = λ r. cc;
@@ -163,9 +163,9 @@ finish_meets demand a b d s text kind worked only same printed =
           (rw (only.held, only.written) (whole_after demand a b s text worked));
       only = rw only.written worked.only;
       held = held_after a b d worked.held only;
-      again = told_same (λ files. WhereDone RepeatsReport (Some demand) files (kind_of s)) b.held
+      again = known_same (λ files. WhereDone RepeatsReport (Some demand) files (kind_of s)) b.held
           d.held only.held
-          (told_map b.held (λ files is. at_done RepeatsReport (kind_of s) demand files kind is)
+          (known_map b.held (λ files is. at_done RepeatsReport (kind_of s) demand files kind is)
           worked.again);
     }
 
@@ -179,15 +179,15 @@ finish_failed demand a b d s text worked only rose printed =
     let part : AddsFront a.printed d.printed text = rw (← worked.printed) printed in
     let quiet = quiet_after a b d only worked.quiet in
     record {
-      ends = told_same (λ files. first_refusal (first_readings_of demand) files ≡ None) b.held
-          d.held only.held (told_map b.held (λ files none. first_accepted (manner_of demand)
+      ends = known_same (λ files. first_refusal (first_readings_of demand) files ≡ None) b.held
+          d.held only.held (known_map b.held (λ files none. first_accepted (manner_of demand)
           (readings_of demand) files none) worked.accepts);
       usage = λ u. cc;
       refuses = λ r. cc;
       memory = refl;
       caused = inr (quiet, rose_a);
       peace = quiet.reads;
-      prints = inr (told_map d.held (λ files is. (rose_a, rw is part))
+      prints = inr (known_map d.held (λ files is. (rose_a, rw is part))
           (printed_texts demand a b d s text worked only));
       writes = inr (
         rose_a,
@@ -196,7 +196,7 @@ finish_failed demand a b d s text worked only rose printed =
       );
       only = rw only.written worked.only;
       held = held_after a b d worked.held only;
-      again = told d.held (λ files. tt);
+      again = if_known d.held (λ files. tt);
     }
 
 -- memory ran out while it was printed
@@ -206,7 +206,7 @@ pub finish_out_of_memory : (demand : Demand) (a b d : Outside) (s : Status) (tex
 finish_out_of_memory demand a b d s text worked only same printed =
     let part : AddsFront a.printed d.printed text = rw (← worked.printed) printed in
     record {
-      ends = told d.held (λ files. tt);
+      ends = if_known d.held (λ files. tt);
       usage = λ u. cc;
       refuses = λ r. inr refl;
       memory = refl;
@@ -215,36 +215,36 @@ finish_out_of_memory demand a b d s text worked only same printed =
         prints = inl (same ∙ worked.print_faults);
       });
       peace = tt;
-      prints = told_map d.held (λ files is. (text, inl (sym is), part))
+      prints = known_map d.held (λ files is. (text, inl (sym is), part))
           (printed_texts demand a b d s text worked only);
       writes = rw (only.held, only.written) (part_after demand a b s text worked);
       only = rw only.written worked.only;
       held = held_after a b d worked.held only;
-      again = told d.held (λ files. tt);
+      again = if_known d.held (λ files. tt);
     }
 
 -- memory ran out before it was made
-pub finish_untold : (demand : Demand) (a b : Outside) (s : Status) (text : List ℕ)
+pub finish_unknown : (demand : Demand) (a b : Outside) (s : Status) (text : List ℕ)
     → IsWorked demand a b s text
     → IsFaulty (Some demand) a b status.NoMemory
-finish_untold demand a b s text worked =
+finish_unknown demand a b s text worked =
     starved (Some demand) a b worked.quiet (part_after demand a b s text worked) worked.only
     worked.held worked.printed worked.print_faults
 
 -- a command that writes nothing
 module _ (o : Option Files) (work : Files → Work) (w : Work)
-    (works : Told o (λ files. work files ≡ w))
+    (works : Known o (λ files. work files ≡ w))
   where
-    told_status : Told o (λ files. (work files).status ≡ w.status)
-    told_status = told_map o (λ files is. ap (λ (x : Work). x.status) is) works
+    known_status : Known o (λ files. (work files).status ≡ w.status)
+    known_status = known_map o (λ files is. ap (λ (x : Work). x.status) is) works
 
-    told_text : Told o (λ files. (work files).text ≡ w.text)
-    told_text = told_map o (λ files is. ap (λ (x : Work). x.text) is) works
+    reported_text : Known o (λ files. (work files).text ≡ w.text)
+    reported_text = known_map o (λ files is. ap (λ (x : Work). x.text) is) works
 
     none_written : w.outputs ≡ [] → (before : Option Files)
-        → Told o (λ files. Goes before before (AreWhole (work files).outputs))
+        → Known o (λ files. Goes before before (AreWhole (work files).outputs))
     none_written none before =
-        told_map o (λ files is. goes_same _ before (λ names. no_outputs files names is)) works
+        known_map o (λ files is. goes_same _ before (λ names. no_outputs files names is)) works
       where
         no_outputs : (files names : Files) → work files ≡ w
             → AreWhole (work files).outputs names names
@@ -252,18 +252,18 @@ module _ (o : Option Files) (work : Files → Work) (w : Work)
             rw (ap (λ (x : Work). x.outputs) is ∙ none) (λ name. refl)
 
 -- so a command that has a text alone, with whatever status
-pub told_worked : (demand : Demand) (a b : Outside) (w : Work) → w.outputs ≡ []
-    → IsAccepted (readings_of demand) a b → Told b.held (λ files. work_of demand files ≡ w)
+pub known_worked : (demand : Demand) (a b : Outside) (w : Work) → w.outputs ≡ []
+    → IsAccepted (readings_of demand) a b → Known b.held (λ files. work_of demand files ≡ w)
     → ((files : Files) → RepeatsReport demand files) → IsWorked demand a b w.status w.text
-told_worked demand a b w none accepted works again =
+known_worked demand a b w none accepted works again =
     let only = accepted.read.only in
     record {
       accepts = accepted.accepts;
-      ends = told_status b.held (work_of demand) w works;
-      same_text = told_text b.held (work_of demand) w works;
+      ends = known_status b.held (work_of demand) w works;
+      same_text = reported_text b.held (work_of demand) w works;
       whole = rw only.written (none_written b.held (work_of demand) w works none a.written);
       only = only_same_names (outputs_of demand) a b only.written;
-      again = told b.held again;
+      again = if_known b.held again;
       quiet = record { reads = accepted.read.faults; writes = only.write_faults };
       held = only.held;
       printed = only.printed;
@@ -273,7 +273,7 @@ told_worked demand a b w none accepted works again =
 pub answered_worked : (demand : Demand) (a b : Outside) (text : List ℕ) → IsAnswered demand a b text
     → IsWorked demand a b status.Done text
 answered_worked demand a b text answered =
-    told_worked demand a b (done_with text) refl answered.accepted answered.work answered.again
+    known_worked demand a b (done_with text) refl answered.accepted answered.work answered.again
 
 -- ---- where nothing is read, or the reading stopped
 
@@ -281,12 +281,12 @@ answered_worked demand a b text answered =
 pub words_refused : (a : Outside) → IsFaulty None a a status.Usage
 words_refused a = record {
   fault = λ e. cc;
-  ends = told a.held (λ files. refl);
+  ends = if_known a.held (λ files. refl);
   usage = λ u. refl;
   refuses = λ r. inl refl;
   memory = refl;
   failed = record { reads = refl; writes = refl };
-  printable = told a.held (λ files. inl refl);
+  printable = if_known a.held (λ files. inl refl);
   writes = goes_same AreSame a.written (λ before name. refl);
   only = only_same_names [] a a refl;
   held = narrows_same a.held;
@@ -296,17 +296,17 @@ words_refused a = record {
 
 part_same : (asked : Option Demand) (held o : Option Files) → StandsInPart asked held o o
 part_same asked held o =
-    told held (λ files. goes_same _ o (λ before. none_begun (answer_of asked files).outputs before
+    if_known held (λ files. goes_same _ o (λ before. none_begun (answer_of asked files).outputs before
     before (λ name. refl)))
 
 -- so at a refusal that leaves nothing
 refused_same : (m : Manner) (asked : Option Demand) (held o : Option Files)
-    → Told held (λ files. (answer_of asked files).outputs ≡ []) → StaysAtRefusal m asked held o o
+    → Known held (λ files. (answer_of asked files).outputs ≡ []) → StaysAtRefusal m asked held o o
 refused_same judged_before asked held o none = goes_same AreSame o (λ before name. refl)
 refused_same read_again asked held o none =
-    told held (λ files. goes_same AreSame o (λ before name. refl))
+    if_known held (λ files. goes_same AreSame o (λ before name. refl))
 refused_same (read_along left) asked held o none =
-    told_map held (λ files is. goes_same (AreWhole (answer_of asked files).outputs) o
+    known_map held (λ files is. goes_same (AreWhole (answer_of asked files).outputs) o
     (λ names. all_same files names is)) none
   where
     all_same : (files names : Files) → (answer_of asked files).outputs ≡ []
@@ -340,16 +340,16 @@ refused_answer demand files s is =
 -- a refusal is the answer
 pub refusal_faulty : (demand : Demand) (a b : Outside) (s : Status) → kind_of s ≡ refusal
     → s ≢ status.Usage → hides_no_memory s ≡ false
-    → Told b.held (λ files. answer_of (Some demand) files ≡ refused_with s)
+    → Known b.held (λ files. answer_of (Some demand) files ≡ refused_with s)
     → b.read_faults ≡ a.read_faults → OnlyReads a b → IsFaulty (Some demand) a b s
 refusal_faulty demand a b s kind words memory refused peace only = record {
   fault = not_done_so;
-  ends = told_map b.held (λ files is. ends_so files is) refused;
+  ends = known_map b.held (λ files is. ends_so files is) refused;
   usage = λ u. absurd (words u);
   refuses = λ r. cc;
   memory = memory;
   failed = failed_so;
-  printable = told_map b.held (λ files is. inl (sym (ap (λ (w : Work). w.text) is))) refused;
+  printable = known_map b.held (λ files is. inl (sym (ap (λ (w : Work). w.text) is))) refused;
   writes = writes_so;
   only = only_same_names (outputs (Some demand)) a b only.written;
   held = only.held;
@@ -374,8 +374,8 @@ refusal_faulty demand a b s kind words memory refused peace only = record {
         → (answer_of (Some demand) files).outputs ≡ []
     nothing_left files is = ap (λ (w : Work). w.outputs) is
 
-    none_left : Told b.held (λ files. (answer_of (Some demand) files).outputs ≡ [])
-    none_left = told_map b.held (λ files is. nothing_left files is) refused
+    none_left : Known b.held (λ files. (answer_of (Some demand) files).outputs ≡ [])
+    none_left = known_map b.held (λ files is. nothing_left files is) refused
 
     stays : Writes (Some demand) a b refusal
     stays = rw only.written
@@ -387,11 +387,11 @@ refusal_faulty demand a b s kind words memory refused peace only = record {
 -- a file is refused
 file_faulty : (demand : Demand) (a b : Outside) (s : Status) → kind_of s ≡ refusal
     → s ≢ status.Usage → hides_no_memory s ≡ false
-    → Told b.held (λ files. first_refusal (first_readings_of demand) files ≡ Some s)
+    → Known b.held (λ files. first_refusal (first_readings_of demand) files ≡ Some s)
     → b.read_faults ≡ a.read_faults → OnlyReads a b → IsFaulty (Some demand) a b s
 file_faulty demand a b s kind words memory refused peace only =
     refusal_faulty demand a b s kind words memory
-    (told_map b.held (λ files is. refused_answer demand files s is) refused) peace only
+    (known_map b.held (λ files is. refused_answer demand files s is) refused) peace only
 
 -- reading a file failed
 reading_faulty : (demand : Demand) (a b : Outside)
@@ -404,7 +404,7 @@ reading_faulty demand a b stopped = record {
   refuses = λ r. cc;
   memory = refl;
   failed = record { reads = stopped.why.0; writes = stopped.only.write_faults };
-  printable = told_map b.held (λ files fails. inr (inr (inl (refl, fails)))) stopped.why.1;
+  printable = known_map b.held (λ files fails. inr (inr (inl (refl, fails)))) stopped.why.1;
   writes = rw stopped.only.written
       (unread_same (manner_of demand) (Some demand) b.held a.written);
   only = only_same_names (outputs (Some demand)) a b stopped.only.written;

@@ -1,4 +1,4 @@
--- How the command ends that tells of one line of a run.
+-- How the command ends that explains one line of a run.
 use Rattle.std.proofs.Common.{◌≡◌, List, Ok, ap, refl, sym, ◌∙◌}
 use Rattle.std.specs.Prelude.{IsTrue}
 use Rattle.base.specs.Lines.{is_layout}
@@ -6,8 +6,8 @@ use Rattle.command_line.specs.Explain.{ExplainDemand}
 use Rattle.command_line.specs.Words.{explain}
 use Rattle.guest.specs.Runs.{Run}
 use Rattle.settings.specs.declared.values.Settings.{Settings}
-use Rattle.shelf.specs.Laws.Told.{told_both}
-use Rattle.shelf.specs.Shelf.{Files, Outside, Told, content}
+use Rattle.shelf.specs.Laws.Known.{known_both}
+use Rattle.shelf.specs.Shelf.{Files, Outside, Known, content}
 use Rattle.trace_format.specs.declared.record.TraceRecord.{TraceRecord}
 use Rattle.command_io.specs.Laws.Settings.{settings_chosen}
 use Rattle.command_io.specs.Readings.{IsAccepted}
@@ -16,8 +16,8 @@ use Rattle.predator_cli.specs.Explain.{IsToExplain, as_run, explain_readings, ex
 use Rattle.predator_cli.specs.Explain.{explained}
 use Rattle.predator_cli.specs.Meets.{IsWorked}
 use Rattle.predator_cli.specs.Run.{run_for_demand, symbol_records}
-use Rattle.predator_cli.proofs.Ends.{told_worked}
-use Rattle.predator_cli.proofs.ListedCounts.{tells_listed}
+use Rattle.predator_cli.proofs.Ends.{known_worked}
+use Rattle.predator_cli.proofs.ListedCounts.{reports_listed}
 
 -- the work of the files is that of the run and the symbols that they give
 work_is : (d : ExplainDemand) (s : Settings) (files : Files) (symbols : List TraceRecord) (r : Run)
@@ -34,17 +34,17 @@ work_is d s files symbols r is runs named =
 
 pub to_explain : (d : ExplainDemand) (s : Settings) (symbols : List TraceRecord) (r : Run)
     (old now : Outside) → IsAccepted (explain_readings d) old now
-    → Told now.held (λ files. settings_in d.settings files ≡ Ok s)
-    → Told now.held (λ files. r ≡ run_for_demand (as_run d) s files)
-    → Told now.held (λ files. symbols ≡ symbol_records (content files d.program))
+    → Known now.held (λ files. settings_in d.settings files ≡ Ok s)
+    → Known now.held (λ files. r ≡ run_for_demand (as_run d) s files)
+    → Known now.held (λ files. symbols ≡ symbol_records (content files d.program))
     → IsToExplain d symbols r old now
 to_explain d s symbols r old now accepted read runs named =
-    let both : Told now.held (λ files. settings_in d.settings files ≡ Ok s
+    let both : Known now.held (λ files. settings_in d.settings files ≡ Ok s
     → explain_work d files ≡ explained d symbols r) =
-    told_both now.held (λ files x y e. work_is d s files symbols r e x y) runs named in
+    known_both now.held (λ files x y e. work_is d s files symbols r e x y) runs named in
     record {
       accepted = accepted;
-      works = told_both now.held (λ files e f. f e) read both;
+      works = known_both now.held (λ files e f. f e) read both;
     }
 
 -- what was done before the text is printed
@@ -52,5 +52,5 @@ pub explain_worked : (d : ExplainDemand) (symbols : List TraceRecord) (r : Run) 
     → IsTrue (is_layout d.layout.size d.layout.offset) → IsToExplain d symbols r old now
     → IsWorked (explain d) old now (explained d symbols r).status (explained d symbols r).text
 explain_worked d symbols r old now allowed ready =
-    told_worked (explain d) old now (explained d symbols r) refl ready.accepted ready.works
-    (tells_listed d allowed)
+    known_worked (explain d) old now (explained d symbols r) refl ready.accepted ready.works
+    (reports_listed d allowed)

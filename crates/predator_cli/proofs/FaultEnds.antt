@@ -1,7 +1,7 @@
 -- How a command ends by a fault: what it has done stands after the line of the fault is printed.
 use Rattle.std.proofs.Common.{◌≡◌, ◌≢◌, ℕ, ◌≤◌, List, Option, Some, None}
 use Rattle.std.proofs.Common.{◌∙◌, refl, inl, inr}
-use Rattle.shelf.specs.Shelf.{Files, Narrows, Outside, Told, Goes, OnlyPrints}
+use Rattle.shelf.specs.Shelf.{Files, Narrows, Outside, Known, Goes, OnlyPrints}
 use Rattle.shelf.specs.Shelf.{AddsFront}
 use Rattle.command_line.specs.Words.{Demand}
 use Rattle.command_io.specs.Statuses.{Kind, kind_of, done, refusal, read_fault, write_fault}
@@ -9,9 +9,9 @@ use Rattle.command_io.specs.Statuses.{no_memory}
 use Rattle.command_io.specs.Faults.{fault_text}
 use Rattle.command_io.specs.declared.status.Status.{Status}
 use Rattle.command_io.specs.declared.status.Status.TheVariants as status
-use Rattle.shelf.specs.Laws.Told.{goes_map, narrows_by, narrows_then, rose_later, told, told_map}
-use Rattle.shelf.specs.Laws.Told.{told_same}
-use Rattle.shelf.specs.Laws.Told.{whole_prefix}
+use Rattle.shelf.specs.Laws.Known.{goes_map, narrows_by, narrows_then, rose_later, if_known, known_map}
+use Rattle.shelf.specs.Laws.Known.{known_same}
+use Rattle.shelf.specs.Laws.Known.{whole_prefix}
 use Rattle.predator_cli.specs.Commands.{RepeatsReport}
 use Rattle.predator_cli.specs.Written.{AreSame, OnlyAt, StandsInPart, StandsWhole}
 use Rattle.predator_cli.specs.Written.{StaysAtReadFault, StaysAtRefusal, Writes}
@@ -90,21 +90,21 @@ printable_after : (asked : Option Demand) (files : Files) (a b d : Outside) (tex
 printable_after asked files a b d text only p = rw (only.read_faults, only.write_faults) p
 
 printable_then : (asked : Option Demand) (a b d : Outside) (text : List ℕ) → OnlyPrints b d
-    → Told b.held (λ files. IsPrintable asked files a b text)
-    → Told d.held (λ files. IsPrintable asked files a d text)
+    → Known b.held (λ files. IsPrintable asked files a b text)
+    → Known d.held (λ files. IsPrintable asked files a d text)
 printable_then asked a b d text only p =
-    told_same (λ files. IsPrintable asked files a d text) b.held d.held only.held
-    (told_map b.held (λ files is. printable_after asked files a b d text only is) p)
+    known_same (λ files. IsPrintable asked files a d text) b.held d.held only.held
+    (known_map b.held (λ files is. printable_after asked files a b d text only is) p)
 
 -- a fault's line was printed, whole or in part
 prints_fault : (asked : Option Demand) (a d : Outside) (k : Kind) (s : Status) → (k ≡ done → ⊥)
-    → Told d.held (λ files. IsPrintable asked files a d (fault_text s)) → Printed a d (fault_text s)
+    → Known d.held (λ files. IsPrintable asked files a d (fault_text s)) → Printed a d (fault_text s)
     → Prints asked a d k s
 prints_fault asked a d done s n p printed = absurd (n refl)
 prints_fault asked a d refusal s n p printed = printed
 prints_fault asked a d read_fault s n p printed = printed
 prints_fault asked a d write_fault s n p printed = inl printed
-prints_fault asked a d no_memory s n p printed = told_map d.held
+prints_fault asked a d no_memory s n p printed = known_map d.held
     (λ files is. (fault_text s, is, printed_prefix a d (fault_text s) printed))
     p
 
@@ -134,14 +134,14 @@ in_peace asked a b no_memory failed = tt
 -- what stands at a fault may stand where memory runs out after it
 same_later : (asked : Option Demand) (a b : Outside) → Goes a.written b.written AreSame
     → Writes asked a b no_memory
-same_later asked a b goes = told b.held (λ files. same_stands (answer_of asked files).outputs
+same_later asked a b goes = if_known b.held (λ files. same_stands (answer_of asked files).outputs
     a.written b.written goes)
 
 pub whole_later : (asked : Option Demand) (a b : Outside)
     → StandsWhole asked b.held a.written b.written
     → StandsInPart asked b.held a.written b.written
 whole_later asked a b whole =
-    told_map b.held
+    known_map b.held
     (λ files goes. goes_map a.written b.written
     (λ before now is. whole_stands (answer_of asked files).outputs before now is) goes)
     whole
@@ -151,7 +151,7 @@ refused_later : (m : Manner) (asked : Option Demand) (a b : Outside)
     → Writes asked a b no_memory
 refused_later judged_before asked a b writes = same_later asked a b writes
 refused_later read_again asked a b writes =
-    told_map b.held (λ files goes. same_stands (answer_of asked files).outputs a.written b.written
+    known_map b.held (λ files goes. same_stands (answer_of asked files).outputs a.written b.written
     goes) writes
 refused_later (read_along left) asked a b writes = whole_later asked a b writes
 
@@ -187,8 +187,8 @@ refuse_meets asked a b d s faulty only later printed =
     let same : Printed a d (fault_text s) = rw (← faulty.printed, ← faulty.print_faults) printed in
     let failed = failed_after asked a b d (kind_of s) only faulty.failed in
     record {
-      ends = told_same (λ files. EndsAs asked files a d (kind_of s) s) b.held d.held only.held
-          (told_map b.held (λ files ends. ends_after asked files a b d (kind_of s) s only ends)
+      ends = known_same (λ files. EndsAs asked files a d (kind_of s) s) b.held d.held only.held
+          (known_map b.held (λ files ends. ends_after asked files a b d (kind_of s) s only ends)
           faulty.ends);
       usage = faulty.usage;
       refuses = faulty.refuses;
@@ -200,7 +200,7 @@ refuse_meets asked a b d s faulty only later printed =
       writes = writes_after asked a b d (kind_of s) only later faulty.writes;
       only = rw only.written faulty.only;
       held = narrows_then a.held b.held d.held faulty.held (narrows_by b.held d.held only.held);
-      again = told d.held (λ files. not_done RepeatsReport asked files (kind_of s) faulty.fault);
+      again = if_known d.held (λ files. not_done RepeatsReport asked files (kind_of s) faulty.fault);
     }
 
 -- memory ran out while a fault's line was printed
@@ -210,13 +210,13 @@ pub refuse_out_of_memory : (asked : Option Demand) (a b d : Outside) (s : Status
 refuse_out_of_memory asked a b d s faulty only quiet printed =
     let part : AddsFront a.printed d.printed (fault_text s) = rw (← faulty.printed) printed in
     record {
-      ends = told d.held (λ files. tt);
+      ends = if_known d.held (λ files. tt);
       usage = λ u. cc;
       refuses = λ r. inr refl;
       caused = ran_out_at_line asked a d s
           (failed_after asked a b d (kind_of s) only faulty.failed)
           (quiet ∙ faulty.print_faults) part;
-      prints = told_map d.held (λ files p. (fault_text s, p, part))
+      prints = known_map d.held (λ files p. (fault_text s, p, part))
           (printable_then asked a b d (fault_text s) only faulty.printable);
       memory = refl;
       peace = tt;
@@ -224,7 +224,7 @@ refuse_out_of_memory asked a b d s faulty only quiet printed =
           (writes_later asked a b (kind_of s) faulty.fault faulty.writes);
       only = rw only.written faulty.only;
       held = narrows_then a.held b.held d.held faulty.held (narrows_by b.held d.held only.held);
-      again = told d.held (λ files. not_done RepeatsReport asked files no_memory (λ e. cc));
+      again = if_known d.held (λ files. not_done RepeatsReport asked files no_memory (λ e. cc));
     }
 
 -- memory ran out
@@ -233,12 +233,12 @@ pub starved : (asked : Option Demand) (a b : Outside) → IsQuiet a b → Writes
     → b.printed ≡ a.printed → b.print_faults ≡ a.print_faults → IsFaulty asked a b status.NoMemory
 starved asked a b quiet writes only held printed print_faults = record {
   fault = λ e. cc;
-  ends = told b.held (λ files. tt);
+  ends = if_known b.held (λ files. tt);
   usage = λ u. cc;
   refuses = λ u. inr refl;
   memory = refl;
   failed = quiet;
-  printable = told b.held (λ files. inr (inl refl));
+  printable = if_known b.held (λ files. inr (inl refl));
   writes = writes;
   only = only;
   held = held;

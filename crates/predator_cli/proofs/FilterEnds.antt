@@ -17,8 +17,8 @@ use Rattle.invalidations.specs.declared.sited.Sited.{Sited}
 use Rattle.sharing_rules.specs.AccessLists.{AccessList}
 use Rattle.sharing_rules.specs.Filtered.{IsWithoutRedundant, filtered}
 use Rattle.shelf.specs.Files.{AreWhole, BegunInOrder, Output, bytes_for, one_file}
-use Rattle.shelf.specs.Laws.Told.{goes_map, told, told_map}
-use Rattle.shelf.specs.Shelf.{Files, Goes, Outside, Told, content}
+use Rattle.shelf.specs.Laws.Known.{goes_map, if_known, known_map}
+use Rattle.shelf.specs.Shelf.{Files, Goes, Outside, Known, content}
 use Rattle.trace_files.specs.Copies.{HasCopied}
 use Rattle.trace_filter.specs.FilterPass.{HasGivenUp, IsFilteredTrace, filtering, sited, written_of}
 use Rattle.trace_filter.specs.Filtering.{filtered_items, filtered_trace}
@@ -171,15 +171,15 @@ module _ (d : FilterDemand) (laws : Filters d.near) where
         let t = copied.trace in
         let w = copy_with (filter_text d.near) (filtering d.near d.file) t in
         let ready : IsToWrite (filter d) w b.held = record {
-          accepts = told_map b.held (λ files same. accepts files (ap (refusal_of sited) (sym same)
-              ∙ laws.accepted copied.bytes t copied.is copied.told.version)) copied.whole;
-          works = told_map b.held (λ files same. work_is files t (ap trace_of (sym same) ∙ copied.is))
+          accepts = known_map b.held (λ files same. accepts files (ap (refusal_of sited) (sym same)
+              ∙ laws.accepted copied.bytes t copied.is copied.stated.version)) copied.whole;
+          works = known_map b.held (λ files same. work_is files t (ap trace_of (sym same) ∙ copied.is))
               copied.whole;
           names = refl;
         } in
         written_worked (filter d) w a b status.Done shown ready refl is
-        (told_map b.held (λ files same. repeats files t (ap trace_of (sym same) ∙ copied.is)
-        copied.told.version) copied.whole) copied.written
+        (known_map b.held (λ files same. repeats files t (ap trace_of (sym same) ∙ copied.is)
+        copied.stated.version) copied.whole) copied.written
 
     -- ---- it gave up
 
@@ -198,7 +198,7 @@ module _ (d : FilterDemand) (laws : Filters d.near) where
           (λ old new stay name not_so. stay name (other_name name not_so)) gave.others
 
       part : StandsInPart (Some (filter d)) b.held a.written b.written
-      part = told_map b.held (λ files front. subst (λ (outs : List Output).
+      part = known_map b.held (λ files front. subst (λ (outs : List Output).
           Goes a.written b.written (BegunInOrder outs)) (sym (outputs_are files)) front)
           gave.fronts
 
@@ -211,7 +211,7 @@ module _ (d : FilterDemand) (laws : Filters d.near) where
       read_faulty : fault ≡ ReadFault → IsFaulty (Some (filter d)) a b status.ReadFault
       read_faulty is = record {
         fault = λ e. cc;
-        ends = told b.held (λ files. inl (gave.cause.read_failed is));
+        ends = if_known b.held (λ files. inl (gave.cause.read_failed is));
         usage = λ u. cc;
         refuses = λ u. cc;
         memory = refl;
@@ -220,7 +220,7 @@ module _ (d : FilterDemand) (laws : Filters d.near) where
           writes = gave.cause.write_quiet
               (λ e. let no : ReadFault ≡ WriteFault = sym is ∙ e in cc);
         };
-        printable = told b.held
+        printable = if_known b.held
             (λ files. inr (inr (inl (refl, inl (gave.cause.read_failed is)))));
         writes = part;
         only = only_file;
@@ -232,7 +232,7 @@ module _ (d : FilterDemand) (laws : Filters d.near) where
       write_faulty : fault ≡ WriteFault → IsFaulty (Some (filter d)) a b status.WriteFault
       write_faulty is = record {
         fault = λ e. cc;
-        ends = told b.held (λ files. refl);
+        ends = if_known b.held (λ files. refl);
         usage = λ u. cc;
         refuses = λ u. cc;
         memory = refl;
@@ -241,7 +241,7 @@ module _ (d : FilterDemand) (laws : Filters d.near) where
               (λ e. let no : WriteFault ≡ ReadFault = sym is ∙ e in cc);
           writes = inl (gave.cause.write_failed is);
         };
-        printable = told b.held (λ files. inr (inr (inr (refl, inl (gave.cause.write_failed is)))));
+        printable = if_known b.held (λ files. inr (inr (inr (refl, inl (gave.cause.write_failed is)))));
         writes = inl (inl (gave.cause.write_failed is), part);
         only = only_file;
         held = gave.held_stay;
@@ -262,14 +262,14 @@ module _ (d : FilterDemand) (laws : Filters d.near) where
           let s = status_of_refusal r in
           let asked = Some (filter d) in
           let refused = gave.refused r is in
-          let answers : Told b.held (λ files. answer_of asked files
+          let answers : Known b.held (λ files. answer_of asked files
           ≡ record (refused_with s) {
             outputs = written_of d.near d.file (content files d.trace);
           }) =
-          told_map b.held (λ files same. refused_is files r
+          known_map b.held (λ files same. refused_is files r
           (ap (refusal_of sited) (sym same) ∙ refused.refused)) refused.whole in
           let whole : StandsWhole asked b.held a.written b.written =
-          told_map b.held (λ files same. subst (λ (outs : List Output).
+          known_map b.held (λ files same. subst (λ (outs : List Output).
           Goes a.written b.written (AreWhole outs))
           (ap (written_of d.near d.file) same ∙ sym (outputs_are files)) refused.written.whole)
           refused.whole in
@@ -277,8 +277,8 @@ module _ (d : FilterDemand) (laws : Filters d.near) where
           let failed : HasFailed asked a b refusal =
           quiet (λ e. let no : Refused r ≡ ReadFault = sym is ∙ e in cc)
           (λ e. let no : Refused r ≡ WriteFault = sym is ∙ e in cc) in
-          let ends : Told b.held (λ files. (answer_of asked files).status ≡ s) =
-          told_map b.held (λ files same. ap (λ (w : Work). w.status) same) answers in
+          let ends : Known b.held (λ files. (answer_of asked files).status ≡ s) =
+          known_map b.held (λ files same. ap (λ (w : Work). w.status) same) answers in
           record {
             fault = λ e. let k : refusal ≡ done = sym judged.kind ∙ e in cc;
             ends = rw judged.kind ends;
@@ -286,7 +286,7 @@ module _ (d : FilterDemand) (laws : Filters d.near) where
             refuses = λ u. cc;
             memory = judged.memory;
             failed = rw judged.kind failed;
-            printable = told_map b.held
+            printable = known_map b.held
                 (λ files same. inl (sym (ap (λ (w : Work). w.text) same))) answers;
             writes = rw judged.kind writes;
             only = only_file;

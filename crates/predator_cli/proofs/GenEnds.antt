@@ -8,7 +8,7 @@ use Rattle.shelf.specs.declared.shelf.ShelfError.{ShelfError}
 use Rattle.trace_files.specs.Made.{made_file}
 use Rattle.command_io.specs.Statuses.{status_of_writing}
 use Rattle.command_io.specs.declared.status.Status.TheVariants as status
-use Rattle.shelf.specs.Laws.Told.{told}
+use Rattle.shelf.specs.Laws.Known.{if_known}
 use Rattle.predator_cli.specs.Gen.{gen_work, summary_of}
 use Rattle.predator_cli.specs.Meets.{IsFaulty, IsWorked}
 use Rattle.predator_cli.proofs.WriteEnds.{IsToWrite, writing_cut, written_worked}
@@ -16,8 +16,8 @@ use Rattle.predator_cli.proofs.WriteEnds.{IsToWrite, writing_cut, written_worked
 -- nothing is read before
 to_write : (d : GenDemand) (held : Option Files) → IsToWrite (gen d) (gen_work d) held
 to_write d held = record {
-  accepts = told held (λ files. refl);
-  works = told held (λ files. refl);
+  accepts = if_known held (λ files. refl);
+  works = if_known held (λ files. refl);
   names = refl;
 }
 
@@ -26,7 +26,7 @@ pub made_worked : (d : GenDemand) (a b : Outside) (text : List ℕ) → text ≡
     → IsWorked (gen d) a b status.Done text
 made_worked d a b text is written =
     written_worked (gen d) (gen_work d) a b status.Done text (to_write d b.held) refl is
-    (told b.held (λ files. tt)) written
+    (if_known b.held (λ files. tt)) written
 
 pub made_cut : (d : GenDemand) (a b : Outside) (error : ShelfError)
     → AreCut (made_file d.file d.count) a b error

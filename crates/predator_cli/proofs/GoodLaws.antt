@@ -52,11 +52,11 @@ module _ (w : Version) (harts : ℕ) (items : List TraceRecord)
 
   saved_symbol : (s : Symbol) → IsSymbolOf items s → IsSavedSymbol s
   saved_symbol s of =
-      let told : IsGoodSymbol s.addr s.size of.told_name =
+      let stated : IsGoodSymbol s.addr s.size of.recorded_name =
       All-contains (IsGoodRecord w harts) items
-      (records.Symbol s.kind s.addr s.size of.told_name) good of.told in
+      (records.Symbol s.kind s.addr s.size of.recorded_name) good of.stated in
       subst (IsGoodSymbol s.addr s.size)
-      (sym (of.name ∙ take_all longest_name of.told_name told.short)) told
+      (sym (of.name ∙ take_all longest_name of.recorded_name stated.short)) stated
 
   pub savable : length (objects_of items).symbols < 2 ^ 64
       → length (objects_of items).blocks < 2 ^ 64 → All (IsBlockOf items) (objects_of items).blocks

@@ -33,7 +33,9 @@ use Rattle.sharing_rules.specs.Laws.Kept.{tracked-opened}
 use Rattle.sharing_rules.specs.Laws.Kinds.{opened-member}
 use Rattle.sharing_rules.specs.Laws.Lists.{Member-filter, Member-filter_map, Member-permutation}
 use Rattle.sharing_rules.specs.Laws.Lists.{slice_cases}
-use Rattle.sharing_rules.specs.Laws.Opened.{doubled-some, observed-some, opened_shifted-has}
+use Rattle.sharing_rules.specs.Laws.OpenedDoubled.{doubled-some}
+use Rattle.sharing_rules.specs.Laws.OpenedObserved.{observed-some}
+use Rattle.sharing_rules.specs.Laws.OpenedShifted.{opened_shifted-has}
 use Rattle.sharing_rules.specs.Laws.Orders.{in_order-permutes}
 use Rattle.shelf.specs.Shelf.{Files, content}
 use Rattle.trace_passes.specs.Lives.{symbols_in}
@@ -49,7 +51,7 @@ use Rattle.trace_format.specs.declared.record.Version.{Version}
 use Rattle.trace_passes.specs.Passes.{all_records}
 use Rattle.command_io.specs.SettingsFiles.{chosen_settings, levels_of, native_of}
 use Rattle.predator_cli.specs.Explain.{as_run, explain_work}
-use Rattle.predator_cli.specs.ListedCounts.{TellsCount, TellsListedCount}
+use Rattle.predator_cli.specs.ListedCounts.{ReportsCount, ReportsListedCount}
 use Rattle.predator_cli.specs.Run.{run_for_demand, symbol_record, symbol_records, version_with}
 
 -- ---- the accesses of the sited list are those of the trace
@@ -176,10 +178,10 @@ laid_by g is =
     let outer = and_parts (is_line_size g.size && ltb g.offset g.size) (eqb (g.offset % 4) 0) is in
     ltb-true g.offset g.size (and_parts (is_line_size g.size) (ltb g.offset g.size) outer.0).1
 
-pub tells_listed : (demand : ExplainDemand)
+pub reports_listed : (demand : ExplainDemand)
     → IsTrue (is_layout demand.layout.size demand.layout.offset) → (files : Files)
-    → TellsListedCount demand files
-tells_listed demand allowed files = λ to_trace to_output pcs f m same start.
+    → ReportsListedCount demand files
+reports_listed demand allowed files = λ to_trace to_output pcs f m same start.
     let settings = chosen_settings demand.settings files in
     let r = run_for_demand (as_run demand) settings files in
     let symbols = symbol_records (content files demand.program) in
@@ -199,7 +201,7 @@ tells_listed demand allowed files = λ to_trace to_output pcs f m same start.
     ∙ ap (λ s. line_count_since l s t) start
     ∙ ap (λ (u : List Touch). line_count_since l demand.start u)
     (sym (of_trace version settings.harts (content files demand.program) r)) in
-    subst (λ n. TellsCount l demand.start n (explain_work demand files).text) (sym count) (
+    subst (λ n. ReportsCount l demand.start n (explain_work demand files).text) (sym count) (
       r.ending,
       table_lines (kept_symbols (symbols_in symbols)) (kept_of l demand.start (sited_run r)),
       refl,

@@ -11,8 +11,8 @@ use Rattle.command_line.specs.Relocate.{MoveDemand}
 use Rattle.command_line.specs.Words.{relocate, outputs as outputs_of}
 use Rattle.shelf.specs.Files.{AreWhole, BegunInOrder, Output, bytes_for, one_file}
 use Rattle.shelf.specs.Laws.Files.{AreWritten-behind}
-use Rattle.shelf.specs.Laws.Told.{goes_map, told, told_both, told_map}
-use Rattle.shelf.specs.Shelf.{Files, Goes, Outside, Told, content}
+use Rattle.shelf.specs.Laws.Known.{goes_map, if_known, known_both, known_map}
+use Rattle.shelf.specs.Shelf.{Files, Goes, Outside, Known, content}
 use Rattle.trace_files.specs.Copies.{HasCopied}
 use Rattle.trace_files.specs.Moves.{IsFree, moved_list}
 use Rattle.trace_files.specs.Moving.{HasGivenUp, IsCounted, IsNearFiltered, IsRefused, fault_of}
@@ -166,7 +166,7 @@ module _ (d : MoveDemand) (table : List Move) (moves : Moves table) where
   -- ---- how the command ends
 
   module _ (a m b : Outside) (read : IsAccepted (table_reading d.table ∷ []) a m)
-      (holds : Told b.held (λ files. table_of (content files d.table) ≡ Ok table))
+      (holds : Known b.held (λ files. table_of (content files d.table) ≡ Ok table))
     where
       -- all is moved
       pub moved_worked : (made : Moved) (shown : List ℕ)
@@ -177,17 +177,17 @@ module _ (d : MoveDemand) (table : List Move) (moves : Moves table) where
           let t = copied.trace in
           let w = copy_with (move_text table) (moving table d.file) t in
           let ready : IsToWrite (relocate d) w b.held = record {
-            accepts = told_both b.held (λ files same e. accepts files e
+            accepts = known_both b.held (λ files same e. accepts files e
                 (ap (fault_of table) (sym same)
-                ∙ moves.accepted copied.bytes t copied.is copied.told.free copied.told.near))
+                ∙ moves.accepted copied.bytes t copied.is copied.stated.free copied.stated.near))
                 copied.whole holds;
-            works = told_both b.held (λ files same e. work_is files e t
+            works = known_both b.held (λ files same e. work_is files e t
                 (ap trace_of (sym same) ∙ copied.is)) copied.whole holds;
             names = refl;
           } in
           written_worked (relocate d) w a b status.Done shown ready refl is
-          (told_both b.held (λ files same e. repeats files e t (ap trace_of (sym same) ∙ copied.is)
-          copied.told.free copied.told.near) copied.whole holds)
+          (known_both b.held (λ files same e. repeats files e t (ap trace_of (sym same) ∙ copied.is)
+          copied.stated.free copied.stated.near) copied.whole holds)
           (AreWritten-behind (moving table d.file t) a m b read.read copied.written)
 
       -- ---- it gave up
@@ -206,7 +206,7 @@ module _ (d : MoveDemand) (table : List Move) (moves : Moves table) where
             (λ old new stay name not_so. stay name (other_name name not_so)) gave.others
 
         part : StandsInPart (Some (relocate d)) b.held m.written b.written
-        part = told_both b.held (λ files front e. subst (λ (outs : List Output).
+        part = known_both b.held (λ files front e. subst (λ (outs : List Output).
             Goes m.written b.written (BegunInOrder outs)) (sym (outputs_are files e)) front)
             gave.fronts holds
 
@@ -223,7 +223,7 @@ module _ (d : MoveDemand) (table : List Move) (moves : Moves table) where
         read_faulty : fault ≡ ReadFault → IsFaulty (Some (relocate d)) m b status.ReadFault
         read_faulty is = record {
           fault = λ e. cc;
-          ends = told_map b.held (fails is) holds;
+          ends = known_map b.held (fails is) holds;
           usage = λ u. cc;
           refuses = λ u. cc;
           memory = refl;
@@ -232,7 +232,7 @@ module _ (d : MoveDemand) (table : List Move) (moves : Moves table) where
             writes = gave.cause.write_quiet
                 (λ e. let no : ReadFault ≡ WriteFault = sym is ∙ e in cc);
           };
-          printable = told_map b.held (λ files e. inr (inr (inl (refl, fails is files e)))) holds;
+          printable = known_map b.held (λ files e. inr (inr (inl (refl, fails is files e)))) holds;
           writes = part;
           only = only_file;
           held = gave.held_stay;
@@ -243,7 +243,7 @@ module _ (d : MoveDemand) (table : List Move) (moves : Moves table) where
         write_faulty : fault ≡ WriteFault → IsFaulty (Some (relocate d)) m b status.WriteFault
         write_faulty is = record {
           fault = λ e. cc;
-          ends = told_map b.held (λ files e. ap
+          ends = known_map b.held (λ files e. ap
               (λ (r : Result (List Move) TableFault). option_or (table_refusal r) None) e) holds;
           usage = λ u. cc;
           refuses = λ u. cc;
@@ -253,7 +253,7 @@ module _ (d : MoveDemand) (table : List Move) (moves : Moves table) where
                 (λ e. let no : WriteFault ≡ ReadFault = sym is ∙ e in cc);
             writes = inl (gave.cause.write_failed is);
           };
-          printable = told b.held (λ files. inr (inr (inr (refl, inl (gave.cause.write_failed is)))));
+          printable = if_known b.held (λ files. inr (inr (inr (refl, inl (gave.cause.write_failed is)))));
           writes = inl (inl (gave.cause.write_failed is), part);
           only = only_file;
           held = gave.held_stay;
@@ -276,21 +276,21 @@ module _ (d : MoveDemand) (table : List Move) (moves : Moves table) where
       refused_faulty fault judged refused gave no_read no_write =
           let s = status_of_move fault in
           let asked = Some (relocate d) in
-          let answers : Told b.held (λ files. answer_of asked files
+          let answers : Known b.held (λ files. answer_of asked files
           ≡ record (refused_with s) {
             outputs = written_of table d.file (content files d.trace);
           }) =
-          told_both b.held (λ files same e. refused_is files e fault
+          known_both b.held (λ files same e. refused_is files e fault
           (ap (fault_of table) (sym same) ∙ refused.refused)) refused.whole holds in
           let whole : StandsWhole asked b.held m.written b.written =
-          told_both b.held (λ files same e. subst (λ (outs : List Output).
+          known_both b.held (λ files same e. subst (λ (outs : List Output).
           Goes m.written b.written (AreWhole outs))
           (ap (written_of table d.file) same ∙ sym (outputs_are files e)) refused.written.whole)
           refused.whole holds in
           let writes : Writes asked m b refusal = whole in
           let failed : HasFailed asked m b refusal = quiet fault gave no_read no_write in
-          let ends : Told b.held (λ files. (answer_of asked files).status ≡ s) =
-          told_map b.held (λ files is. ap (λ (w : Work). w.status) is) answers in
+          let ends : Known b.held (λ files. (answer_of asked files).status ≡ s) =
+          known_map b.held (λ files is. ap (λ (w : Work). w.status) is) answers in
           record {
             fault = λ e. let k : refusal ≡ done = sym judged.kind ∙ e in cc;
             ends = rw judged.kind ends;
@@ -298,7 +298,7 @@ module _ (d : MoveDemand) (table : List Move) (moves : Moves table) where
             refuses = λ u. cc;
             memory = judged.memory;
             failed = rw judged.kind failed;
-            printable = told_map b.held (λ files is. inl (sym (ap (λ (w : Work). w.text) is)))
+            printable = known_map b.held (λ files is. inl (sym (ap (λ (w : Work). w.text) is)))
                 answers;
             writes = rw judged.kind writes;
             only = only_file fault gave;

@@ -10,15 +10,15 @@ use Rattle.predator_cli.specs.Meets.{EndsAs, Meets, Prints}
 use Rattle.predator_cli.specs.OnDisk.{AgreesWith, EndsWith, IsAnswered}
 use Rattle.predator_cli.specs.Written.{StandsWhole, Writes}
 use Rattle.shelf.specs.Files.{AreWhole}
-use Rattle.shelf.specs.Shelf.{Adds, Files, Goes, Outside, Told}
+use Rattle.shelf.specs.Shelf.{Adds, Files, Goes, Outside, Known}
 
--- what is told holds of these contents
-told_of : (P : Files → Type 0) (files : Files) (seen : Seen) → AgreesWith files seen
-    → Told (held_by files seen.done) P
+-- what is known holds of these contents
+passed_of : (P : Files → Type 0) (files : Files) (seen : Seen) → AgreesWith files seen
+    → Known (held_by files seen.done) P
     → P files
-told_of P files seen agree told =
-    let so : Told (Some files) P =
-    subst (λ (b : Bool). Told (if b then Some files else None) P) agree told in
+passed_of P files seen agree stated =
+    let so : Known (Some files) P =
+    subst (λ (b : Bool). Known (if b then Some files else None) P) agree stated in
     so
 
 module _ (asked : Option Demand) (files : Files) (seen : Seen) (s : Status) where
@@ -31,26 +31,26 @@ module _ (asked : Option Demand) (files : Files) (seen : Seen) (s : Status) wher
   answered : Meets asked fresh now s → AgreesWith files seen → kind_of s ≡ done
       → IsAnswered asked files seen s
   answered meets agree kind =
-      let at_done : Told now.held (λ fs. EndsAs asked fs fresh now done s) =
-      subst (λ (k : Kind). Told now.held (λ fs. EndsAs asked fs fresh now k s)) kind meets.ends in
+      let at_done : Known now.held (λ fs. EndsAs asked fs fresh now done s) =
+      subst (λ (k : Kind). Known now.held (λ fs. EndsAs asked fs fresh now k s)) kind meets.ends in
       let printed : Prints asked fresh now done s =
       subst (λ (k : Kind). Prints asked fresh now k s) kind meets.prints in
       let whole : StandsWhole asked now.held fresh.written now.written =
       subst (λ (k : Kind). Writes asked fresh now k) kind meets.writes in
       record {
-        status = told_of (λ fs. (answer_of asked fs).status ≡ s) files seen agree at_done;
-        text = told_of (λ fs. Adds fresh.printed now.printed (answer_of asked fs).text) files seen
+        status = passed_of (λ fs. (answer_of asked fs).status ≡ s) files seen agree at_done;
+        text = passed_of (λ fs. Adds fresh.printed now.printed (answer_of asked fs).text) files seen
             agree printed;
-        outputs = told_of (λ fs. Goes fresh.written now.written
+        outputs = passed_of (λ fs. Goes fresh.written now.written
             (AreWhole (answer_of asked fs).outputs)) files seen agree whole;
       }
 
   refused : Meets asked fresh now s → AgreesWith files seen → kind_of s ≡ refusal
       → (answer_of asked files).status ≡ s
   refused meets agree kind =
-      let at_refusal : Told now.held (λ fs. EndsAs asked fs fresh now refusal s) =
-      subst (λ (k : Kind). Told now.held (λ fs. EndsAs asked fs fresh now k s)) kind meets.ends in
-      told_of (λ fs. (answer_of asked fs).status ≡ s) files seen agree at_refusal
+      let at_refusal : Known now.held (λ fs. EndsAs asked fs fresh now refusal s) =
+      subst (λ (k : Kind). Known now.held (λ fs. EndsAs asked fs fresh now k s)) kind meets.ends in
+      passed_of (λ fs. (answer_of asked fs).status ≡ s) files seen agree at_refusal
 
   -- how a call ends that began with nothing done
   pub ends_with : (old : Outside) (code : ℕ) → old ≡ fresh → code ≡ number_of s

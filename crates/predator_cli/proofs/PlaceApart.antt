@@ -15,7 +15,7 @@ use Rattle.placement.specs.Laws.Moved.{IsLineOf, in_line, line_of, one_group, ow
 use Rattle.placement.specs.Laws.MovedCounts.{AreHarts, area_is_many, place_alone, place_line}
 use Rattle.placement.specs.Laws.Plans.{area-whole, behind-end, ends-before, in-group, places-apart}
 use Rattle.placement.specs.Laws.Saved.{saved}
-use Rattle.placement.specs.Laws.Told.{told-placed}
+use Rattle.placement.specs.Laws.Stated.{stated-placed}
 use Rattle.placement.specs.Laws.Words.{owners-at}
 use Rattle.placement.specs.Plans.{area_start, has_room, moved_list, place, plan_of}
 use Rattle.placement.specs.Sought.{is_too_large}
@@ -122,21 +122,21 @@ module _ (n : ℕ) (e : Extent) (t : AccessList) (sized : IsLineSize n) (harts :
   }
 
 -- what is printed of the records of a trace
-told_of : (d : PlaceDemand) (files : Files) (t : Trace) (e : Extent)
+passed_of : (d : PlaceDemand) (files : Files) (t : Trace) (e : Extent)
     → trace_of (content files d.trace) ≡ Some t → Means d (Some e) (all_records t)
     → IsFalse (is_too_large e)
     → IsTrue (has_room d.size (owned_of e (touches_in (all_records t))))
     → place_work d files ≡ done_with (place_text d.size d.name e (touches_in (all_records t)))
-told_of d files t e is one small room =
+passed_of d files t e is one small room =
     let items : List TraceRecord = all_records t in
     let read : records_for d files ≡ items =
     ap (λ (x : Option Trace). option_map_or all_records x []) is in
-    let told : Result (List ℕ) PlaceRefusal → Type 0 = λ r.
+    let if_known : Result (List ℕ) PlaceRefusal → Type 0 = λ r.
     done_or_refused (result_map_both (λ text. text) status.Place r)
     ≡ done_with (place_text d.size d.name e (touches_in items)) in
-    subst told
+    subst if_known
     (sym (ap (place_of_records d.size d.name d.at) read
-    ∙ told-placed d.size d.name d.at items e one small room)) refl
+    ∙ stated-placed d.size d.name d.at items e one small room)) refl
 
 pub place_apart : TracesAreSpelled → (d : PlaceDemand) → IsTrue (is_line_size d.size)
     → (files : Files) → PlaceKeepsApart d files
@@ -146,7 +146,7 @@ place_apart spelled d allowed files =
     let list : AccessList = touches_in (all_records t) in
     let sized = line-sized d.size allowed in
     let harts = trace_harts spelled (content files d.trace) t small is in (
-      told_of d files t e is one,
+      passed_of d files t e is one,
       keeps_apart d.size e list sized harts,
       adds_up d.size e list sized harts,
     )

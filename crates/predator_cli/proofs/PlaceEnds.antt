@@ -8,8 +8,8 @@ use Rattle.placement.specs.Passing.{HasSought, Seeks}
 use Rattle.placement.specs.Sought.{object_of}
 use Rattle.placement.specs.declared.extent.Extent.{Extent}
 use Rattle.placement.specs.declared.finder.Finder.{Finder}
-use Rattle.shelf.specs.Laws.Told.{narrows_then, read_both, told_map}
-use Rattle.shelf.specs.Shelf.{Files, HasRead, Outside, Told}
+use Rattle.shelf.specs.Laws.Known.{narrows_then, read_both, known_map}
+use Rattle.shelf.specs.Shelf.{Files, HasRead, Outside, Known}
 use Rattle.trace_format.specs.declared.record.TraceRecord.{TraceRecord}
 use Rattle.trace_passes.specs.Passes.{HasPassed, Trace, all_records}
 use Rattle.trace_passes.specs.declared.passes.Passed.{Passed}
@@ -25,8 +25,8 @@ use Rattle.predator_cli.specs.Written.{Writes}
 -- what a pass gave its observer are the records
 passed_records : (d : PlaceDemand) (held : Option Files) (passed : Passed)
     (P : List TraceRecord → Type 0)
-    → HasPassed held d.trace passed P → Told held (λ files. P (records_for d files))
-passed_records d held passed P has = told_map held
+    → HasPassed held d.trace passed P → Known held (λ files. P (records_for d files))
+passed_records d held passed P has = known_map held
     (λ files whole. subst (λ (bytes : List ℕ). P (records_of bytes)) whole
     (subst P (sym (ap (λ (t : Option Trace). option_map_or all_records t []) has.is)) has.saw))
     has.whole
@@ -41,7 +41,7 @@ pub object_sought : (d : PlaceDemand) (a b : Outside) (begun now : Finder) (pass
     → WasRead d (Means d object) a b
 object_sought d a b begun now passed object accepted saw seeks found = record {
   accepted = accepted;
-  holds = told_map b.held
+  holds = known_map b.held
       (λ files. λ (sought : HasSought begun now (records_for d files)). sym
       (found (records_for d files) (sought.sought d.name d.at [] seeks)))
       (passed_records d b.held passed (HasSought begun now) saw);
@@ -98,12 +98,12 @@ module _ (asked : Option Demand) (a m b : Outside) (read : HasRead a m) where
   pub faulty_behind : (s : Status) → IsFaulty asked m b s → IsFaulty asked a b s
   faulty_behind s faulty = record {
     fault = faulty.fault;
-    ends = told_map b.held (λ files ends. ends_behind files (kind_of s) s ends) faulty.ends;
+    ends = known_map b.held (λ files ends. ends_behind files (kind_of s) s ends) faulty.ends;
     usage = faulty.usage;
     refuses = faulty.refuses;
     memory = faulty.memory;
     failed = failed_behind (kind_of s) faulty.failed;
-    printable = told_map b.held (λ files p. printable_behind files (fault_text s) p)
+    printable = known_map b.held (λ files p. printable_behind files (fault_text s) p)
         faulty.printable;
     writes = writes_behind (kind_of s) faulty.writes;
     only = rw (← read.only.written) faulty.only;

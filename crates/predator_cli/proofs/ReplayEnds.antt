@@ -9,7 +9,7 @@ use Rattle.shelf.specs.Files.{AreCut, AreWritten}
 use Rattle.base.specs.Levels.{Levels}
 use Rattle.base.specs.Lines.{Grid}
 use Rattle.settings.specs.declared.values.Settings.{Settings}
-use Rattle.shelf.specs.Shelf.{Files, Narrows, Outside, Told, content}
+use Rattle.shelf.specs.Shelf.{Files, Narrows, Outside, Known, content}
 use Rattle.shelf.specs.declared.shelf.ShelfError.{ShelfError}
 use Rattle.trace_passes.specs.Passes.{Trace, trace_of}
 use Rattle.command_io.specs.Readings.{IsAccepted, IsReadFrom, IsStopped, Reading}
@@ -20,9 +20,9 @@ use Rattle.command_io.specs.declared.status.Status.{Status}
 use Rattle.command_io.specs.declared.status.Status.TheVariants as status
 use Rattle.command_io.specs.Laws.Settings.{settings_chosen}
 use Rattle.command_io.specs.Laws.Readings.{accepted_behind, alike_accepted, alike_stopped}
-use Rattle.command_io.specs.Laws.Readings.{stopped_behind, stopped_first, told_again}
+use Rattle.command_io.specs.Laws.Readings.{stopped_behind, stopped_first, known_again}
 use Rattle.shelf.specs.Laws.Files.{AreCut-behind, AreWritten-behind}
-use Rattle.shelf.specs.Laws.Told.{told, told_both, told_map, told_still}
+use Rattle.shelf.specs.Laws.Known.{if_known, known_both, known_map, known_still}
 use Rattle.predator_cli.specs.Meets.{IsFaulty, IsWorked}
 use Rattle.predator_cli.specs.Replay.{IsCounted, IsToShow, begun_in, begun_under, grid_in}
 use Rattle.predator_cli.specs.Replay.{levels_in, refuses_trace, replay_readings}
@@ -48,9 +48,9 @@ module _ (d : ReplayDemand) (s : Settings) (g : Grid) (v : Levels)
     (grid_is : g ≡ layout_of d.layout s)
     (levels_is : v ≡ levels_of d.layout s)
   where
-    chosen : (a : Outside) → Told a.held (λ files. settings_in d.settings files ≡ Ok s)
-        → Told a.held (λ files. (grid_in d files ≡ g) × (levels_in d files ≡ v))
-    chosen a read = told_map a.held (λ files is. (
+    chosen : (a : Outside) → Known a.held (λ files. settings_in d.settings files ≡ Ok s)
+        → Known a.held (λ files. (grid_in d files ≡ g) × (levels_in d files ≡ v))
+    chosen a read = known_map a.held (λ files is. (
       ap (layout_of d.layout) (settings_chosen d.settings files s is) ∙ sym grid_is,
       ap (levels_of d.layout) (settings_chosen d.settings files s is) ∙ sym levels_is,
     )) read
@@ -68,12 +68,12 @@ module _ (d : ReplayDemand) (s : Settings) (g : Grid) (v : Levels)
     traces = trace_reading (wanted_in d) d.trace ∷ []
 
     wanted_alike : (begun : Option Begun) (a : Outside)
-        → Told a.held (λ files. settings_in d.settings files ≡ Ok s)
-        → Told a.held (λ files. begun_under g v d.resume files ≡ begun)
-        → Told a.held (λ files. refuses_trace (wanted_in d files) d.trace files
+        → Known a.held (λ files. settings_in d.settings files ≡ Ok s)
+        → Known a.held (λ files. begun_under g v d.resume files ≡ begun)
+        → Known a.held (λ files. refuses_trace (wanted_in d files) d.trace files
         ≡ refuses_trace (wanted_after d.save g begun) d.trace files)
     wanted_alike begun a read is =
-        told_both a.held (λ files same e.
+        known_both a.held (λ files same e.
         ap (λ (x : Grid). refuses_trace (wanted_after d.save x (begun_in d files)) d.trace files)
         same.0
         ∙ ap (λ (x : Option Begun). refuses_trace (wanted_after d.save g x) d.trace files)
@@ -82,36 +82,36 @@ module _ (d : ReplayDemand) (s : Settings) (g : Grid) (v : Levels)
 
     -- the state is refused, behind the settings
     pub state_stopped : (a m p : Outside) (st : Status)
-        → Told m.held (λ files. settings_in d.settings files ≡ Ok s)
+        → Known m.held (λ files. settings_in d.settings files ≡ Ok s)
         → IsAccepted (settings_readings d.settings) a m
         → IsStopped (state_readings (λ x. g) (λ x. v) d.resume) m p st
         → IsStopped (replay_readings d) a p st
     state_stopped a m p st read first stopped =
-        let at_p = told_still (λ files. settings_in d.settings files ≡ Ok s) m.held p.held
+        let at_p = known_still (λ files. settings_in d.settings files ≡ Ok s) m.held p.held
         stopped.only.held read in
         stopped_behind (settings_readings d.settings) (states ++ traces) a m p st first
         (stopped_first states traces m p st
         (states_stopped (grid_in d) (levels_in d) g v d.resume m p st (chosen p at_p) stopped))
 
     module _ (begun : Option Begun) (a m p b : Outside)
-        (read : Told m.held (λ files. settings_in d.settings files ≡ Ok s))
+        (read : Known m.held (λ files. settings_in d.settings files ≡ Ok s))
         (first : IsAccepted (settings_readings d.settings) a m)
         (then : IsAccepted (state_readings (λ x. g) (λ x. v) d.resume) m p)
-        (is : Told p.held (λ files. begun_under g v d.resume files ≡ begun))
+        (is : Known p.held (λ files. begun_under g v d.resume files ≡ begun))
       where
-        at_p : Told p.held (λ files. settings_in d.settings files ≡ Ok s)
-        at_p = told_again (λ files. settings_in d.settings files ≡ Ok s) m p then.read read
+        at_p : Known p.held (λ files. settings_in d.settings files ≡ Ok s)
+        at_p = known_again (λ files. settings_in d.settings files ≡ Ok s) m p then.read read
 
         behind : IsAccepted states m p
         behind = states_accepted (grid_in d) (levels_in d) g v d.resume m p (chosen p at_p) then
 
         -- the same once the trace was read
         module _ (narrow : Narrows p.held b.held) where
-          at_b : Told b.held (λ files. settings_in d.settings files ≡ Ok s)
-          at_b = told_still (λ files. settings_in d.settings files ≡ Ok s) p.held b.held narrow at_p
+          at_b : Known b.held (λ files. settings_in d.settings files ≡ Ok s)
+          at_b = known_still (λ files. settings_in d.settings files ≡ Ok s) p.held b.held narrow at_p
 
-          begun_at_b : Told b.held (λ files. begun_under g v d.resume files ≡ begun)
-          begun_at_b = told_still (λ files. begun_under g v d.resume files ≡ begun) p.held b.held
+          begun_at_b : Known b.held (λ files. begun_under g v d.resume files ≡ begun)
+          begun_at_b = known_still (λ files. begun_under g v d.resume files ≡ begun) p.held b.held
               narrow is
 
         -- the trace is refused, behind both
@@ -167,15 +167,15 @@ module _ (d : ReplayDemand) (s : Settings) (g : Grid) (v : Levels)
             → IsToShow d a b text state
         trace_counted text state last counted =
             let narrow = last.read.only.held in
-            let ready : Told b.held (λ files. counted.bytes ≡ content files d.trace
+            let ready : Known b.held (λ files. counted.bytes ≡ content files d.trace
             → replay_work d files ≡ shown d.save text state) =
-            told_both b.held (λ files same e whole. work_is files counted.bytes text state same e
+            known_both b.held (λ files same e whole. work_is files counted.bytes text state same e
             whole counted.given)
             (chosen b (at_b narrow)) (begun_at_b narrow)
             in
             record {
               accepted = all_accepted last;
-              work = told_both b.held (λ files f whole. f whole) ready counted.whole;
+              work = known_both b.held (λ files f whole. f whole) ready counted.whole;
             }
 
 -- ---- how the command ends
@@ -199,7 +199,7 @@ module _ (d : ReplayDemand) (text state : List ℕ) (old m b : Outside)
   saved_worked written =
       written_worked (replay d) (shown d.save text state) old b status.Done text
       (still_to_write (replay d) (shown d.save text state) m.held b.held written.only.held to_write)
-      refl refl (told b.held (λ files. tt))
+      refl refl (if_known b.held (λ files. tt))
       (AreWritten-behind (output_for d.save state) old m b ready.accepted.read written)
 
   pub saved_cut : (error : ShelfError) → AreCut (output_for d.save state) m b error

@@ -8,7 +8,7 @@ use Rattle.std.proofs.lemmas.Bool.{cases_Bool}
 use Rattle.std.proofs.lemmas.Option.{none-some, same_Some}
 use Rattle.std.proofs.lemmas.Slice.Eq.{bytes_eq-Decides}
 use Rattle.std.specs.Option.{option_and_then, option_map}
-use Rattle.shelf.specs.Shelf.{Files, Outside, Told, content}
+use Rattle.shelf.specs.Shelf.{Files, Outside, Known, content}
 use Rattle.shelf.specs.declared.shelf.ShelfError.{ShelfError}
 use Rattle.command_line.specs.Names.{are_apart, given}
 use Rattle.command_line.specs.Demands.{text_of}
@@ -42,8 +42,8 @@ use Rattle.command_io.specs.declared.status.Status.{Status}
 use Rattle.command_io.specs.Laws.Settings.{settings_chosen, settings_pass}
 use Rattle.command_io.specs.Laws.Readings.{none_alone, passed}
 use Rattle.shelf.specs.Laws.Files.{AreCut-behind, AreWritten-behind}
-use Rattle.shelf.specs.Laws.Told.{told_both, told_still}
-use Rattle.predator_cli.specs.Again.{ReplayRepeatsRun, RunRepeats, RunTellsSites, TellsSites}
+use Rattle.shelf.specs.Laws.Known.{known_both, known_still}
+use Rattle.predator_cli.specs.Again.{ReplayRepeatsRun, RunRepeats, RunRecordsSites, RecordsSites}
 use Rattle.predator_cli.specs.Again.{whole_replay}
 use Rattle.predator_cli.specs.Answer.{HasNamesApart, answer_of}
 use Rattle.predator_cli.specs.Commands.{RepeatsReport, work_of}
@@ -150,15 +150,15 @@ run_work_is d s files t r is traced same =
     ∙ ap (work_of_run d s t) (sym same)
 
 works : (d : RunDemand) (s : Settings) (o : Option Files) (t : Trace) (r : Run)
-    → Told o (λ files. settings_in d.settings files ≡ Ok s)
-    → Told o (λ files. t ≡ trace_for_demand d s files)
-    → Told o (λ files. r ≡ run_for_demand d s files)
-    → Told o (λ files. work_of (run d) files ≡ work_of_run d s t r)
+    → Known o (λ files. settings_in d.settings files ≡ Ok s)
+    → Known o (λ files. t ≡ trace_for_demand d s files)
+    → Known o (λ files. r ≡ run_for_demand d s files)
+    → Known o (λ files. work_of (run d) files ≡ work_of_run d s t r)
 works d s o t r read traced same =
-    let both : Told o (λ files. settings_in d.settings files ≡ Ok s → work_of (run d) files
+    let both : Known o (λ files. settings_in d.settings files ≡ Ok s → work_of (run d) files
     ≡ work_of_run d s t r) =
-    told_both o (λ files x y e. run_work_is d s files t r e x y) traced same in
-    told_both o (λ files e f. f e) read both
+    known_both o (λ files x y e. run_work_is d s files t r e x y) traced same in
+    known_both o (λ files e f. f e) read both
 
 -- ---- the replay of the trace
 
@@ -229,18 +229,18 @@ replay_repeats d s files t r good plain first is answer = λ name later named_so
     replay_answer d name later s t (same ∙ is) none read
     ∙ ap done_with (sym (ap (λ (w : Work). w.text) answer))
 
-tells_sites : (d : RunDemand) (s : Settings) (files : Files) (t : Trace) (r : Run) → IsKept t
+records_sites : (d : RunDemand) (s : Settings) (files : Files) (t : Trace) (r : Run) → IsKept t
     → settings_in d.settings files ≡ Ok s → t ≡ trace_for_demand d s files
-    → answer_of (Some (run d)) files ≡ work_of_run d s t r → RunTellsSites d files
-tells_sites d s files t r good is traced answer = λ pcs name later named_so holds.
+    → answer_of (Some (run d)) files ≡ work_of_run d s t r → RunRecordsSites d files
+records_sites d s files t r good is traced answer = λ pcs name later named_so holds.
     let read : trace_of (content later name) ≡ Some t =
     ap trace_of (written_trace d s files later t r name answer named_so holds)
     ∙ spelled_again t good in (
       t,
       read,
-      subst (λ (x : Settings). TellsSites d x files t)
+      subst (λ (x : Settings). RecordsSites d x files t)
           (sym (settings_chosen d.settings files s is))
-          (subst (TellsSites d s files) (sym traced) (demand_sited d s files pcs)),
+          (subst (RecordsSites d s files) (sym traced) (demand_sited d s files pcs)),
     )
 
 repeats : (d : RunDemand) (s : Settings) (files : Files) (t : Trace) (r : Run) → IsKept t
@@ -249,7 +249,7 @@ repeats : (d : RunDemand) (s : Settings) (files : Files) (t : Trace) (r : Run) �
     → answer_of (Some (run d)) files ≡ work_of_run d s t r → RunRepeats d files
 repeats d s files t r good plain first is traced answer = record {
   replay = replay_repeats d s files t r good plain first is answer;
-  sites = tells_sites d s files t r good is traced answer;
+  sites = records_sites d s files t r good is traced answer;
   text = demand_text d (chosen_settings d.settings files) files;
 }
 
@@ -260,16 +260,16 @@ near_none true = refl
 
 run_repeats : (d : RunDemand) (s : Settings) (o : Option Files) (t : Trace) (r : Run) → IsKept t
     → t.header.near ≡ 0 → t.header.first ≡ 0
-    → Told o (λ files. settings_in d.settings files ≡ Ok s)
-    → Told o (λ files. t ≡ trace_for_demand d s files)
-    → Told o (λ files. r ≡ run_for_demand d s files)
-    → Told o (λ files. first_refusal (run_readings d) files ≡ None) → Told o (RepeatsReport (run d))
+    → Known o (λ files. settings_in d.settings files ≡ Ok s)
+    → Known o (λ files. t ≡ trace_for_demand d s files)
+    → Known o (λ files. r ≡ run_for_demand d s files)
+    → Known o (λ files. first_refusal (run_readings d) files ≡ None) → Known o (RepeatsReport (run d))
 run_repeats d s o t r good plain first read traced same accepts =
-    let both : Told o (λ files. settings_in d.settings files ≡ Ok s → RunRepeats d files) =
-    told_both o (λ files told answer e. repeats d s files t r good plain first e told answer) traced
-    (told_both o (λ files none w. accepted_answer (run d) files none ∙ w) accepts
+    let both : Known o (λ files. settings_in d.settings files ≡ Ok s → RunRepeats d files) =
+    known_both o (λ files stated answer e. repeats d s files t r good plain first e stated answer) traced
+    (known_both o (λ files none w. accepted_answer (run d) files none ∙ w) accepts
     (works d s o t r read traced same)) in
-    told_both o (λ files e f. f e) read both
+    known_both o (λ files e f. f e) read both
 
 -- what is to be written, before it is
 to_write : (d : RunDemand) (s : Settings) (t : Trace) (r : Run) (a m : Outside)
@@ -296,12 +296,12 @@ pub shown_worked : (d : RunDemand) (s : Settings) (t : Trace) (old m b : Outside
     → IsReady d s t r old m → st ≡ status_for r.ending.outcome → text ≡ report_of (levels_of None s)
     (native_of s) t → IsKept t
     → t.header.near ≡ 0 → t.header.first ≡ 0 → AreWritten (outputs_of_run d t r) m b → IsWorked (run d) old b st text
-shown_worked d s t old m b r st text ready ends told_text good plain first written =
+shown_worked d s t old m b r st text ready ends reported_text good plain first written =
     let w = work_of_run d s t r in
     written_worked (run d) w old b st text
     (still_to_write (run d) w m.held b.held written.only.held (to_write d s t r old m ready)) ends
-    told_text
-    (told_still (RepeatsReport (run d)) m.held b.held written.only.held
+    reported_text
+    (known_still (RepeatsReport (run d)) m.held b.held written.only.held
     (run_repeats d s m.held t r good plain first ready.read ready.traced ready.runs
     ready.accepted.accepts))
     (AreWritten-behind (outputs_of_run d t r) old m b ready.accepted.read written)

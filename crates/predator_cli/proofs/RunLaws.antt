@@ -1,6 +1,6 @@
 -- The run that the files of a demand decide.
 use Rattle.std.proofs.Common.{◌≡◌, ℕ, List, Option, Some, None, Ok, refl, sym, ap, ◌∙◌}
-use Rattle.shelf.specs.Shelf.{Files, Told, content}
+use Rattle.shelf.specs.Shelf.{Files, Known, content}
 use Rattle.sharing_rules.specs.Laws.Recounts.{listed_are_recounted}
 use Rattle.trace_format.specs.Rules.{touches_in}
 use Rattle.trace_passes.specs.Passes.{all_records}
@@ -19,7 +19,7 @@ use Rattle.command_io.specs.Readings.{first_refusal}
 use Rattle.command_io.specs.SettingsFiles.{chosen_settings, levels_of, native_of, settings_in}
 use Rattle.command_io.specs.Laws.Settings.{settings_chosen}
 use Rattle.command_io.specs.Laws.Readings.{none_alone}
-use Rattle.shelf.specs.Laws.Told.{told_both}
+use Rattle.shelf.specs.Laws.Known.{known_both}
 use Rattle.predator_cli.specs.Recounts.{RunIsRecounted}
 use Rattle.predator_cli.specs.Run.{RunStaysWithin, trace_for_demand}
 use Rattle.predator_cli.specs.Run.{plan_in, run_for_demand, run_in, schedule_in, schedule_readings}
@@ -48,12 +48,12 @@ run_is s program name files image plan r i p is =
     let planned : plan_in s name files ≡ plan = rw p refl in
     is ∙ ap (λ x. whole_run s x plan) i ∙ ap (λ x. run_in s (content files program) x) (sym planned)
 
-pub run_told : (d : RunDemand) (s : Settings) (o : Option Files) (image : Image) (plan : Plan)
+pub run_known : (d : RunDemand) (s : Settings) (o : Option Files) (image : Image) (plan : Plan)
     (r : Run)
-    → Told o (λ files. image ≡ image_of (space_of s) (content files d.program))
-    → Told o (λ files. schedule_in s d.schedule files ≡ Ok plan) → r ≡ whole_run s image plan
-    → Told o (λ files. r ≡ run_for_demand d s files)
-run_told d s o image plan r i p is = told_both o
+    → Known o (λ files. image ≡ image_of (space_of s) (content files d.program))
+    → Known o (λ files. schedule_in s d.schedule files ≡ Ok plan) → r ≡ whole_run s image plan
+    → Known o (λ files. r ≡ run_for_demand d s files)
+run_known d s o image plan r i p is = known_both o
     (λ files a b. run_is s d.program d.schedule files image plan r a b is) i p
 
 -- every run keeps its budget

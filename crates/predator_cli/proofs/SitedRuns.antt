@@ -16,7 +16,7 @@ use Rattle.objects.specs.Objects.{Objects}
 use Rattle.objects.specs.Symbols.{Symbol, kept_symbol, symbols_of as kept_symbols}
 use Rattle.program_files.specs.Symbols.{symbols_of}
 use Rattle.report.specs.OfLists.{report_of as report_of_list}
-use Rattle.run_recorder.specs.Laws.{run-plain, run-told, touches-without}
+use Rattle.run_recorder.specs.Laws.{run-plain, run-stated, touches-without}
 use Rattle.run_recorder.specs.Recorded.{records_in, records_of, trace_for}
 use Rattle.settings.specs.declared.values.Settings.{Settings}
 use Rattle.shelf.specs.Shelf.{Files, content}
@@ -33,7 +33,7 @@ use Rattle.trace_format.specs.declared.record.Version.TheVariants.{One, Three}
 use Rattle.trace_passes.specs.Lives.{death_in, lived, made_in, objects_of, symbols_in}
 use Rattle.trace_passes.specs.Passes.{all_records}
 use Rattle.command_io.specs.SettingsFiles.{levels_of, native_of}
-use Rattle.predator_cli.specs.Again.{TellsSites}
+use Rattle.predator_cli.specs.Again.{RecordsSites}
 use Rattle.predator_cli.specs.Replay.{report_of}
 use Rattle.predator_cli.specs.Run.{run_for_demand, symbol_records, trace_for_demand, version_with}
 use Rattle.predator_cli.proofs.ListedCounts.{no_touch}
@@ -161,17 +161,17 @@ demand_text d s files =
     (no_touch (symbols_of (content files d.program)))
 
 pub demand_sited : (d : RunDemand) (s : Settings) (files : Files) → d.pcs ≡ true
-    → TellsSites d s files (trace_for_demand d s files)
+    → RecordsSites d s files (trace_for_demand d s files)
 demand_sited d s files pcs =
     let symbols = symbol_records (content files d.program) in
     let r = run_for_demand d s files in
     let none = no_touch (symbols_of (content files d.program)) in
-    let told = run-told s.harts symbols r none in
-    subst (λ (b : Bool). TellsSites d s files (trace_for (version_with b) s.harts symbols r))
+    let stated = run-stated s.harts symbols r none in
+    subst (λ (b : Bool). RecordsSites d s files (trace_for (version_with b) s.harts symbols r))
     (sym pcs) (record {
-      header = told.header;
-      records = told.records;
-      ending = told.ending;
-      sites = ap (map sited) told.sites;
+      header = stated.header;
+      records = stated.records;
+      ending = stated.ending;
+      sites = ap (map sited) stated.sites;
       blamed = run_blamed s.harts symbols r none;
     })

@@ -4,7 +4,7 @@ use Rattle.std.proofs.Math.Seq.{take-length}
 use Rattle.std.specs.Option.{option_or}
 use Rattle.shelf.specs.Shelf.{Files, Outside, Goes}
 use Rattle.shelf.specs.Laws.Files.{none_begun}
-use Rattle.shelf.specs.Laws.Told.{goes_map, goes_same}
+use Rattle.shelf.specs.Laws.Known.{goes_map, goes_same}
 use Rattle.shelf.specs.Files.{AreWhole, BegunInOrder, IsFrontOf, Output, bytes_for}
 use Rattle.predator_cli.specs.Written.{AreSame, OnlyAt}
 

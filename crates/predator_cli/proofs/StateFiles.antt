@@ -8,7 +8,7 @@ use Rattle.std.proofs.lemmas.Option.{none-some}
 use Rattle.std.specs.Option.{option_eq}
 use Rattle.std.specs.Prelude.{nat_eq, IfOk, IsTrue, OnOk}
 use Rattle.std.specs.Result.{result_ok}
-use Rattle.shelf.specs.Shelf.{Files, Outside, Told, content}
+use Rattle.shelf.specs.Shelf.{Files, Outside, Known, content}
 use Rattle.detector.specs.Watch.{Watch}
 use Rattle.saved_state.specs.Resuming.{Resumption, resumption_in}
 use Rattle.objects.specs.Objects.{Objects}
@@ -24,7 +24,7 @@ use Rattle.command_io.specs.declared.status.StateFault.TheVariants as state
 use Rattle.command_io.specs.declared.status.Status.{Status}
 use Rattle.command_io.specs.declared.status.Status.TheVariants as status
 use Rattle.command_io.specs.Laws.Readings.{alike_accepted, alike_stopped}
-use Rattle.shelf.specs.Laws.Told.{told_map}
+use Rattle.shelf.specs.Laws.Known.{known_map}
 use Rattle.predator_cli.specs.Replay.{begun_under, state_readings}
 use Rattle.predator_cli.specs.States.{begun_with, differing_field, judged_state, objects_then}
 use Rattle.predator_cli.specs.States.{resumed_state, resumption_then}
@@ -130,11 +130,11 @@ native_kept g v w same native =
 
 -- ---- a state that is read
 
-pub state_told : (g : Grid) (v : Levels) (name : List ℕ) (o : Option Files) (begun : Begun)
+pub state_known : (g : Grid) (v : Levels) (name : List ℕ) (o : Option Files) (begun : Begun)
     → IsReadFrom o name (λ bytes. judged_state g v bytes ≡ Ok begun)
-    → Told o (λ files. begun_under g v (Some name) files ≡ Some begun)
-state_told g v name o begun read =
-    told_map o (λ files whole. ap (λ (b : List ℕ). result_ok (judged_state g v b)) (sym whole)
+    → Known o (λ files. begun_under g v (Some name) files ≡ Some begun)
+state_known g v name o begun read =
+    known_map o (λ files whole. ap (λ (b : List ℕ). result_ok (judged_state g v b)) (sym whole)
     ∙ ap result_ok read.given) read.whole
 
 alike : (grid : Files → Grid) (levels : Files → Levels) (g : Grid) (v : Levels) (n : List ℕ)
@@ -150,22 +150,22 @@ alike grid levels g v n files same =
 pub states_stopped : (grid : Files → Grid) (levels : Files → Levels) (g : Grid) (v : Levels)
     (name : Option (List ℕ)) (a b : Outside)
     (s : Status)
-    → Told b.held (λ files. (grid files ≡ g) × (levels files ≡ v))
+    → Known b.held (λ files. (grid files ≡ g) × (levels files ≡ v))
     → IsStopped (state_readings (λ x. g) (λ x. v) name) a b s
     → IsStopped (state_readings grid levels name) a b s
 states_stopped grid levels g v None a b s same stopped = stopped
 states_stopped grid levels g v (Some n) a b s same stopped =
     alike_stopped n (λ files. state_refusal (judged_state g v (content files n)))
     (λ files. state_refusal (judged_state (grid files) (levels files) (content files n))) a b s
-    (told_map b.held (alike grid levels g v n) same) stopped
+    (known_map b.held (alike grid levels g v n) same) stopped
 
 pub states_accepted : (grid : Files → Grid) (levels : Files → Levels) (g : Grid) (v : Levels)
     (name : Option (List ℕ)) (a b : Outside)
-    → Told b.held (λ files. (grid files ≡ g) × (levels files ≡ v))
+    → Known b.held (λ files. (grid files ≡ g) × (levels files ≡ v))
     → IsAccepted (state_readings (λ x. g) (λ x. v) name) a b
     → IsAccepted (state_readings grid levels name) a b
 states_accepted grid levels g v None a b same accepted = accepted
 states_accepted grid levels g v (Some n) a b same accepted =
     alike_accepted n (λ files. state_refusal (judged_state g v (content files n)))
     (λ files. state_refusal (judged_state (grid files) (levels files) (content files n))) a b
-    (told_map b.held (alike grid levels g v n) same) accepted
+    (known_map b.held (alike grid levels g v n) same) accepted

@@ -149,13 +149,13 @@ symbols_few file short = few_in file (find is_symbols (section_headers file)) sh
 
 -- ---- their records
 
--- one symbol more is told
-pub told_more : (before after : List TraceRecord) (told : TraceRecord) (symbols next : List Symbol)
+-- one symbol more is recorded
+pub listed_more : (before after : List TraceRecord) (stated : TraceRecord) (symbols next : List Symbol)
     (s : Symbol) (all : List TraceRecord)
-    → after ≡ before ++ told ∷ [] → told ≡ symbol_record s → symbols ≡ s ∷ next
+    → after ≡ before ++ stated ∷ [] → stated ≡ symbol_record s → symbols ≡ s ∷ next
     → before ++ map symbol_record symbols ≡ all → after ++ map symbol_record next ≡ all
-told_more before after told symbols next s all pushed is first so =
+listed_more before after stated symbols next s all pushed is first so =
     ap (λ (l : List TraceRecord). l ++ map symbol_record next) pushed
-    ∙ append_assoc before (told ∷ []) (map symbol_record next)
+    ∙ append_assoc before (stated ∷ []) (map symbol_record next)
     ∙ ap (λ (r : TraceRecord). before ++ r ∷ map symbol_record next) is
     ∙ ap (λ (l : List Symbol). before ++ map symbol_record l) (sym first) ∙ so

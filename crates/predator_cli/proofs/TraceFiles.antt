@@ -2,7 +2,7 @@
 use Rattle.std.proofs.Common.{◌≡◌, ◌≢◌, ◌⊎◌, inl, inr, ℕ, List, [], ◌∷◌, Option, Some, None, Err}
 use Rattle.std.proofs.Common.{refl, ap}
 use Rattle.std.specs.Option.{option_map}
-use Rattle.shelf.specs.Shelf.{Files, OnlyReads, Outside, Told, content}
+use Rattle.shelf.specs.Shelf.{Files, OnlyReads, Outside, Known, content}
 use Rattle.trace_format.specs.declared.fault.TraceFault.TheVariants as trace
 use Rattle.trace_passes.specs.Passes.{HasPassCause, refusal_of}
 use Rattle.trace_passes.specs.declared.passes.PassFault.{PassFault}
@@ -13,7 +13,7 @@ use Rattle.trace_passes.specs.declared.wanted.Wanted.{Wanted}
 use Rattle.command_io.specs.Readings.{IsRefusal, IsStopped, first_refusal}
 use Rattle.command_io.specs.Laws.Readings.{accepted_alone, fault_stopped, memory_stopped}
 use Rattle.command_io.specs.Laws.Readings.{refused_stopped}
-use Rattle.shelf.specs.Laws.Told.{told_map}
+use Rattle.shelf.specs.Laws.Known.{known_map}
 use Rattle.predator_cli.specs.Replay.{refuses_trace, trace_reading}
 use Rattle.predator_cli.specs.TraceFaults.{status_of_pass, status_of_refusal}
 
@@ -30,7 +30,7 @@ refusal_cases (refusals.Trace (trace.BadField place)) =
     inr (record { kind = refl; words = λ e. cc; memory = refl })
 refusal_cases (refusals.Trace (trace.Truncated size)) =
     inr (record { kind = refl; words = λ e. cc; memory = refl })
-refusal_cases (refusals.Trace (trace.CountMismatch told counted)) =
+refusal_cases (refusals.Trace (trace.CountMismatch stated counted)) =
     inr (record { kind = refl; words = λ e. cc; memory = refl })
 refusal_cases (refusals.Trace (trace.AfterEnd place)) =
     inr (record { kind = refl; words = λ e. cc; memory = refl })
@@ -48,24 +48,24 @@ is_refusal : (r : Refusal) → r ≢ refusals.Trace trace.NoMemory → IsRefusal
 is_refusal r other = elim (refusal_cases r) [ inl is ↦ absurd (other is) | inr judged ↦ judged ]
 
 pub pass_accepted : (w : Wanted) (name : List ℕ) (o : Option Files)
-    → Told o (λ files. refusal_of w (content files name) ≡ None)
-    → Told o (λ files. first_refusal (trace_reading (λ _. w) name ∷ []) files ≡ None)
+    → Known o (λ files. refusal_of w (content files name) ≡ None)
+    → Known o (λ files. first_refusal (trace_reading (λ _. w) name ∷ []) files ≡ None)
 pass_accepted w name o none =
     accepted_alone name (refuses_trace w name) o
-    (told_map o (λ files is. ap (option_map status_of_refusal) is) none)
+    (known_map o (λ files is. ap (option_map status_of_refusal) is) none)
 
 pub pass_stopped : {T : Type 0} (w : Wanted) (name : List ℕ) (a b : Outside) (fault : PassFault)
-    → ((r : Refusal) → fault ≡ Refused r → Told b.held (λ files. refusal_of w (content files name)
+    → ((r : Refusal) → fault ≡ Refused r → Known b.held (λ files. refusal_of w (content files name)
     ≡ Some r))
     → fault ≢ Refused (refusals.Trace trace.NoMemory) → HasPassCause {T = T} name a b (Err fault)
     → OnlyReads a b
     → IsStopped (trace_reading (λ _. w) name ∷ []) a b (status_of_pass fault)
-pass_stopped {T} w name a b (Refused r) told memory cause only =
+pass_stopped {T} w name a b (Refused r) stated memory cause only =
     refused_stopped name (refuses_trace w name) a b (status_of_refusal r)
     (is_refusal r (λ e. memory (ap Refused e)))
-    (told_map b.held (λ files is. ap (option_map status_of_refusal) is) (told r refl))
+    (known_map b.held (λ files is. ap (option_map status_of_refusal) is) (stated r refl))
     (cause.quiet (λ e. cc)) only
-pass_stopped {T} w name a b ReadFault told memory cause only =
+pass_stopped {T} w name a b ReadFault stated memory cause only =
     fault_stopped name (refuses_trace w name) a b (cause.failed refl) only
-pass_stopped {T} w name a b NoMemory told memory cause only = memory_stopped
+pass_stopped {T} w name a b NoMemory stated memory cause only = memory_stopped
     (trace_reading (λ _. w) name ∷ []) a b (cause.quiet (λ e. cc)) only

@@ -5,7 +5,7 @@ use Rattle.std.proofs.Common.{arith, refl, sym, ap, subst, ◌∙◌, inl, inr}
 use Rattle.std.specs.List.{list_any}
 use Rattle.std.specs.Option.{option_or}
 use Rattle.std.specs.Str.{bytes_eq}
-use Rattle.shelf.specs.Shelf.{Files, Goes, Narrows, Outside, Told}
+use Rattle.shelf.specs.Shelf.{Files, Goes, Narrows, Outside, Known}
 use Rattle.shelf.specs.declared.shelf.ShelfError.{ShelfError}
 use Rattle.shelf.specs.declared.shelf.ShelfError.TheVariants.{Failed, NoMemory}
 use Rattle.command_line.specs.Words.{Demand, outputs as outputs_of}
@@ -16,7 +16,7 @@ use Rattle.command_io.specs.Statuses.{status_of_writing}
 use Rattle.command_io.specs.Works.{Work}
 use Rattle.command_io.specs.declared.status.Status.{Status}
 use Rattle.shelf.specs.Laws.Files.{BegunInOrder-others}
-use Rattle.shelf.specs.Laws.Told.{goes_map, told, told_both, told_map, told_still}
+use Rattle.shelf.specs.Laws.Known.{goes_map, if_known, known_both, known_map, known_still}
 use Rattle.predator_cli.specs.Written.{OnlyAt}
 use Rattle.predator_cli.specs.Answer.{answer_of}
 use Rattle.predator_cli.specs.Commands.{RepeatsReport, manner_of, readings_of, work_of}
@@ -87,33 +87,33 @@ written_cut outputs a b written = record {
 
 -- ---- how the command ends
 
--- what is known of what is told to be held, before the files are written and behind: all that is
--- read is accepted, and so is the work
+-- what is known of the held files, before the files are written and behind: all that is read is
+-- accepted, and so is the work
 pub record IsToWrite (d : Demand) (w : Work) (held : Option Files) : Type 0 where
-  pub accepts : Told held (λ files. first_refusal (readings_of d) files ≡ None)
-  pub works : Told held (λ files. work_of d files ≡ w)
+  pub accepts : Known held (λ files. first_refusal (readings_of d) files ≡ None)
+  pub works : Known held (λ files. work_of d files ≡ w)
   pub names : names_in w.outputs ≡ outputs_of d
 
--- it is known still where less is told
+-- it stays known where less is known
 pub still_to_write : (d : Demand) (w : Work) (o n : Option Files) → Narrows o n → IsToWrite d w o
     → IsToWrite d w n
 still_to_write d w o n narrow ready = record {
-  accepts = told_still (λ files. first_refusal (readings_of d) files ≡ None) o n narrow
+  accepts = known_still (λ files. first_refusal (readings_of d) files ≡ None) o n narrow
       ready.accepts;
-  works = told_still (λ files. work_of d files ≡ w) o n narrow ready.works;
+  works = known_still (λ files. work_of d files ≡ w) o n narrow ready.works;
   names = ready.names;
 }
 
 pub written_worked : (d : Demand) (w : Work) (a b : Outside) (st : Status) (text : List ℕ)
     → IsToWrite d w b.held
-    → st ≡ w.status → text ≡ w.text → Told b.held (RepeatsReport d) → AreWritten w.outputs a b
+    → st ≡ w.status → text ≡ w.text → Known b.held (RepeatsReport d) → AreWritten w.outputs a b
     → IsWorked d a b st text
-written_worked d w a b st text ready ends told_text again written = record {
+written_worked d w a b st text ready ends reported_text again written = record {
   accepts = ready.accepts;
-  ends = told_map b.held (λ files is. ap (λ (x : Work). x.status) is ∙ sym ends) ready.works;
-  same_text = told_map b.held (λ files is. ap (λ (x : Work). x.text) is ∙ sym told_text)
+  ends = known_map b.held (λ files is. ap (λ (x : Work). x.status) is ∙ sym ends) ready.works;
+  same_text = known_map b.held (λ files is. ap (λ (x : Work). x.text) is ∙ sym reported_text)
       ready.works;
-  whole = told_map b.held
+  whole = known_map b.held
       (λ files is. subst (λ (x : Work). Goes a.written b.written (AreWhole x.outputs))
       (sym is) written.whole) ready.works;
   only = subst (λ names. OnlyAt names a b) ready.names (whole_only w.outputs a b written.whole);
@@ -127,10 +127,10 @@ written_worked d w a b st text ready ends told_text again written = record {
 -- writing failed, or memory ran out
 cut_stands : (d : Demand) (w : Work) (a b : Outside) → IsToWrite d w b.held
     → Goes a.written b.written (BegunInOrder w.outputs)
-    → Told b.held (λ files. Goes a.written b.written
+    → Known b.held (λ files. Goes a.written b.written
     (BegunInOrder (answer_of (Some d) files).outputs))
 cut_stands d w a b ready cut =
-    told_both b.held (λ files none is. own_outputs d files
+    known_both b.held (λ files none is. own_outputs d files
     (λ outputs. Goes a.written b.written (BegunInOrder outputs)) none
     (subst (λ (x : Work). Goes a.written b.written (BegunInOrder x.outputs)) (sym is) cut))
     ready.accepts ready.works
@@ -145,13 +145,13 @@ writing_cut d w a b Failed ready cut =
     (rose_among w.outputs a.write_faults b.write_faults (cut.cause.failed refl)) in
     record {
       fault = λ e. cc;
-      ends = told_map b.held (λ files none. first_accepted (manner_of d) (readings_of d) files none)
+      ends = known_map b.held (λ files none. first_accepted (manner_of d) (readings_of d) files none)
           ready.accepts;
       usage = λ u. cc;
       refuses = λ u. cc;
       memory = refl;
       failed = record { reads = cut.only.read_faults; writes = rose_at };
-      printable = told b.held (λ files. inr (inr (inr (refl, rose_at))));
+      printable = if_known b.held (λ files. inr (inr (inr (refl, rose_at))));
       writes = inl (rose_at, cut_stands d w a b ready cut.begun);
       only = subst (λ names. OnlyAt names a b) ready.names (cut_only w.outputs a b cut.begun);
       held = cut.only.held;

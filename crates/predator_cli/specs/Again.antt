@@ -1,5 +1,5 @@
 -- What is promised of a run: the replay of the trace that it wrote, and what a trace with pcs
--- tells.
+-- records.
 use Rattle.std.specs.Prelude.{◌≡◌, ℕ, true, false, List, map, Option, Some, None}
 use Rattle.command_line.specs.Replay.{ReplayDemand}
 use Rattle.command_line.specs.Run.{RunDemand}
@@ -46,13 +46,13 @@ ReplayRepeatsRun demand files =
 
 -- ---- the trace with pcs
 
--- the same run, whose trace tells no pcs
+-- the same run, whose trace records no pcs
 abbrev pub without_sites : RunDemand → RunDemand
 without_sites demand = record demand { pcs = false }
 
 -- A trace has the records of the trace without pcs but for the pcs, and its accesses with their pcs
--- are the sited list of the run, of which `explain` tells; as `blame` reads them, too.
-pub record TellsSites (demand : RunDemand) (settings : Settings) (files : Files) (t : Trace) :
+-- are the sited list of the run, of which `explain` reports; as `blame` reads them, too.
+pub record RecordsSites (demand : RunDemand) (settings : Settings) (files : Files) (t : Trace) :
     Type 0 where
   pub header : t.header ≡ (trace_for_demand (without_sites demand) settings files).header
   pub records : without_pcs t.items
@@ -63,18 +63,18 @@ pub record TellsSites (demand : RunDemand) (settings : Settings) (files : Files)
   pub blamed : sited_in (all_records t) ≡ sited_run (run_for_demand demand settings files)
 
 -- Where files hold the trace that a run wrote with pcs, it is such a trace.
-abbrev pub RunTellsSites : RunDemand → Files → Type 0
-RunTellsSites demand files =
+abbrev pub RunRecordsSites : RunDemand → Files → Type 0
+RunRecordsSites demand files =
     let answer = judged (run_readings demand) (run_work demand) files in
     demand.pcs ≡ true → (name : List ℕ) (later : Files) → demand.trace ≡ Some name
     → later name ≡ bytes_for answer.outputs name
     → (t : Trace) × (trace_of (content later name) ≡ Some t)
-    × TellsSites demand (chosen_settings demand.settings files) files t
+    × RecordsSites demand (chosen_settings demand.settings files) files t
 
 -- what is promised of a run whose work is done
 pub record RunRepeats (demand : RunDemand) (files : Files) : Type 0 where
   pub replay : ReplayRepeatsRun demand files
-  pub sites : RunTellsSites demand files
+  pub sites : RunRecordsSites demand files
   -- it prints the same with pcs and without
   pub text : (run_work demand files).text ≡ (run_work (without_sites demand) files).text
 

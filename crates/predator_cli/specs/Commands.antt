@@ -16,7 +16,7 @@ use Rattle.predator_cli.specs.Convert.{convert_readings, convert_work}
 use Rattle.predator_cli.specs.Explain.{as_run, explain_readings, explain_work}
 use Rattle.predator_cli.specs.Filter.{FilterRepeats, filter_left, filter_readings, filter_work}
 use Rattle.predator_cli.specs.Gen.{gen_readings, gen_work}
-use Rattle.predator_cli.specs.ListedCounts.{TellsListedCount}
+use Rattle.predator_cli.specs.ListedCounts.{ReportsListedCount}
 use Rattle.predator_cli.specs.Manners.{Manner, judged_before, judged_first, left_of, read_again}
 use Rattle.predator_cli.specs.Manners.{read_along}
 use Rattle.predator_cli.specs.Misses.{misses_readings, misses_work}
@@ -37,7 +37,7 @@ pub record Command : Type 1 where
   pub work : Files → Work
   -- when it begins to write, and what a refusal leaves then
   pub manner : Manner
-  -- what other commands repeat of it or of its files, or tell alike, once its work is done
+  -- what other commands repeat of it or of its files, or report alike, once its work is done
   pub repeats : Files → Type 0
   -- it makes at most as many steps as its budget has
   pub within : Files → Type 0
@@ -94,7 +94,7 @@ command_of (misses demand) = plain (misses_readings demand) (misses_work demand)
 command_of (blame demand) = plain (blame_readings demand) (blame_work demand)
 command_of (explain demand) =
     record (plain (explain_readings demand) (explain_work demand)) {
-      repeats = TellsListedCount demand;
+      repeats = ReportsListedCount demand;
       within = RunStaysWithin (as_run demand);
     }
 

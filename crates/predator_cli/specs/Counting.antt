@@ -18,13 +18,13 @@ counted_work text name files =
     option_map_or (λ t. done_with (text t)) (trace_of (content files name)) (done_with [])
 
 -- these bytes are the text of the trace that some bytes are
-pub record IsTextOf (text : Trace → List ℕ) (bytes told : List ℕ) : Type 0 where
+pub record IsTextOf (text : Trace → List ℕ) (bytes stated : List ℕ) : Type 0 where
   pub trace : Trace
   pub is : trace_of bytes ≡ Some trace
-  pub same : text trace ≡ told
+  pub same : text trace ≡ stated
 
 -- the trace of a name was read as it is wanted, and nothing was changed; these bytes are its text
-pub record IsToTell (wanted : Wanted) (text : Trace → List ℕ) (name : List ℕ) (old now : Outside)
-    (told : List ℕ) : Type 0 where
+pub record IsToReport (wanted : Wanted) (text : Trace → List ℕ) (name : List ℕ) (old now : Outside)
+    (stated : List ℕ) : Type 0 where
   pub accepted : IsAccepted (counted_readings wanted name) old now
-  pub read : IsReadFrom now.held name (λ bytes. IsTextOf text bytes told)
+  pub read : IsReadFrom now.held name (λ bytes. IsTextOf text bytes stated)

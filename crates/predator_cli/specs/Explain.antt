@@ -1,11 +1,11 @@
--- The command `explain`: what it reads, and what it tells of one line of a run.
+-- The command `explain`: what it reads, and what it reports of one line of a run.
 use Rattle.std.specs.Prelude.{◌≡◌, false, List, [], None}
 use Rattle.command_line.specs.Explain.{ExplainDemand}
 use Rattle.command_line.specs.Run.{RunDemand}
 use Rattle.guest.specs.Runs.{Run}
 use Rattle.invalidations.specs.Watched.{sited_run}
 use Rattle.objects.specs.Symbols.{symbols_of}
-use Rattle.shelf.specs.Shelf.{Files, Outside, Told, content}
+use Rattle.shelf.specs.Shelf.{Files, Outside, Known, content}
 use Rattle.sharing_rules.specs.Lines.{line_at}
 use Rattle.trace_passes.specs.Lives.{symbols_in}
 use Rattle.invalidations.specs.Text.{explain_text}
@@ -30,7 +30,7 @@ as_run demand = record {
 abbrev pub explain_readings : ExplainDemand → List Reading
 explain_readings demand = run_readings (as_run demand)
 
--- what is told of the line in a run of a program with these symbols
+-- what is reported of the line in a run of a program with these symbols
 abbrev pub explained : ExplainDemand → List TraceRecord → Run → Work
 explained demand symbols r = record {
   status = status_for r.ending.outcome;
@@ -49,4 +49,4 @@ explain_work demand files =
 pub record IsToExplain (demand : ExplainDemand) (symbols : List TraceRecord) (r : Run)
     (old now : Outside) : Type 0 where
   pub accepted : IsAccepted (explain_readings demand) old now
-  pub works : Told now.held (λ files. explain_work demand files ≡ explained demand symbols r)
+  pub works : Known now.held (λ files. explain_work demand files ≡ explained demand symbols r)

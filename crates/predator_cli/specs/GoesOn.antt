@@ -83,14 +83,14 @@ pub record NotesAlone (demand : ReplayDemand) (files : Files) (begun : Begun) (t
         (seen_behind begun t))
         (state_of_observed t.header.harts (seen_behind begun t))
 
--- its end tells how many accesses it has
-abbrev pub TellsItsCount : Trace → Type 0
-TellsItsCount t = t.ending.accesses ≡ length (touches_in t.items)
+-- its end states how many accesses it has
+abbrev pub StatesItsCount : Trace → Type 0
+StatesItsCount t = t.ending.accesses ≡ length (touches_in t.items)
 
 -- A trace was cut: its records are those of the earlier parts and then those of the last one, which
--- ends as the whole. Each part tells how many accesses it has itself.
+-- ends as the whole. Each part states how many accesses it has itself.
 pub record IsCutIn (whole : Trace) (earlier : List Trace) (last : Trace) : Type 0 where
   pub items : whole.items ≡ flat_map (λ t. t.items) earlier ++ last.items
   pub ending : run_end whole.ending
       ≡ ended_at (length (touches_in whole.items)) (run_end last.ending)
-  pub told : All TellsItsCount (earlier ++ last ∷ [])
+  pub stated : All StatesItsCount (earlier ++ last ∷ [])

@@ -1,4 +1,4 @@
--- What is promised of `explain`: of a line that a run of the same files lists, it tells the count
+-- What is promised of `explain`: of a line that a run of the same files lists, it reports the count
 -- that is listed.
 use Rattle.std.specs.Prelude.{◌≡◌, ℕ, Bool, List, ◌∷◌, ◌++◌, Option, None}
 use Rattle.base.specs.TextLines.{text_of}
@@ -31,16 +31,16 @@ run_beside demand trace pcs output =
     record (as_run demand) { trace = trace; pcs = pcs; output = output }
 
 -- the row of a line in a text of `explain`, behind the title and how the run ended, has this count
-abbrev pub TellsCount : Line → ℕ → ℕ → List ℕ → Type 0
-TellsCount l start count text = (ending : Ending) × (rest : List TextLine) ×
+abbrev pub ReportsCount : Line → ℕ → ℕ → List ℕ → Type 0
+ReportsCount l start count text = (ending : Ending) × (rest : List TextLine) ×
     (text ≡ text_of ((title_line ∷ outcome_lines ending) ++ counted_line l start count ∷ rest))
 
 -- Where a run of the same files lists a line with the base, the size and the start that are asked
--- about, the count that is told is the one that it lists.
-abbrev pub TellsListedCount : ExplainDemand → Files → Type 0
-TellsListedCount demand files =
+-- about, the count that is reported is the one that it lists.
+abbrev pub ReportsListedCount : ExplainDemand → Files → Type 0
+ReportsListedCount demand files =
     let l = line_at demand.layout demand.base in
     (trace output : Option (List ℕ)) (pcs : Bool) (f : Finding)
     → Member f (listed_by_run (run_beside demand trace pcs output) files)
     → range_of f.line ≡ range_of l → f.start ≡ demand.start
-    → TellsCount l demand.start f.count (explain_work demand files).text
+    → ReportsCount l demand.start f.count (explain_work demand files).text

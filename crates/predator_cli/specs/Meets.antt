@@ -1,6 +1,6 @@
 -- What a call of the program does to the outside.
 use Rattle.std.specs.Prelude.{◌≡◌, ◌⊎◌, ℕ, false, List, Option, None}
-use Rattle.shelf.specs.Shelf.{Files, Outside, Told, Narrows, Goes, Rose, Adds, AddsFront}
+use Rattle.shelf.specs.Shelf.{Files, Outside, Known, Narrows, Goes, Rose, Adds, AddsFront}
 use Rattle.command_line.specs.Words.{Demand, outputs as outputs_of}
 use Rattle.command_io.specs.Readings.{FailsInOrder, RoseAt, first_refusal, IsAccepted}
 use Rattle.command_io.specs.Works.{done_with}
@@ -99,13 +99,13 @@ IsPrintable asked files old new text =
 -- a front of one of them where memory ran out.
 abbrev pub Prints : Option Demand → Outside → Outside → Kind → Status → Type 0
 Prints asked old new done s =
-    Told new.held (λ files. Adds old.printed new.printed (answer_of asked files).text)
+    Known new.held (λ files. Adds old.printed new.printed (answer_of asked files).text)
 Prints asked old new refusal s = Printed old new (fault_text s)
 Prints asked old new read_fault s = Printed old new (fault_text s)
 Prints asked old new write_fault s =
     Printed old new (fault_text s)
-    ⊎ Told new.held (λ files. PrintingFailed old new (answer_of asked files).text)
-Prints asked old new no_memory s = Told new.held (λ files.
+    ⊎ Known new.held (λ files. PrintingFailed old new (answer_of asked files).text)
+Prints asked old new no_memory s = Known new.held (λ files.
     (text : List ℕ) × IsPrintable asked files old new text × AddsFront old.printed new.printed text)
 
 -- no number of faults of reading rose, but at a fault of reading and, as `IsCaused` says, where
@@ -130,7 +130,7 @@ IsComplete asked files old new s = NoFaults asked old new → (s ≡ (answer_of 
 
 -- all that is said of a call
 pub record Meets (asked : Option Demand) (old new : Outside) (s : Status) : Type 0 where
-  pub ends : Told new.held (λ files. EndsAs asked files old new (kind_of s) s)
+  pub ends : Known new.held (λ files. EndsAs asked files old new (kind_of s) s)
   pub usage : s ≡ status.Usage → asked ≡ None
   pub refuses : asked ≡ None → (s ≡ status.Usage) ⊎ (s ≡ status.NoMemory)
   pub memory : hides_no_memory s ≡ false
@@ -140,17 +140,17 @@ pub record Meets (asked : Option Demand) (old new : Outside) (s : Status) : Type
   pub writes : Writes asked old new (kind_of s)
   pub only : OnlyAt (outputs asked) old new
   pub held : Narrows old.held new.held
-  pub again : Told new.held (λ files. WhereDone RepeatsReport asked files (kind_of s))
+  pub again : Known new.held (λ files. WhereDone RepeatsReport asked files (kind_of s))
 
 -- what was done from old to now, before the line of a fault is printed
 pub record IsFaulty (asked : Option Demand) (old now : Outside) (s : Status) : Type 0 where
   pub fault : kind_of s ≡ done → ⊥
-  pub ends : Told now.held (λ files. EndsAs asked files old now (kind_of s) s)
+  pub ends : Known now.held (λ files. EndsAs asked files old now (kind_of s) s)
   pub usage : s ≡ status.Usage → asked ≡ None
   pub refuses : asked ≡ None → (s ≡ status.Usage) ⊎ (s ≡ status.NoMemory)
   pub memory : hides_no_memory s ≡ false
   pub failed : HasFailed asked old now (kind_of s)
-  pub printable : Told now.held (λ files. IsPrintable asked files old now (fault_text s))
+  pub printable : Known now.held (λ files. IsPrintable asked files old now (fault_text s))
   pub writes : Writes asked old now (kind_of s)
   pub only : OnlyAt (outputs asked) old now
   pub held : Narrows old.held now.held
@@ -161,13 +161,13 @@ pub record IsFaulty (asked : Option Demand) (old now : Outside) (s : Status) : T
 -- with
 pub record IsWorked (demand : Demand) (old now : Outside) (s : Status) (text : List ℕ) : Type 0
   where
-    pub accepts : Told now.held (λ files. first_refusal (readings_of demand) files ≡ None)
-    pub ends : Told now.held (λ files. (work_of demand files).status ≡ s)
-    pub same_text : Told now.held (λ files. (work_of demand files).text ≡ text)
-    pub whole : Told now.held
+    pub accepts : Known now.held (λ files. first_refusal (readings_of demand) files ≡ None)
+    pub ends : Known now.held (λ files. (work_of demand files).status ≡ s)
+    pub same_text : Known now.held (λ files. (work_of demand files).text ≡ text)
+    pub whole : Known now.held
         (λ files. Goes old.written now.written (AreWhole (work_of demand files).outputs))
     pub only : OnlyAt (outputs_of demand) old now
-    pub again : Told now.held (RepeatsReport demand)
+    pub again : Known now.held (RepeatsReport demand)
     pub held : Narrows old.held now.held
     pub quiet : IsQuiet old now
     pub printed : now.printed ≡ old.printed
@@ -176,5 +176,5 @@ pub record IsWorked (demand : Demand) (old now : Outside) (s : Status) (text : L
 -- the same of a command that writes nothing
 pub record IsAnswered (demand : Demand) (old now : Outside) (text : List ℕ) : Type 0 where
   pub accepted : IsAccepted (readings_of demand) old now
-  pub work : Told now.held (λ files. work_of demand files ≡ done_with text)
+  pub work : Known now.held (λ files. work_of demand files ≡ done_with text)
   pub again : (files : Files) → RepeatsReport demand files

@@ -8,7 +8,7 @@ use Rattle.placement.specs.Sought.{object_of}
 use Rattle.placement.specs.Texts.{place_of_records}
 use Rattle.placement.specs.Words.{Owned, owned_of}
 use Rattle.placement.specs.declared.extent.Extent.{Extent}
-use Rattle.shelf.specs.Shelf.{Files, Outside, Told, content}
+use Rattle.shelf.specs.Shelf.{Files, Outside, Known, content}
 use Rattle.trace_format.specs.Rules.{touches_in}
 use Rattle.trace_format.specs.declared.record.TraceRecord.{TraceRecord}
 use Rattle.trace_passes.specs.Passes.{all_records, trace_of}
@@ -29,7 +29,7 @@ records_of bytes = option_map_or all_records (trace_of bytes) []
 abbrev pub records_for : PlaceDemand → Files → List TraceRecord
 records_for demand files = records_of (content files demand.trace)
 
--- the text of the placement, or why no place is told
+-- the text of the placement, or why no place is reported
 abbrev pub place_work : PlaceDemand → Files → Work
 place_work demand files =
     done_or_refused (result_map_both (λ text. text) status.Place
@@ -41,7 +41,7 @@ place_work demand files =
 pub record WasRead (demand : PlaceDemand) (P : List TraceRecord → Type 0) (old now : Outside)
     : Type 0 where
   pub accepted : IsAccepted (place_readings demand) old now
-  pub holds : Told now.held (λ files. P (records_for demand files))
+  pub holds : Known now.held (λ files. P (records_for demand files))
 
 -- records have an object for a demand, or none
 abbrev pub Means : PlaceDemand → Option Extent → List TraceRecord → Type 0

@@ -8,7 +8,7 @@ use Rattle.command_line.specs.Replay.{ReplayDemand}
 use Rattle.base.specs.Lines.{Grid}
 use Rattle.base.specs.Levels.{Levels}
 use Rattle.base.specs.declared.ending.Ending.{Ending}
-use Rattle.shelf.specs.Shelf.{Files, Outside, Told, content}
+use Rattle.shelf.specs.Shelf.{Files, Outside, Known, content}
 use Rattle.observations.specs.Seen.{report_of_records}
 use Rattle.observations.specs.ObservedTraces.{report_of_observed, observed_after}
 use Rattle.trace_passes.specs.Passes.{Trace, all_records, refusal_of, trace_of}
@@ -141,4 +141,4 @@ IsCounted save g v begun bytes text state = (t : Trace) × (trace_of bytes ≡ S
 -- what was read for a replay: all of it is accepted, nothing was changed, and this is to be shown
 pub record IsToShow (demand : ReplayDemand) (old now : Outside) (text state : List ℕ) : Type 0 where
   pub accepted : IsAccepted (replay_readings demand) old now
-  pub work : Told now.held (λ files. replay_work demand files ≡ shown demand.save text state)
+  pub work : Known now.held (λ files. replay_work demand files ≡ shown demand.save text state)

@@ -31,7 +31,7 @@ use Rattle.run_recorder.specs.declared.run_file.Content.{Content}
 use Rattle.run_recorder.specs.declared.run_file.RunFile.{RunFile}
 use Rattle.std.specs.Borrow.{Bor}
 use Rattle.settings.specs.declared.values.Settings.{Settings}
-use Rattle.shelf.specs.Shelf.{Files, Outside, Told, content}
+use Rattle.shelf.specs.Shelf.{Files, Outside, Known, content}
 use Rattle.command_io.specs.Readings.{IsAccepted, Reading, reading}
 use Rattle.command_io.specs.SettingsFiles.{chosen_settings, levels_of, native_of, settings_in}
 use Rattle.command_io.specs.SettingsFiles.{settings_readings}
@@ -117,7 +117,7 @@ pub record HasNameAndSize (s : Symbol) : Type 0 where
   pub some : 1 ≤ s.size
   pub no_zero : All (λ b. b ≢ 0) s.name
 
--- a symbol as a trace tells it: its name is cut
+-- a symbol as a trace records it: its name is cut
 abbrev pub symbol_record : Symbol → TraceRecord
 symbol_record s = records.Symbol s.kind s.addr s.size (name_of s.name)
 
@@ -131,7 +131,7 @@ pub record IsLoading (settings : Settings) (bytes : List ℕ) (loading : Loading
   pub starts : IsStartable loading.image
   pub harts : loading.image.harts ≡ settings.harts
   pub symbols : loading.symbols.items ≡ symbol_records bytes
-  pub told : All IsSymbolRecord loading.symbols.items
+  pub stated : All IsSymbolRecord loading.symbols.items
   pub few : length loading.symbols.items ≤ 2 ^ 20
 
 -- the files that a run leaves: its trace, and what it puts out, each where it is named
@@ -186,7 +186,7 @@ RunStaysWithin demand files =
 -- files ask for, and nothing was changed
 pub record IsReady (demand : RunDemand) (settings : Settings) (t : Trace) (r : Run)
     (old now : Outside) : Type 0 where
-  pub read : Told now.held (λ files. settings_in demand.settings files ≡ Ok settings)
-  pub runs : Told now.held (λ files. r ≡ run_for_demand demand settings files)
-  pub traced : Told now.held (λ files. t ≡ trace_for_demand demand settings files)
+  pub read : Known now.held (λ files. settings_in demand.settings files ≡ Ok settings)
+  pub runs : Known now.held (λ files. r ≡ run_for_demand demand settings files)
+  pub traced : Known now.held (λ files. t ≡ trace_for_demand demand settings files)
   pub accepted : IsAccepted (run_readings demand) old now

@@ -2,7 +2,7 @@
 use Rattle.std.specs.Prelude.{◌≡◌, ◌⊎◌, ℕ, List, Option, false}
 use Rattle.std.specs.List.{list_any}
 use Rattle.std.specs.Str.{bytes_eq}
-use Rattle.shelf.specs.Shelf.{Files, Goes, Outside, Rose, Told}
+use Rattle.shelf.specs.Shelf.{Files, Goes, Outside, Rose, Known}
 use Rattle.command_line.specs.Words.{Demand}
 use Rattle.shelf.specs.Files.{AreWhole, BegunInOrder}
 use Rattle.command_io.specs.Readings.{RoseAt}
@@ -14,24 +14,24 @@ use Rattle.predator_cli.specs.Manners.{Manner, judged_before, read_again, read_a
 abbrev pub AreSame : Files → Files → Type 0
 AreSame before now = (name : List ℕ) → now name ≡ before name
 
--- The outputs are begun in their order, and each that is begun is a front of its bytes. So it is
--- where it is told what is held, and so what the outputs are.
+-- The outputs are begun in their order, and each that is begun is a front of its bytes. This holds
+-- where the held files are known, and with them the outputs.
 abbrev pub StandsInPart : Option Demand → Option Files → Option Files → Option Files → Type 0
 StandsInPart asked held before now =
-    Told held (λ files. Goes before now (BegunInOrder (answer_of asked files).outputs))
+    Known held (λ files. Goes before now (BegunInOrder (answer_of asked files).outputs))
 
--- every output is whole, where that is told
+-- every output is whole, where the held files are known
 abbrev pub StandsWhole : Option Demand → Option Files → Option Files → Option Files → Type 0
 StandsWhole asked held before now =
-    Told held (λ files. Goes before now (AreWhole (answer_of asked files).outputs))
+    Known held (λ files. Goes before now (AreWhole (answer_of asked files).outputs))
 
 -- At a refusal each file is as it was. Copies whose trace is refused only as it is read again may
--- stand in part; where it is told what is held no trace is, for both readings gave its bytes. What
+-- stand in part; where the held files are known no trace is, for both readings gave its bytes. What
 -- is written as the trace is read is all that the answer leaves of it.
 abbrev pub StaysAtRefusal : Manner → Option Demand → Option Files → Option Files → Option Files
     → Type 0
 StaysAtRefusal judged_before asked held before now = Goes before now AreSame
-StaysAtRefusal read_again asked held before now = Told held (λ files. Goes before now AreSame)
+StaysAtRefusal read_again asked held before now = Known held (λ files. Goes before now AreSame)
 StaysAtRefusal (read_along left) asked held before now = StandsWhole asked held before now
 
 -- At a fault of reading too, but that of copies, whose trace may be read again then, and of what is

@@ -10,7 +10,7 @@ ghost use Rattle.predator_cli.specs.Answer.{HasNamesApart, outputs};
 ghost use Rattle.predator_cli.specs.Commands.{RepeatsReport, ReportIsRecounted};
 ghost use Rattle.predator_cli.specs.Commands.{StaysWithinBudget};
 ghost use Rattle.predator_cli.specs.Written.{OnlyAt, Writes};
-ghost use Rattle.shelf.specs.Shelf.{Files, Narrows, Told};
+ghost use Rattle.shelf.specs.Shelf.{Files, Narrows, Known};
 
 use crate::check::check;
 use crate::convert::convert;
@@ -123,9 +123,9 @@ fn obey_words<S: Shelf>(alloc: Global, words: &[String], shelf: &mut S) -> Statu
 /// which instructions and which harts took the line from each other.
 pub fn predator<S: Shelf>(alloc: Global, words: &[String], shelf: &mut S) -> Status
     // It ends as the words and the files ask, or by a fault of the outside before which nothing is
-    // refused: for the files that are told still, so on a disk for all contents that agree with
+    // refused: for the files that are known still, so on a disk for all contents that agree with
     // what each read of the call gave.
-    ensures ends { Told (S.outside shelf.new).held
+    ensures ends { Known (S.outside shelf.new).held
         (λ files. EndsAs (demand_of (texts words.now)) files
         (S.outside shelf.old) (S.outside shelf.new) (kind_of result) result) }
     // Usage comes exactly where the words are refused, unless memory runs out.
@@ -148,17 +148,17 @@ pub fn predator<S: Shelf>(alloc: Global, words: &[String], shelf: &mut S) -> Sta
     // failed or memory ran out.
     ensures prints { Prints (demand_of (texts words.now))
         (S.outside shelf.old) (S.outside shelf.new) (kind_of result) result }
-    // No file that is read changes, as far as what is held is still told: a shelf tells it no more
-    // once a read gave other bytes.
+    // No file that is read changes, as far as what is held is still known: a shelf's files are
+    // known no more once a read gave other bytes.
     ensures held { Narrows (S.outside shelf.old).held (S.outside shelf.new).held }
     // What stands in the files that are written: every output is whole where the work is done, and
     // where printing the command's own text failed, at which no number of faults of writing has
     // risen. Where writing one failed and at want of memory the first of them, in their order, are
     // begun and each is a front of its bytes, and the others are as they were; all are as they were
     // at each other end. Copies may stand so at a fault of reading too, for their trace is read
-    // twice; and where it isn't told still what is held, also at a refusal. A moved trace is
-    // written as the trace is read, and so is a filtered one: at a fault of reading it may stand so
-    // too, and at a refusal of the trace it has all records before that, or what stays of them.
+    // twice; and where what is held isn't known still, also at a refusal. A moved trace is written
+    // as the trace is read, and so is a filtered one: at a fault of reading it may stand so too,
+    // and at a refusal of the trace it has all records before that, or what stays of them.
     ensures writes { Writes (demand_of (texts words.now))
         (S.outside shelf.old) (S.outside shelf.new) (kind_of result) }
     // Where a run is done, the replay of the trace that it wrote, under the same settings and
@@ -172,7 +172,7 @@ pub fn predator<S: Shelf>(alloc: Global, words: &[String], shelf: &mut S) -> Sta
     // filtered list of the trace's; and under every layout with lines of at most 2^near bytes the
     // two lists have the misses and the invalidations of each line in common, those between each
     // two harts too.
-    ensures again { Told (S.outside shelf.new).held
+    ensures again { Known (S.outside shelf.new).held
         (λ files. WhereDone RepeatsReport (demand_of (texts words.now)) files (kind_of result)) }
     // A law of the definitions, which names neither the result nor the shelf: the run that is asked
     // for, by `run` or by `explain`, makes at most as many steps as its budget has.
@@ -191,7 +191,7 @@ pub fn predator<S: Shelf>(alloc: Global, words: &[String], shelf: &mut S) -> Sta
     ensures only { OnlyAt (outputs (demand_of (texts words.now)))
         (S.outside shelf.old) (S.outside shelf.new) }
     // Where no number of faults rose it ends as it is asked, unless memory runs out.
-    ensures complete { Told (S.outside shelf.new).held
+    ensures complete { Known (S.outside shelf.new).held
         (λ files. IsComplete (demand_of (texts words.now)) files
         (S.outside shelf.old) (S.outside shelf.new) result) }
 {

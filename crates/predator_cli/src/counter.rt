@@ -3,7 +3,7 @@ ghost use Rattle.std.specs.Prelude.{◌≡◌, [], IfErr, IfOk, List, Some, ℕ}
 ghost use Rattle.command_io.specs.Readings.{IsStopped};
 ghost use Rattle.command_line.specs.Words.{Demand};
 ghost use Rattle.predator_cli.specs.Counted.{IsCounted};
-ghost use Rattle.predator_cli.specs.Counting.{IsToTell, counted_readings};
+ghost use Rattle.predator_cli.specs.Counting.{IsToReport, counted_readings};
 ghost use Rattle.predator_cli.specs.Meets.{Meets};
 ghost use Rattle.trace_passes.specs.Passes.{Trace, all_records};
 ghost use Rattle.trace_passes.specs.declared.wanted.Wanted.{Wanted as Wish};
@@ -74,7 +74,7 @@ fn text_of<S: Shelf, C: Counter>(
     requires begins { C.begins counter 0 }
     requires fresh { C.given counter counter [] }
     ensures counted { (under : C.Under) → C.blank under counter → IfOk result (λ text.
-        IsToTell wanted.now (C.says under) name.now (S.outside shelf.old) (S.outside shelf.new)
+        IsToReport wanted.now (C.says under) name.now (S.outside shelf.old) (S.outside shelf.new)
         text.items) }
     ensures stopped { IfErr result (IsStopped (counted_readings wanted.now name.now)
         (S.outside shelf.old) (S.outside shelf.new)) }
@@ -96,7 +96,7 @@ fn counted<S: Shelf, C: Counter>(
     under: C::Under,
 ) -> Result<Vec<u8>, Status>
     requires { C.allowed under }
-    ensures counted { IfOk result (λ text. IsToTell (C.WANTED under) (C.says under) name.now
+    ensures counted { IfOk result (λ text. IsToReport (C.WANTED under) (C.says under) name.now
         (S.outside shelf.old) (S.outside shelf.new) text.items) }
     ensures stopped { IfErr result (IsStopped (counted_readings (C.WANTED under) name.now)
         (S.outside shelf.old) (S.outside shelf.new)) }

@@ -3,7 +3,7 @@ ghost use Rattle.std.specs.Prelude.{◌≡◌, [], IfErr, IfOk, List, OnOk, Some
 ghost use Rattle.command_line.specs.Words.{Demand};
 ghost use Rattle.command_io.specs.Readings.{IsAccepted, IsStopped};
 ghost use Rattle.predator_cli.specs.Commands.{RepeatsReport, readings_of, work_of};
-ghost use Rattle.predator_cli.specs.Counting.{IsToTell, counted_readings, counted_work};
+ghost use Rattle.predator_cli.specs.Counting.{IsToReport, counted_readings, counted_work};
 ghost use Rattle.predator_cli.specs.Meets.{Meets};
 ghost use Rattle.predator_cli.specs.Replay.{whole, whole_for};
 ghost use Rattle.shelf.specs.Shelf.{Files, Outside};
@@ -87,7 +87,7 @@ pub fn print_text<S: Shelf>(shelf: &mut S, text: &[u8]) -> Status
         → readings_of demand ≡ counted_readings wanted name
         → ((files : Files) → work_of demand files ≡ counted_work says name files)
         → ((files : Files) → RepeatsReport demand files)
-        → IsToTell wanted says name old (S.outside shelf.old) text.now
+        → IsToReport wanted says name old (S.outside shelf.old) text.now
         → Meets (Some demand) old (S.outside shelf.new) result }
 {
     answer(shelf, text)

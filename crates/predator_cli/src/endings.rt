@@ -28,7 +28,7 @@ fn print_fault<S: Shelf>(shelf: &mut S, status: Status, text: &str) -> Status
 }
 
 /// Ends with a refusal or with a fault of the outside. The line of a fault of reading or writing
-/// takes no memory but the shelf's, so that no such fault is told as want of it.
+/// takes no memory but the shelf's, so that no such fault is reported as want of it.
 pub fn refuse<S: Shelf>(alloc: Global, shelf: &mut S, status: Status) -> Status
     ensures { (asked : Option Demand) (old : Outside)
         → IsFaulty asked old (S.outside shelf.old) status

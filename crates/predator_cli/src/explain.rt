@@ -76,12 +76,12 @@ fn run_of<'a>(options: &ExplainOptions<'a>) -> RunOptions<'a>
     }
 }
 
-// The run of a guest that is loaded, and what is told of the line.
+// The run of a guest that is loaded, and what is reported of the line.
 fn watch(alloc: Global, options: &ExplainOptions<'_>, loaded: Loaded) -> Result<Explained, NoMemory>
     requires allowed { IsAllowed loaded.settings }
     requires budget { loaded.guest.setup.budget ≡ loaded.settings.budget }
-    ensures ending { IfOk result (λ told. told.ending ≡ (rest_of loaded.guest).ending) }
-    ensures text { IfOk result (λ told. told.text.items
+    ensures ending { IfOk result (λ stated. stated.ending ≡ (rest_of loaded.guest).ending) }
+    ensures text { IfOk result (λ stated. stated.text.items
         ≡ (explained (explain_meaning options.now) loaded.symbols.items
         (rest_of loaded.guest)).text) }
 {
@@ -91,7 +91,7 @@ fn watch(alloc: Global, options: &ExplainOptions<'_>, loaded: Loaded) -> Result<
     explain_run(alloc, guest, line, options.start, &table)
 }
 
-// Runs a guest, and prints what is told of the line.
+// Runs a guest, and prints what is reported of the line.
 fn explain_loaded<S: Shelf>(
     alloc: Global,
     options: &ExplainOptions<'_>,
@@ -107,7 +107,7 @@ fn explain_loaded<S: Shelf>(
 {
     is_allowed(options.layout);
     match watch(alloc, options, loaded) {
-        Ok(told) => finish(shelf, status_of(told.ending.outcome), &told.text),
+        Ok(stated) => finish(shelf, status_of(stated.ending.outcome), &stated.text),
         Err(NoMemory) => refuse(alloc, shelf, Status::NoMemory),
     }
 }

@@ -1,12 +1,12 @@
 //! The program `predator`, as one call over a shelf of files: `run` runs a program and `replay`
 //! reads a recorded trace, and both print the cache lines that harts took from each other;
-//! `check` tells of a program file, `gen` makes a trace, `split` cuts one in two, `convert`
-//! writes one in the other version, `move` one with its accesses at other addresses, `filter` one
-//! without its redundant accesses, `sweep` counts one under every shift of a line size,
-//! `caches` tells what is left of its invalidations in caches of a shape, `misses` what the
-//! sharing of each line costs, `blame` which instructions and which harts take each line from
-//! each other, and `place` where each word of an object should stand so that no two harts share
-//! a line for its sake; `explain` runs a program and tells of one line what `blame` tells of all.
+//! `check` describes a program file, `gen` makes a trace, `split` cuts one in two, `convert` writes
+//! one in the other version, `move` one with its accesses at other addresses, `filter` one without
+//! its redundant accesses, `sweep` counts one under every shift of a line size, `caches` reports
+//! what is left of its invalidations in caches of a shape, `misses` what the sharing of each line
+//! costs, `blame` which instructions and which harts take each line from each other, and `place`
+//! where each word of an object should stand so that no two harts share a line for its sake;
+//! `explain` runs a program and reports of one line what `blame` reports of all.
 //!
 //! [`predator`] is one call over any shelf of files, and [`predator_on_disk`] is all that the
 //! process does with its arguments, over the system's files.

@@ -10,7 +10,7 @@ ghost use Rattle.placement.specs.Sought.{is_too_large};
 ghost use Rattle.placement.specs.Words.{owned_of};
 ghost use Rattle.predator_cli.specs.Meets.{IsAnswered, IsFaulty, Meets};
 ghost use Rattle.predator_cli.specs.Place.{AreFor, Means, WasRead, place_readings, records_for};
-ghost use Rattle.shelf.specs.Shelf.{Told};
+ghost use Rattle.shelf.specs.Shelf.{Known};
 ghost use Rattle.trace_format.specs.Rules.{touches_in};
 
 use crate::counting::see_whole;
@@ -99,7 +99,7 @@ fn count_moved<S: Shelf>(
     }
 }
 
-// What is told of a plan for the object that is meant.
+// What is reported of a plan for the object that is meant.
 fn print_plan<S: Shelf>(
     alloc: Global,
     options: &PlaceOptions<'_>,
@@ -108,7 +108,7 @@ fn print_plan<S: Shelf>(
     shelf: &mut S,
 ) -> Result<Vec<u8>, Status>
     requires size { IsTrue (is_line_size options.now.size) }
-    requires meant { Told (S.outside shelf.old).held
+    requires meant { Known (S.outside shelf.old).held
         (λ files. AreFor (place_meaning options.now) owners.now
         (records_for (place_meaning options.now) files)) }
     requires small { IsFalse (is_too_large owners.now.extent) }
@@ -128,7 +128,7 @@ fn print_plan<S: Shelf>(
     }
 }
 
-// What is told of the object that is meant.
+// What is reported of the object that is meant.
 fn print_object<S: Shelf>(
     alloc: Global,
     options: &PlaceOptions<'_>,
@@ -136,7 +136,7 @@ fn print_object<S: Shelf>(
     shelf: &mut S,
 ) -> Result<Vec<u8>, Status>
     requires size { IsTrue (is_line_size options.now.size) }
-    requires meant { Told (S.outside shelf.old).held
+    requires meant { Known (S.outside shelf.old).held
         (λ files. Means (place_meaning options.now) (Some extent)
         (records_for (place_meaning options.now) files)) }
     requires some { 1 ≤ extent.size }
@@ -157,7 +157,7 @@ fn print_object<S: Shelf>(
     }
 }
 
-// What is told, from the first reading on.
+// What is reported, from the first reading on.
 fn print_place<S: Shelf>(
     alloc: Global,
     options: &PlaceOptions<'_>,
@@ -179,8 +179,8 @@ fn print_place<S: Shelf>(
     }
 }
 
-/// Tells a new place for each word of an object in the trace of a name, by who touches it, and what
-/// the accesses come to then. The trace is read three times.
+/// Reports a new place for each word of an object in the trace of a name, by who touches it, and
+/// what the accesses come to then. The trace is read three times.
 pub fn place<S: Shelf>(alloc: Global, options: &PlaceOptions<'_>, shelf: &mut S) -> Status
     requires { IsTrue (is_line_size options.now.size) }
     ensures { Meets (Some (asks (place_meaning options.now)))

@@ -5,7 +5,7 @@ ghost use Rattle.command_line.specs.Words.{relocate as asks};
 ghost use Rattle.command_io.specs.Readings.{IsAccepted};
 ghost use Rattle.predator_cli.specs.Meets.{Meets};
 ghost use Rattle.predator_cli.specs.Relocate.{table_reading};
-ghost use Rattle.shelf.specs.Shelf.{Outside, Told, content};
+ghost use Rattle.shelf.specs.Shelf.{Outside, Known, content};
 ghost use Rattle.trace_files.specs.Tables.{IsTable, table_of};
 
 use crate::copies::print_copies;
@@ -54,7 +54,7 @@ fn relocate_by<S: Shelf>(
 ) -> Status
     ensures { (old : Outside)
         → IsAccepted (table_reading options.now.table.now ∷ []) old (S.outside shelf.old)
-        → Told (S.outside shelf.old).held
+        → Known (S.outside shelf.old).held
         (λ files. table_of (content files options.now.table.now) ≡ Ok table.now)
         → IsTable table.now
         → Meets (Some (asks (move_meaning options.now))) old (S.outside shelf.new) result }

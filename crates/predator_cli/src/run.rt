@@ -17,7 +17,7 @@ ghost use Rattle.base.specs.Lines.{Grid};
 ghost use Rattle.settings.specs.Allowed.{IsAllowed};
 ghost use Rattle.observations.specs.Seen.{HasSeen, begins_at};
 ghost use Rattle.observations.specs.ObservedTraces.{nothing_observed};
-ghost use Rattle.shelf.specs.Shelf.{Outside, Told, content};
+ghost use Rattle.shelf.specs.Shelf.{Outside, Known, content};
 ghost use Rattle.command_io.specs.Readings.{IsAccepted, IsStopped};
 ghost use Rattle.command_io.specs.SettingsFiles.{levels_of, native_of, settings_in};
 ghost use Rattle.command_io.specs.Statuses.{kind_of, done};
@@ -58,7 +58,7 @@ pub fn status_of(outcome: Outcome) -> Status
     }
 }
 
-/// A program in memory, and its symbols as its trace tells them.
+/// A program in memory, and its symbols as its trace records them.
 #[derive(Drop)]
 pub struct Loading {
     /// Its image.
@@ -157,16 +157,16 @@ fn read_schedule<S: Shelf>(
     settings: &Settings,
 ) -> Result<Schedule, Status>
     requires { IsAllowed settings.now }
-    ensures plan { IfOk result (λ plan. Told (S.outside shelf.new).held
+    ensures plan { IfOk result (λ plan. Known (S.outside shelf.new).held
         (λ files. schedule_in settings.now (text_of name.entry) files ≡ Ok plan)) }
     ensures harts { IfOk result (λ plan. plan.harts ≡ settings.now.harts) }
     ensures quantum { IfOk result (λ plan. plan.quantum ≡ settings.now.quantum) }
-    ensures accepted { OnOk result ((named : AskedSettings) → Told (S.outside shelf.old).held
+    ensures accepted { OnOk result ((named : AskedSettings) → Known (S.outside shelf.old).held
         (λ files. settings_in named files ≡ Ok settings.now)
         → IsAccepted (schedule_readings named (text_of name.entry)) (S.outside shelf.old)
         (S.outside shelf.new)) }
     ensures stopped { IfErr result (λ status. (named : AskedSettings)
-        → Told (S.outside shelf.old).held (λ files. settings_in named files ≡ Ok settings.now)
+        → Known (S.outside shelf.old).held (λ files. settings_in named files ≡ Ok settings.now)
         → IsStopped (schedule_readings named (text_of name.entry)) (S.outside shelf.old)
         (S.outside shelf.new) status) }
 {
@@ -235,13 +235,13 @@ pub fn load_guest<S: Shelf>(
     options: &RunOptions<'_>,
 ) -> Result<Loaded, Status>
     ensures allowed { IfOk result (λ loaded. IsAllowed loaded.settings) }
-    ensures settings { IfOk result (λ loaded. Told (S.outside shelf.new).held
+    ensures settings { IfOk result (λ loaded. Known (S.outside shelf.new).held
         (λ files. settings_in (run_meaning options.now).settings files ≡ Ok loaded.settings)) }
-    ensures run { IfOk result (λ loaded. Told (S.outside shelf.new).held (λ files.
+    ensures run { IfOk result (λ loaded. Known (S.outside shelf.new).held (λ files.
         rest_of loaded.guest ≡ run_for_demand (run_meaning options.now) loaded.settings files)) }
-    ensures symbols { IfOk result (λ loaded. Told (S.outside shelf.new).held (λ files.
+    ensures symbols { IfOk result (λ loaded. Known (S.outside shelf.new).held (λ files.
         loaded.symbols.items ≡ symbol_records (content files options.now.program.now))) }
-    ensures told { IfOk result (λ loaded. All IsSymbolRecord loaded.symbols.items) }
+    ensures stated { IfOk result (λ loaded. All IsSymbolRecord loaded.symbols.items) }
     ensures few { IfOk result (λ loaded. length loaded.symbols.items ≤ 2 ^ 20) }
     ensures short { IfOk result (λ loaded. IsShort loaded.guest.setup (rest_of loaded.guest)) }
     ensures harts { IfOk result (λ loaded. loaded.guest.setup.harts ≡ loaded.settings.harts) }
@@ -316,7 +316,7 @@ fn show_run<S: Shelf>(
     observations: &mut Observations,
 ) -> Result<Shown, ShelfError>
     requires apart { AreApart (names_of files.now) }
-    requires told { All IsSymbolRecord symbols.now }
+    requires stated { All IsSymbolRecord symbols.now }
     requires few { length symbols.now ≤ 2 ^ 20 }
     requires short { IsShort guest.setup (rest_of guest) }
     requires budget { guest.setup.budget ≤ 2 ^ 36 }
@@ -360,7 +360,7 @@ fn run_guest<S: Shelf>(
 ) -> Result<Shown, ShelfError>
     requires apart { AreApart (run_outputs (run_meaning options.now)) }
     requires allowed { IsAllowed loaded.settings }
-    requires told { All IsSymbolRecord loaded.symbols.items }
+    requires stated { All IsSymbolRecord loaded.symbols.items }
     requires few { length loaded.symbols.items ≤ 2 ^ 20 }
     requires short { IsShort loaded.guest.setup (rest_of loaded.guest) }
     requires harts { loaded.guest.setup.harts ≡ loaded.settings.harts }
@@ -412,7 +412,7 @@ fn run_loaded<S: Shelf>(
 ) -> Status
     requires apart { AreApart (run_outputs (run_meaning options.now)) }
     requires allowed { IsAllowed loaded.settings }
-    requires told { All IsSymbolRecord loaded.symbols.items }
+    requires stated { All IsSymbolRecord loaded.symbols.items }
     requires few { length loaded.symbols.items ≤ 2 ^ 20 }
     requires short { IsShort loaded.guest.setup (rest_of loaded.guest) }
     requires harts { loaded.guest.setup.harts ≡ loaded.settings.harts }

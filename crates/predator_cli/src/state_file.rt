@@ -3,7 +3,7 @@ ghost use Rattle.std.specs.Prelude.{◌≡◌, IfErr, IfOk, IsTrue, Ok, OnOk, dr
 ghost use Rattle.command_line.specs.Demands.{text_of};
 ghost use Rattle.saved_state.specs.Resuming.{resumption};
 ghost use Rattle.sharing_rules.specs.Listed.{may_predict};
-ghost use Rattle.shelf.specs.Shelf.{Told};
+ghost use Rattle.shelf.specs.Shelf.{Known};
 ghost use Rattle.command_io.specs.Readings.{IsAccepted, IsJudged, IsStopped};
 ghost use Rattle.predator_cli.specs.Replay.{begun_under, state_readings};
 ghost use Rattle.predator_cli.specs.States.{begun_with, differing_field, resumed_state};
@@ -166,7 +166,7 @@ pub fn read_state<S: Shelf>(
     thresholds: Thresholds,
 ) -> Result<Option<Begun>, Status>
     requires { IsTrue (may_predict layout thresholds) }
-    ensures begun { IfOk result (λ begun. Told (S.outside shelf.new).held
+    ensures begun { IfOk result (λ begun. Known (S.outside shelf.new).held
         (λ files. begun_under layout thresholds (text_of name.entry) files ≡ begun)) }
     ensures accepted { OnOk result (IsAccepted
         (state_readings (λ _. layout) (λ _. thresholds) (text_of name.entry))

@@ -4,7 +4,7 @@ ghost use Rattle.predator_cli.specs.Answer.{answer_of};
 ghost use Rattle.command_line.specs.Demands.{texts};
 ghost use Rattle.command_line.specs.Words.{demand_of};
 ghost use Rattle.shelf.specs.NeverFails.{never_fails_outside};
-ghost use Rattle.shelf.specs.Shelf.{Told};
+ghost use Rattle.shelf.specs.Shelf.{Known};
 
 use crate::predator;
 use command_io::Status;
@@ -16,7 +16,7 @@ use std::alloc::Global;
 pub fn predator_steady(alloc: Global, words: &[String], shelf: &mut NeverFails) -> Status
     ensures read { result ≢ Status.ReadFault }
     ensures write { result ≢ Status.WriteFault }
-    ensures ends { Told (never_fails_outside shelf.new).held
+    ensures ends { Known (never_fails_outside shelf.new).held
         (λ files. (result ≡ (answer_of (demand_of (texts words.now)) files).status) ⊎ (result
         ≡ Status.NoMemory)) }
 {

@@ -1,4 +1,4 @@
-// The symbols of a program, as its trace tells them.
+// The symbols of a program, as its trace records them.
 ghost use Rattle.std.specs.Prelude.{◌≡◌, ◌≤◌, ◌≢◌, IfOk, map};
 ghost use Rattle.std.specs.List.{All};
 ghost use Rattle.base.specs.Names.{name_of};
@@ -12,7 +12,7 @@ use program_files::Symbols;
 use std::alloc::Global;
 use trace_format::TraceRecord;
 
-// A symbol of some bytes, as a trace tells it: of a name of more than 1024 bytes the first 1024.
+// A symbol of some bytes, as a trace records it: of a name of more than 1024 bytes the first 1024.
 fn record_of(
     alloc: Global,
     kind: SymbolKind,
@@ -22,7 +22,7 @@ fn record_of(
 ) -> Result<TraceRecord, NoMemory>
     requires some { 1 ≤ size }
     requires no_zero { All (λ b. b ≢ 0) name.now }
-    ensures value { IfOk result (λ told. told ≡ records.Symbol kind addr size (name_of name.now)) }
+    ensures value { IfOk result (λ stated. stated ≡ records.Symbol kind addr size (name_of name.now)) }
     ensures good { IfOk result IsSymbolRecord }
 {
     let kept = Name::new(alloc, name)?;
@@ -37,8 +37,8 @@ fn record_of(
 /// The records of the symbols of a program, in their order.
 pub fn records_of(alloc: Global, mut symbols: Symbols<'_>) -> Result<Vec<TraceRecord>, NoMemory>
     requires { All HasNameAndSize symbols }
-    ensures value { IfOk result (λ told. told.items ≡ map symbol_record symbols.entry) }
-    ensures good { IfOk result (λ told. All IsSymbolRecord told.items) }
+    ensures value { IfOk result (λ stated. stated.items ≡ map symbol_record symbols.entry) }
+    ensures good { IfOk result (λ stated. All IsSymbolRecord stated.items) }
 {
     let mut records = Vec::new(alloc);
     while let Some(symbol) = symbols.next() {

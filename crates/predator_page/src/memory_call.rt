@@ -10,7 +10,7 @@ ghost use Rattle.predator_cli.specs.Commands.{StaysWithinBudget};
 ghost use Rattle.predator_cli.specs.Meets.{EndsAs, IsCaused, IsComplete, Prints};
 ghost use Rattle.predator_cli.specs.Written.{OnlyAt, Writes};
 ghost use Rattle.shelf.specs.MemoryShelf.{fresh_outside, memory_outside};
-ghost use Rattle.shelf.specs.Shelf.{Files, Narrows, Told};
+ghost use Rattle.shelf.specs.Shelf.{Files, Narrows, Known};
 
 use base::NoMemory;
 use predator_cli::{Status, predator};
@@ -35,7 +35,7 @@ pub fn call_in_memory(
 ) -> Result<Answer, NoMemory>
     // It ends as the words and the files ask, or by a fault of the outside before which nothing is
     // refused.
-    ensures ends { IfOk result (λ answer. Told (memory_outside answer.shelf).held
+    ensures ends { IfOk result (λ answer. Known (memory_outside answer.shelf).held
         (λ held. EndsAs (demand_of (texts words.now)) held (fresh_outside files.items)
         (memory_outside answer.shelf) (kind_of answer.status) answer.status)) }
     // What the shelf holds then are these files.
@@ -59,14 +59,14 @@ pub fn call_in_memory(
     ensures only { IfOk result (λ answer. OnlyAt (outputs (demand_of (texts words.now)))
         (fresh_outside files.items) (memory_outside answer.shelf)) }
     // What other calls repeat of it, how long a run is at most, and what holds of each count.
-    ensures again { IfOk result (λ answer. Told (memory_outside answer.shelf).held (λ held.
+    ensures again { IfOk result (λ answer. Known (memory_outside answer.shelf).held (λ held.
         WhereDone RepeatsReport (demand_of (texts words.now)) held (kind_of answer.status))) }
     ensures within { IfOk result (λ _. (held : Files)
         → StaysWithinBudget (demand_of (texts words.now)) held) }
     ensures recounts { IfOk result (λ _. (held : Files)
         → ReportIsRecounted (demand_of (texts words.now)) held) }
     // Where no number of faults rose it ends as it is asked, unless memory runs out.
-    ensures complete { IfOk result (λ answer. Told (memory_outside answer.shelf).held
+    ensures complete { IfOk result (λ answer. Known (memory_outside answer.shelf).held
         (λ held. IsComplete (demand_of (texts words.now)) held (fresh_outside files.items)
         (memory_outside answer.shelf) answer.status)) }
 {

@@ -1,6 +1,6 @@
 // The bytes of a reply, whose fields are written as those of a request: the number of the status,
-// the printed text, the message, the number of files that were written, and of each the name and
-// the content.
+// the printed text, the message, and up to the end the name and the content of each file that was
+// written.
 use shelf::MemoryShelf;
 use std::alloc::{AllocError, Global};
 

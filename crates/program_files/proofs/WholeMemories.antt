@@ -1,4 +1,4 @@
--- A memory that holds an image is told by its base, its size, and its byte and rights at each
+-- A memory that holds an image is determined by its base, its size, and its byte and rights at each
 -- address; so is the image.
 use Rattle.std.proofs.Common.{◌≡◌, ℕ, ◌+◌, ◌-◌, ◌*◌, ◌/◌, ◌%◌, ◌<◌, ◌≤◌, List, false, nat_lt}
 use Rattle.std.proofs.Common.{length, map, get_or, refl, ap, sym, ◌∙◌, arith}

@@ -1,4 +1,4 @@
--- The text that tells of a program. Every line ends with a line feed.
+-- The text that describes a program. Every line ends with a line feed.
 use Rattle.std.specs.Prelude.{ℕ, pos, ◌-◌, ◌*◌, ◌/◌, ◌%◌, ◌==◌, Bool, if◌then◌else◌, List, [], ◌∷◌}
 use Rattle.std.specs.Prelude.{◌++◌, codes}
 use Rattle.std.specs.Fmt.{decimal}

@@ -2,7 +2,7 @@
 
 use thiserror::Error;
 
-/// Why a program file is refused. Of several faults the first in this order is told.
+/// Why a program file is refused. Of several faults the first in this order is reported.
 #[derive(Clone, Copy, PartialEq, Eq, Debug, Error)]
 pub enum ElfFault {
     /// The file has fewer bytes than the file header, 52.

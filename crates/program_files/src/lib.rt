@@ -1,8 +1,8 @@
 //! Program files: ELF of 32 bits, little endian, static, for RISC-V, as the ELF specification lays
-//! it out; and the text that tells of one.
+//! it out; and the text that describes one.
 //!
 //! Any bytes are a program file or are refused with their first fault. Segments, symbols and names
-//! are slices of the file. Of a program that is placed in memory the summary tells its entry, its
+//! are slices of the file. Of a program that is placed in memory the summary states its entry, its
 //! segments, its symbols, and where its heap and stacks lie. For one of 12 bytes of code it is:
 //!
 //! ```text

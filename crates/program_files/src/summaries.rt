@@ -1,4 +1,4 @@
-// The text that tells of a program.
+// The text that describes a program.
 ghost use Rattle.std.specs.Prelude.{◌≡◌, ◌++◌, codes, IfOk};
 ghost use Rattle.std.specs.Prelude.{string_bytes};
 ghost use Rattle.std.specs.List.{flat_map};
@@ -82,7 +82,7 @@ fn count_lines(alloc: Global, symbols: &ObjectTable) -> Result<String, AllocErro
     format!(in alloc; "objects {objects}\nfunctions {functions}\n")
 }
 
-// The text that tells of a program file.
+// The text that describes a program file.
 fn summary_of(
     alloc: Global,
     view: &ElfView<'_>,
@@ -100,9 +100,9 @@ fn summary_of(
     format!(in alloc; "entry {entry}\n{segments}{counts}{heap}{stacks}end\n")
 }
 
-/// The text that tells of a program file: the address of its first instruction, the segments in the
-/// order of their headers, how many symbols of data and of code a table of them has, and where the
-/// heap and the stacks of its image lie. It takes memory for the text.
+/// The text that describes a program file: the address of its first instruction, the segments in
+/// the order of their headers, how many symbols of data and of code a table of them has, and where
+/// the heap and the stacks of its image lie. It takes memory for the text.
 pub fn summary(
     alloc: Global,
     view: &ElfView<'_>,

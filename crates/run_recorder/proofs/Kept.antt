@@ -259,7 +259,7 @@ few_touches (e ∷ events) =
 
 -- ---- the end
 
--- the end of a run may be told in a trace
+-- the end of a run may be recorded in a trace
 pub allowed_end : (harts steps : ℕ) (o : Outcome) → IsEndOf harts o → IsAllowedEnd steps o
 allowed_end harts steps (Exit code) is = tt
 allowed_end harts steps Budget is = tt
@@ -324,7 +324,7 @@ run_short : (v : Version) (harts : ℕ) (symbols : List TraceRecord) (r : Run)
     → All (IsGoodRecord v harts) (records_in v r.events) → length r.events ≤ 2 ^ 36
     → length (spell v (record { first = 0; harts = harts; near = near_for v }) (records_of v symbols r) (end_for v r.ending)) ≤
     longest_trace
-run_short v harts symbols r told few good short =
+run_short v harts symbols r stated few good short =
     sum_short (length (spell v (record { first = 0; harts = harts; near = near_for v })
     (records_of v symbols r) (end_for v r.ending)))
     (length (spell_header v (record { first = 0; harts = harts; near = near_for v })))
@@ -332,7 +332,7 @@ run_short v harts symbols r told few good short =
     (length (spell_records v (before_behind nothing_before symbols) (records_in v r.events)))
     (length (spell_ending v (end_for v r.ending))) (length symbols) (length r.events)
     (whole_long v harts symbols r) (header_long v harts)
-    (ending_long v r.ending) (symbols_short v nothing_before symbols told) few
+    (ending_long v r.ending) (symbols_short v nothing_before symbols stated) few
     (events_short v harts (before_behind nothing_before symbols) r.events good) short
 
 regions_kept : (v : Version) (harts : ℕ)
@@ -387,10 +387,10 @@ pub kept_rules : (v : Version) (harts : ℕ) (symbols : List TraceRecord) (s : S
     → All IsSymbolRecord symbols → length symbols ≤ 2 ^ 20 → IsShort s r → s.budget ≤ 2 ^ 36
     → All (IsGoodRecord v harts) (records_in v r.events) → IsEndOf harts r.ending.outcome
     → IsKept (trace_for v harts symbols r)
-kept_rules v harts symbols s r some most told few short budget good end =
+kept_rules v harts symbols s r some most stated few short budget good end =
     let touched : touches_among (records_of v symbols r) ≡ touches_in r.events =
     touches-among symbols (records_in v r.events)
-    ∙ ap (λ (l : List ATouch). l ++ touches_among (records_in v r.events)) (untouched symbols told)
+    ∙ ap (λ (l : List ATouch). l ++ touches_among (records_in v r.events)) (untouched symbols stated)
     ∙ touches-in v r.events in
     let count : r.ending.accesses ≡ length (touches_among (records_of v symbols r)) = short.accesses
     ∙ ap length (sym touched) in
@@ -399,14 +399,14 @@ kept_rules v harts symbols s r some most told few short budget good end =
       header = record { position = omega arith; some = some; few = most };
       regions = regions_kept v harts;
       records = All-append (IsGoodRecord v harts) symbols (records_in v r.events)
-          (All-weaker IsSymbolRecord (IsGoodRecord v harts) (symbol_good v harts) symbols told)
+          (All-weaker IsSymbolRecord (IsGoodRecord v harts) (symbol_good v harts) symbols stated)
           good;
       inner = All-append IsInner symbols (records_in v r.events)
-          (All-weaker IsSymbolRecord IsInner symbol_inner symbols told) (events_inner v r.events);
+          (All-weaker IsSymbolRecord IsInner symbol_inner symbols stated) (events_inner v r.events);
       ending = end_kept v harts r.ending (allowed_end harts r.ending.steps r.ending.outcome end)
           (fitting_end harts r.ending.outcome end) (omega (arith, short.steps, budget))
           (omega (arith, short.accesses, fewer, short.events, budget));
       positions = omega (arith, count, short.accesses, fewer, short.events, budget);
       counted = counted_end v r.ending ∙ count;
-      short = run_short v harts symbols r told few good (omega (arith, short.events, budget));
+      short = run_short v harts symbols r stated few good (omega (arith, short.events, budget));
     }

@@ -58,9 +58,9 @@ pub touch_spelled : (v : Version) (touches : List Touched) (i : ℕ) (t : Touche
     → more ≡ bytes ++ spell_record mid.version mid.before item
     → later ≡ record mid { before = before_after mid.before item }
     → AreSpelled (touch_records v (take (i + 1) touches)) w later more
-touch_spelled v touches i t item w mid later bytes more below is told so adds next =
+touch_spelled v touches i t item w mid later bytes more below is stated so adds next =
     subst (λ (l : List TraceRecord). AreSpelled l w later more)
-    (one_more v touches i t item below is told)
+    (one_more v touches i t item below is stated)
     (spelled_more (touch_records v (take i touches)) item w mid later bytes more so adds next)
 
 -- all of them

@@ -177,8 +177,8 @@ no_touches given v touches first = record {
 pub one_more : (v : Version) (touches : List Touched) (i : ℕ) (t : Touched) (item : TraceRecord)
     → i < length touches → t ≡ get_or touches i t → item ≡ touch_record v t
     → touch_records v (take i touches) ++ item ∷ [] ≡ touch_records v (take (i + 1) touches)
-one_more v touches i t item below is told =
-    ap (λ (x : TraceRecord). touch_records v (take i touches) ++ x ∷ []) told
+one_more v touches i t item below is stated =
+    ap (λ (x : TraceRecord). touch_records v (take i touches) ++ x ∷ []) stated
     ∙ sym (map-append (touch_record v) (take i touches) (t ∷ []))
     ∙ ap (λ (x : Touched). touch_records v (take i touches ++ x ∷ [])) is
     ∙ ap (touch_records v) (sym (take_more touches i t below))
@@ -189,8 +189,8 @@ pub touches_more : {A : Type 0} (given : A → A → List TraceRecord → Type 0
     → ((harts : ℕ) → t.access.hart < harts → IsGoodRecord v harts item)
     → TouchesSeen given v touches i first now → IsGivenOn given now later (item ∷ [])
     → TouchesSeen given v touches (i + 1) first later
-touches_more given v touches i t item first now later below is told its so given_on =
-    let more = one_more v touches i t item below is told in
+touches_more given v touches i t item first now later below is stated its so given_on =
+    let more = one_more v touches i t item below is stated in
     record {
       given_on = subst (IsGivenOn given first later) more
           (given_more given first now later (touch_records v (take i touches)) (item ∷ [])
@@ -211,9 +211,9 @@ pub touch_room : {A : Type 0} (begins : A → ℕ → Type 0)
     → item ≡ touch_record v t → HasRoom begins given first (touch_records v touches)
     → IsGivenOn given first now (touch_records v (take i touches))
     → HasRoom begins given now (item ∷ [])
-touch_room begins given v touches i t item first now below is told r on =
+touch_room begins given v touches i t item first now below is stated r on =
     let front = touch_records v (take i touches) in
-    let more = one_more v touches i t item below is told in
+    let more = one_more v touches i t item below is stated in
     let whole : (front ++ item ∷ []) ++ touch_records v (drop (i + 1) touches)
     ≡ touch_records v touches =
     ap (λ (l : List TraceRecord). l ++ touch_records v (drop (i + 1) touches)) more
@@ -307,16 +307,16 @@ follows_turn given v start guest after first now later files one two three w1 w2
     e n x led on good noted_on same is accesses count begun =
     let harts = start.setup.harts in
     let events : List RunEvent = led.events ++ e ∷ [] in
-    let told = turn_records v led.events ts e led.touched in
+    let stated = turn_records v led.events ts e led.touched in
     let out = turn_output led.events ts e led.touched in
     follows_more given v start guest after (rest_of guest) (rest_of after) first now later files
     one two three w1 w2 w3 old mid new events x
     (led.led ∙ turn_led led.events e (rest_of after))
-    (subst (IsGivenOn given now later) (sym told) on)
-    (subst (All (IsGoodRecord v harts)) (sym told) good)
+    (subst (IsGivenOn given now later) (sym stated) on)
+    (subst (All (IsGoodRecord v harts)) (sym stated) good)
     (λ items put before is_so.
     subst (λ (l : List TraceRecord). AreNoted v harts (items ++ l) (put ++ output_in events) files
-    three w3 before new) (sym told)
+    three w3 before new) (sym stated)
     (subst (λ (l : List ℕ). AreNoted v harts (items ++ (touch_records v ts ++ record_in v e))
     (put ++ l) files three w3 before new) (sym out) (noted_on items put before is_so)))
     same (omega (arith, turn_touches led.events ts e led.touched, is, accesses)) count begun
@@ -339,15 +339,15 @@ pub follows_touches : {A : Type 0} (given : A → A → List TraceRecord → Typ
 follows_touches given v start guest after rest first now later files one two three w1 w2 w3 old
     mid new ts x led on good noted_on same accesses count begun =
     let harts = start.setup.harts in
-    let told = touched_records v led.events ts led.touched in
+    let stated = touched_records v led.events ts led.touched in
     let out = touched_output led.events ts led.touched in
     follows_more given v start guest after (rest_of guest) rest first now later files one
     two three w1 w2 w3 old mid new led.events x led.led
-    (subst (IsGivenOn given now later) (sym told) on)
-    (subst (All (IsGoodRecord v harts)) (sym told) good)
+    (subst (IsGivenOn given now later) (sym stated) on)
+    (subst (All (IsGoodRecord v harts)) (sym stated) good)
     (λ items put before is_so.
     subst (λ (l : List TraceRecord). AreNoted v harts (items ++ l) (put ++ output_in led.events)
-    files three w3 before new) (sym told)
+    files three w3 before new) (sym stated)
     (subst (λ (l : List ℕ). AreNoted v harts (items ++ touch_records v ts) l
     files three w3 before new) (sym (ap (λ (l : List ℕ). put ++ l) out ∙ append-nil put))
     (noted_on items put before is_so)))
@@ -355,25 +355,25 @@ follows_touches given v start guest after rest first now later files one two thr
 
 -- what is cut in the middle of them is cut of the whole run
 pub cut_more : (v : Version) (harts : ℕ) (earlier : List TraceRecord) (files : List RunFile)
-    (xs ys : List RunEvent) (told : List TraceRecord) (out : List ℕ) (whole rest later : Run)
+    (xs ys : List RunEvent) (stated : List TraceRecord) (out : List ℕ) (whole rest later : Run)
     (before now : Outside) (e : ShelfError) → whole ≡ led_with xs rest → rest ≡ led_with ys later
-    → records_in v ys ≡ told → output_in ys ≡ out
-    → AreCutAfter v harts ((earlier ++ records_in v xs) ++ told) (output_in xs
+    → records_in v ys ≡ stated → output_in ys ≡ out
+    → AreCutAfter v harts ((earlier ++ records_in v xs) ++ stated) (output_in xs
     ++ out) files before now
     e
     → AreCut (outputs_for v harts earlier whole files) before now e
-cut_more v harts earlier files xs ys told out whole rest later before now e goes led is put cut =
+cut_more v harts earlier files xs ys stated out whole rest later before now e goes led is put cut =
     cut_seen v harts earlier files (xs ++ ys) whole later before now e
     (goes ∙ ap (led_with xs) led
     ∙ ap (λ (l : List RunEvent). let r : Run = record { events = l; ending = later.ending } in r)
     (sym (append_assoc xs ys later.events)))
     (subst (λ (l : List TraceRecord). AreCutAfter v harts l (output_in (xs ++ ys)) files before now
     e)
-    (append_assoc earlier (records_in v xs) told
+    (append_assoc earlier (records_in v xs) stated
     ∙ ap (λ (l : List TraceRecord). earlier ++ (records_in v xs ++ l)) (sym is)
     ∙ ap (λ (l : List TraceRecord). earlier ++ l) (sym (records-append v xs ys)))
     (subst (λ (l : List ℕ). AreCutAfter v harts ((earlier ++ records_in v xs)
-    ++ told) l files before
+    ++ stated) l files before
     now e)
     (ap (λ (l : List ℕ). output_in xs ++ l) (sym put) ∙ sym (output-append xs ys)) cut))
 

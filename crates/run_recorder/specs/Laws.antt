@@ -1,4 +1,4 @@
--- What a trace with pcs tells beside one without: the same records but for the pcs, and the pcs.
+-- What a trace with pcs records beside one without: the same records but for the pcs, and the pcs.
 use Rattle.std.proofs.Common.{◌≡◌, ◌∙◌, ℕ, List, [], ◌∷◌, ◌++◌, None, refl, sym, ap}
 use Rattle.std.proofs.lemmas.List.{map-append}
 use Rattle.std.proofs.lemmas.List.Elements.{filter_map-append}
@@ -10,7 +10,7 @@ use Rattle.trace_format.specs.Rules.{touches_in}
 use Rattle.trace_format.specs.declared.record.TraceRecord.{TraceRecord}
 use Rattle.trace_format.specs.declared.record.TraceRecord.TheVariants as records
 use Rattle.trace_format.specs.declared.record.Version.TheVariants.{One, Three}
-use Rattle.run_recorder.specs.Recorded.{TellsRun, records_in, records_of, sited_record}
+use Rattle.run_recorder.specs.Recorded.{RecordsRun, records_in, records_of, sited_record}
 use Rattle.run_recorder.specs.Recorded.{sited_records, trace_for}
 
 -- the pcs of accesses change none of them
@@ -87,9 +87,9 @@ run-plain symbols r none =
     (no_pc symbols none)
     ∙ ap (λ (l : List TraceRecord). symbols ++ l) (events_plain r.events)
 
-pub run-told : (harts : ℕ) (symbols : List TraceRecord) (r : Run) → touches_in symbols ≡ []
-    → TellsRun harts symbols r (trace_for Three harts symbols r)
-run-told harts symbols r none =
+pub run-stated : (harts : ℕ) (symbols : List TraceRecord) (r : Run) → touches_in symbols ≡ []
+    → RecordsRun harts symbols r (trace_for Three harts symbols r)
+run-stated harts symbols r none =
     let plain = run-plain symbols r none in
     record {
       header = refl;

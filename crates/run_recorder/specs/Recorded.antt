@@ -21,18 +21,18 @@ use Rattle.run_recorder.specs.declared.run_file.RunFile.{RunFile}
 
 -- ---- the records of a run
 
--- a symbol as a trace may tell it
+-- a symbol as a trace may record it
 abbrev pub IsSymbolRecord : TraceRecord → Type 0
 IsSymbolRecord (records.Symbol kind addr size name) = IsGoodSymbol addr size name
 IsSymbolRecord _ = ⊥
 
--- versions 3 and 4 alone tell the pc of an access
+-- versions 3 and 4 alone record the pc of an access
 abbrev pub pc_for : Version → ℕ → Option ℕ
 pc_for Three pc = Some pc
 pc_for Four pc = Some pc
 pc_for _ pc = None
 
--- what a trace of a version tells of an event
+-- what a trace of a version records of an event
 abbrev pub record_in : Version → RunEvent → List TraceRecord
 record_in v quiet = []
 record_in v (touch a pc) = records.Touch a (pc_for v pc) ∷ []
@@ -44,7 +44,7 @@ abbrev pub records_in : Version → List RunEvent → List TraceRecord
 records_in v [] = []
 records_in v (e ∷ events) = record_in v e ++ records_in v events
 
--- the symbols of the program, and then what the events tell
+-- the symbols of the program, and then the records of the events
 abbrev pub records_of : Version → List TraceRecord → Run → List TraceRecord
 records_of v symbols r = symbols ++ records_in v r.events
 
@@ -91,7 +91,7 @@ outputs_for v harts symbols r files = outputs_of files (bytes_of v harts symbols
 
 -- ---- the accesses with their pcs
 
--- an access and the pc that is told of it, where one is
+-- an access and the pc that is recorded of it, where one is
 abbrev pub sited_with : Touch → Option ℕ → Option (Touch × ℕ)
 sited_with a None = None
 sited_with a (Some pc) = Some (a, pc)
@@ -100,13 +100,13 @@ abbrev pub sited_record : TraceRecord → Option (Touch × ℕ)
 sited_record (records.Touch a pc) = sited_with a pc
 sited_record _ = None
 
--- the accesses of which records tell the pc, each with its pc, in order
+-- the accesses of which records state the pc, each with its pc, in order
 abbrev pub sited_records : List TraceRecord → List (Touch × ℕ)
 sited_records items = filter_map sited_record items
 
--- A trace tells a run with the pc of each access: it is the trace of version 1 but for the pcs, and
--- its accesses with their pcs are those of the run, in order.
-pub record TellsRun (harts : ℕ) (symbols : List TraceRecord) (r : Run) (t : ATrace) : Type 0 where
+-- A trace records a run with the pc of each access: it is the trace of version 1 but for the pcs,
+-- and its accesses with their pcs are those of the run, in order.
+pub record RecordsRun (harts : ℕ) (symbols : List TraceRecord) (r : Run) (t : ATrace) : Type 0 where
   pub header : t.header ≡ (trace_for One harts symbols r).header
   pub records : without_pcs t.items ≡ (trace_for One harts symbols r).items
   pub accesses : touches_in t.items ≡ touches_in (trace_for One harts symbols r).items

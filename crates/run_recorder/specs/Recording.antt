@@ -54,19 +54,19 @@ has_trace (f ∷ files) = is_trace f.content || has_trace files
 -- ---- a step
 
 -- the records of a step that leaves this configuration, and the bytes that it puts out
-unfoldable pub records_told : Version → Config → Event → List TraceRecord
-records_told v config event = record_in v (seen config.memory event)
+unfoldable pub event_records : Version → Config → Event → List TraceRecord
+event_records v config event = record_in v (seen config.memory event)
 
-unfoldable pub bytes_told : Config → Event → List ℕ
-bytes_told config event = bytes_in (seen config.memory event)
+unfoldable pub event_bytes : Config → Event → List ℕ
+event_bytes config event = bytes_in (seen config.memory event)
 
 -- the records of accesses
 abbrev pub touch_records : Version → List Touched → List TraceRecord
 touch_records v touches = map (λ t. records.Touch t.access (pc_for v t.pc)) touches
 
 -- what is known of it
-unfoldable pub IsTold : ℕ → Event → Config → Type 0
-IsTold harts event config = IsSeen harts (Ran event) config
+unfoldable pub IsRecorded : ℕ → Event → Config → Type 0
+IsRecorded harts event config = IsSeen harts (Ran event) config
 
 -- ---- a run
 

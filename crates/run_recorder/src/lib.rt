@@ -12,7 +12,7 @@ mod notes;
 mod run_file;
 mod showing;
 mod speller;
-mod telling;
+mod step_records;
 mod touches;
 mod whole_run;
 

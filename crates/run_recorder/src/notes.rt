@@ -9,14 +9,14 @@ ghost use Rattle.trace_format.specs.Rules.{IsGoodRecord, IsWritable};
 ghost use Rattle.trace_format.specs.declared.record.TraceRecord.{TraceRecord as ARecord};
 ghost use Rattle.trace_format.specs.Writing.{Writing};
 ghost use Rattle.trace_passes.specs.Rooms.{HasRoom};
-ghost use Rattle.run_recorder.specs.Recording.{AreCutAfter, AreNoted, IsTold, bytes_told};
-ghost use Rattle.run_recorder.specs.Recording.{records_told};
+ghost use Rattle.run_recorder.specs.Recording.{AreCutAfter, AreNoted, IsRecorded, event_bytes};
+ghost use Rattle.run_recorder.specs.Recording.{event_records};
 
 use crate::files::{put_output, put_record};
 use crate::run_file::RunFile;
 use crate::showing::output_to_show;
 use crate::speller::Speller;
-use crate::telling::{alloc_record, free_record, touch_record};
+use crate::step_records::{alloc_record, free_record, touch_record};
 use guest::{Event, Guest};
 use shelf::{Shelf, ShelfError};
 use trace_files::TraceOutputs;
@@ -97,7 +97,7 @@ fn note_output<S: Shelf>(
 }
 
 // What is seen of a step of the guest.
-#[tactic(auto, unfolding(crate::specs::Recording::IsTold, crate::specs::Recording::records_told, crate::specs::Recording::bytes_told))]
+#[tactic(auto, unfolding(crate::specs::Recording::IsRecorded, crate::specs::Recording::event_records, crate::specs::Recording::event_bytes))]
 #[inline]
 pub(crate) fn note_event<S: Shelf, O: Observer>(
     shelf: &mut S,
@@ -111,27 +111,27 @@ pub(crate) fn note_event<S: Shelf, O: Observer>(
 ) -> Result<(), ShelfError>
     requires paired { length outputs.old ≡ length files.now }
     requires begun { AreBegun (waiting_names outputs.old) (S.outside shelf.old) }
-    requires seen { IsTold guest.now.setup.harts event guest.now.config }
+    requires seen { IsRecorded guest.now.setup.harts event guest.now.config }
     requires room { HasRoom O.begins O.given observer.old
-        (records_told version guest.now.config event) }
+        (event_records version guest.now.config event) }
     ensures given { OnOk result ((begun : O) (earlier : List ARecord)
         → O.given begun observer.old earlier
-        → O.given begun observer.new (earlier ++ records_told version guest.now.config event)) }
+        → O.given begun observer.new (earlier ++ event_records version guest.now.config event)) }
     ensures good { All (IsGoodRecord version guest.now.setup.harts)
-        (records_told version guest.now.config event) }
+        (event_records version guest.now.config event) }
     ensures noted { OnOk result
         ((harts : ℕ) (items : List ARecord) (put : List ℕ) (before : Outside)
         → AreNoted version harts items put files.now outputs.old speller.old.writer before
         (S.outside shelf.old)
-        → AreNoted version harts (items ++ records_told version guest.now.config event)
-        (put ++ bytes_told guest.now.config event) files.now outputs.new
+        → AreNoted version harts (items ++ event_records version guest.now.config event)
+        (put ++ event_bytes guest.now.config event) files.now outputs.new
         speller.new.writer before (S.outside shelf.new)) }
     ensures cut { IfErr result (λ error. (harts : ℕ) (items : List ARecord) (put : List ℕ)
         (before : Outside)
         → AreNoted version harts items put files.now outputs.old speller.old.writer before
         (S.outside shelf.old)
-        → AreCutAfter version harts (items ++ records_told version guest.now.config event)
-        (put ++ bytes_told guest.now.config event) files.now before
+        → AreCutAfter version harts (items ++ event_records version guest.now.config event)
+        (put ++ event_bytes guest.now.config event) files.now before
         (S.outside shelf.new) error) }
     ensures begun { OnOk result (AreBegun (waiting_names outputs.new) (S.outside shelf.new)) }
     ensures count { length outputs.new ≡ length outputs.old }

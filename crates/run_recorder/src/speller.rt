@@ -5,7 +5,7 @@ ghost use Rattle.trace_format.specs.Spelling.{before_after, spell_record, spell_
 ghost use Rattle.trace_format.specs.Writing.{before_behind, begin_writing};
 ghost use Rattle.run_recorder.specs.Recording.{touch_records};
 
-use crate::telling::touch_record;
+use crate::step_records::touch_record;
 use base::NoMemory;
 use guest::Touched;
 use std::alloc::Global;

@@ -8,14 +8,14 @@ ghost use Rattle.trace_format.specs.Rules.{IsGoodRecord};
 ghost use Rattle.trace_format.specs.declared.record.TraceRecord.{TraceRecord as ARecord};
 ghost use Rattle.trace_passes.specs.Rooms.{HasRoom};
 ghost use Rattle.guest.specs.SeenTurns.{AreOfHarts};
-ghost use Rattle.run_recorder.specs.Recording.{AreCutAfter, AreNoted, IsTold, bytes_told};
-ghost use Rattle.run_recorder.specs.Recording.{records_told, touch_records};
+ghost use Rattle.run_recorder.specs.Recording.{AreCutAfter, AreNoted, IsRecorded, event_bytes};
+ghost use Rattle.run_recorder.specs.Recording.{event_records, touch_records};
 
 use crate::files::put_touches;
 use crate::notes::note_event;
 use crate::run_file::RunFile;
 use crate::speller::Speller;
-use crate::telling::touch_record;
+use crate::step_records::touch_record;
 use base::NoMemory;
 use guest::{Event, Guest, Touched};
 use shelf::{Shelf, ShelfError};
@@ -103,25 +103,25 @@ pub(crate) fn note_turn<S: Shelf, O: Observer>(
 ) -> Result<(), ShelfError>
     requires paired { length outputs.old ≡ length files.now }
     requires begun { AreBegun (waiting_names outputs.old) (S.outside shelf.old) }
-    requires seen { IsTold guest.now.setup.harts event guest.now.config }
+    requires seen { IsRecorded guest.now.setup.harts event guest.now.config }
     requires theirs { AreOfHarts guest.now.setup.harts touches.now }
     requires room { HasRoom O.begins O.given observer.old
-        (touch_records version touches.now ++ records_told version guest.now.config event) }
+        (touch_records version touches.now ++ event_records version guest.now.config event) }
     ensures given { OnOk result ((begun : O) (earlier : List ARecord)
         → O.given begun observer.old earlier
         → O.given begun observer.new
         (earlier
-        ++ (touch_records version touches.now ++ records_told version guest.now.config event))) }
+        ++ (touch_records version touches.now ++ event_records version guest.now.config event))) }
     ensures good { OnOk result (All (IsGoodRecord version guest.now.setup.harts)
-        (touch_records version touches.now ++ records_told version guest.now.config event)) }
+        (touch_records version touches.now ++ event_records version guest.now.config event)) }
     ensures noted { OnOk result
         ((harts : ℕ) (items : List ARecord) (put : List ℕ) (before : Outside)
         → AreNoted version harts items put files.now outputs.old speller.old.writer before
         (S.outside shelf.old)
         → AreNoted version harts
         (items
-        ++ (touch_records version touches.now ++ records_told version guest.now.config event))
-        (put ++ bytes_told guest.now.config event) files.now outputs.new
+        ++ (touch_records version touches.now ++ event_records version guest.now.config event))
+        (put ++ event_bytes guest.now.config event) files.now outputs.new
         speller.new.writer before (S.outside shelf.new)) }
     ensures cut { IfErr result (λ error. (harts : ℕ) (items : List ARecord) (put : List ℕ)
         (before : Outside)
@@ -129,8 +129,8 @@ pub(crate) fn note_turn<S: Shelf, O: Observer>(
         (S.outside shelf.old)
         → AreCutAfter version harts
         (items
-        ++ (touch_records version touches.now ++ records_told version guest.now.config event))
-        (put ++ bytes_told guest.now.config event) files.now before (S.outside shelf.new) error) }
+        ++ (touch_records version touches.now ++ event_records version guest.now.config event))
+        (put ++ event_bytes guest.now.config event) files.now before (S.outside shelf.new) error) }
     ensures begun { OnOk result (AreBegun (waiting_names outputs.new) (S.outside shelf.new)) }
     ensures count { length outputs.new ≡ length outputs.old }
 {

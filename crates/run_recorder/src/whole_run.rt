@@ -106,7 +106,7 @@ fn show_end<S: Shelf>(shelf: &mut S, guest: &Guest)
 
 // Runs the guest to its end, and notes each step after the records that were noted before, which
 // have no access. What the guest puts by is of the steps before the last.
-#[tactic(auto, unfolding(crate::specs::Recording::IsTold))]
+#[tactic(auto, unfolding(crate::specs::Recording::IsRecorded))]
 fn follow<S: Shelf, O: Observer>(
     shelf: &mut S,
     files: &[RunFile<'_>],
@@ -304,10 +304,10 @@ fn note_run<'a, S: Shelf, O: Observer>(
 }
 
 /// Runs a guest to its end. The observer sees each record of the run's trace in this version, the
-/// end last: the symbols, and then what each step tells, an access of version 3 with its pc. The
-/// files are written while the run goes on, each with what its content says. Output that no file
-/// gets is shown to the shelf as it comes, and once the files are written how the guest ended, where
-/// its exit code isn't 0 or it lacks a hart.
+/// end last: the symbols, and then what is recorded of each step, an access of version 3 with its
+/// pc. The files are written while the run goes on, each with what its content says. Output that no
+/// file gets is shown to the shelf as it comes, and once the files are written how the guest ended,
+/// where its exit code isn't 0 or it lacks a hart.
 ///
 /// The guest is one that has made no step, of 1 to 256 harts, as `Guest::new` gives it, with a
 /// budget of at most 2^36. There are at most 2^20 symbols. The observer was given nothing. No two

@@ -13,7 +13,7 @@ use crate::codes::{
 use crate::instruction::{ImmOp, Instr, StoreKind, Test};
 use crate::register::Reg;
 
-/// The word of a valid instruction, as `is_valid` tells.
+/// The word of a valid instruction, as `is_valid` decides.
 #[tactic(auto, using(crate::proofs::Again::again))]
 pub fn encode(instr: Instr) -> u32
     requires { IsValid instr }

@@ -134,7 +134,7 @@ pub enum AmoOp {
 
 /// An instruction with its fields. `rd` is the register that it writes, `rs1` and `rs2` are those
 /// that it reads. Offsets are in bytes. `order` is below 4: 2 for acquire, 1 for release, 3 for
-/// both. `is_valid` tells whether the numbers are in these ranges.
+/// both. `is_valid` decides whether the numbers are in these ranges.
 #[derive(Clone, Copy, PartialEq, Eq, Debug)]
 pub enum Instr {
     /// `rd` becomes `imm`, of which the low 12 bits are 0.

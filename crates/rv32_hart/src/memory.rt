@@ -22,8 +22,8 @@ use std::marker::Model;
 /// Memory of whole pages of 4096 bytes, from a base on.
 ///
 /// Contracts see its base, its bytes and its pages' rights, mostly as the byte and the rights at
-/// an address. Decoded instructions are kept, and never told stale: whoever stores to the bytes of
-/// one, the next step there has the new one.
+/// an address. Decoded instructions are kept, and never returned stale: whoever stores to the bytes
+/// of one, the next step there has the new one.
 #[derive(Drop)]
 pub struct Memory {
     base: u32,

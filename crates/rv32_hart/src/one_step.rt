@@ -18,7 +18,7 @@ use rv32_decode::Instr;
 /// One step of a hart: the instruction at its pc is fetched, decoded and has its effect.
 ///
 /// `Next` is the effect, with the one access that the instruction made, if it made one. `Call`
-/// comes exactly at ECALL. `Trap` tells the first cause that there is: FetchOutside where no
+/// comes exactly at ECALL. `Trap` states the first cause that there is: FetchOutside where no
 /// instruction can be fetched at the pc, Illegal where the word is none, Breakpoint at EBREAK,
 /// FetchMisaligned where a taken jump's target is no multiple of 4, and the fault of the access,
 /// where memory refuses it. At a call and at a trap all stays as it was, the pc included.

@@ -19,7 +19,7 @@ impl Page {
     };
 }
 
-/// Why an access is refused. Of several faults the first in this order is told.
+/// Why an access is refused. Of several faults the first in this order is reported.
 #[derive(Clone, Copy, PartialEq, Eq, Debug, Error)]
 pub enum MemFault {
     /// The address is no multiple of the size, which is 4 for a fetch.

@@ -195,10 +195,10 @@ blank-from h x ws None since none good few long =
 -- what there is, and what there isn't
 pub there-is : {X : Type 0} (o : Option X) (P : Type 0) (v x : X) → o ≡ Some x → SomeIff o P v → P
     × (x ≡ v)
-there-is (Some y) P v x is told = (told.0, same_Some x y (sym is) ∙ told.1)
-there-is None P v x is told = absurd (none-some x is)
+there-is (Some y) P v x is stated = (stated.0, same_Some x y (sym is) ∙ stated.1)
+there-is None P v x is stated = absurd (none-some x is)
 
 pub there-is_none : {X : Type 0} (o : Option X) (P : Type 0) (v : X) → o ≡ None → SomeIff o P v
     → ¬ P
-there-is_none (Some y) P v is told = absurd (none-some y (sym is))
-there-is_none None P v is told = told
+there-is_none (Some y) P v is stated = absurd (none-some y (sym is))
+there-is_none None P v is stated = stated

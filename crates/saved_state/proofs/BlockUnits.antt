@@ -13,7 +13,7 @@ use Rattle.trace_format.specs.Spelling.{spell_alloc}
 use Rattle.base.specs.Fields.{number_at}
 use Rattle.std.specs.Int.{from_le_bytes, to_le_bytes, w32, w64}
 use Rattle.saved_state.specs.Laws.Again.{spelled_again}
-use Rattle.saved_state.specs.Laws.Reading.{IsUnit, unit_is, unit_told}
+use Rattle.saved_state.specs.Laws.Reading.{IsUnit, unit_is, unit_stated}
 use Rattle.saved_state.specs.ObjectJudging.{block_at, block_in, death_of, is_good_block, is_life}
 use Rattle.saved_state.specs.ObjectRules.{IsSavedBlock}
 use Rattle.saved_state.specs.ObjectSpelling.{death_number, no_death, spell_block}
@@ -55,20 +55,20 @@ pub block_is : (position : ℕ) (before : List Block) (bytes : List ℕ) (b : Bl
 unfolding block_in
 block_is position before bytes b is = (
   unit_is spell_block (is_good_block position before) (block_at bytes) b bytes is,
-  unit_told spell_block (is_good_block position before (block_at bytes)) (block_at bytes) b bytes
+  unit_stated spell_block (is_good_block position before (block_at bytes)) (block_at bytes) b bytes
       is,
 )
 
-length-told : (bytes : List ℕ) → length (spell_block (block_at bytes)) ≡ 41
+length-stated : (bytes : List ℕ) → length (spell_block (block_at bytes)) ≡ 41
 unfolding block_at spell_block spell_alloc
-length-told bytes = refl
+length-stated bytes = refl
 
 -- it has 41 bytes
 pub length-block : (position : ℕ) (before : List Block) (bytes : List ℕ) (b : Block)
     → block_in position before bytes ≡ Some b → length (spell_block b) ≡ 41
 length-block position before bytes b is =
     ap (λ (x : Block). length (spell_block x)) (sym (block_is position before bytes b is).1)
-    ∙ length-told bytes
+    ∙ length-stated bytes
 
 -- its fields fit
 fits_block : (position : ℕ) (bytes : List ℕ) → All IsByte bytes
@@ -105,17 +105,17 @@ block_follows position before bytes b fits is =
 
 -- ---- a block that is spelled
 
-record IsTold (born : ℕ) (died : Option ℕ) : Type 0 where
+record IsRecorded (born : ℕ) (died : Option ℕ) : Type 0 where
   birth : born < 2 ^ 64
   death : death_number died < 2 ^ 64
   again : death_of (death_number died) ≡ died
 
-is_told : (position born : ℕ) (died : Option ℕ) → position ≤ 2 ^ 40 → is_life position born died
-    ≡ true → IsTold born died
-is_told position born None low life =
+is_reported : (position born : ℕ) (died : Option ℕ) → position ≤ 2 ^ 40 → is_life position born died
+    ≡ true → IsRecorded born died
+is_reported position born None low life =
     let before : leb born position ≡ true = life in
     record { birth = grind (arith, nat_tests); death = omega arith; again = refl }
-is_told position born (Some died) low life =
+is_reported position born (Some died) low life =
     let both = and_parts (leb born died) (leb died position) life in
     let lived : leb born died ≡ true = both.0 in
     let before : leb died position ≡ true = both.1 in
@@ -125,17 +125,17 @@ is_told position born (Some died) low life =
 
 -- its fields give it back
 of_fields : (position : ℕ) (b : Block) (more : List ℕ) → IsSavedBlock position b
-    → IsTold b.born b.died → block_at (spell_block b ++ more) ≡ b
+    → IsRecorded b.born b.died → block_at (spell_block b ++ more) ≡ b
 unfolding block_at
-of_fields position b more good told =
+of_fields position b more good stated =
     let site : (k : ℕ) → k < 4 → from_le_bytes w32 (to_le_bytes w32 (get_or b.sites k 0))
     ≡ get_or b.sites k 0 = λ k within. from_le_bytes-to_le_bytes_4 (get_or b.sites k 0)
     (good.sites_in_range k 0 (omega (arith, within, good.four))) in
     let addr = from_le_bytes-to_le_bytes_4 b.addr good.addr_in_range in
     let size = from_le_bytes-to_le_bytes_4 b.size good.size_in_range in
-    let born = from_le_bytes-to_le_bytes_8 b.born told.birth in
-    let died = ap death_of (from_le_bytes-to_le_bytes_8 (death_number b.died) told.death)
-    ∙ told.again in
+    let born = from_le_bytes-to_le_bytes_8 b.born stated.birth in
+    let died = ap death_of (from_le_bytes-to_le_bytes_8 (death_number b.died) stated.death)
+    ∙ stated.again in
     ap (λ (xs : List ℕ). block_at (xs ++ more)) (spelled_sites b good.four)
     ∙ (λ i. record {
       addr = addr i;
@@ -156,5 +156,5 @@ block_again position before b more low may =
     let room : not (meets_live before b) ≡ true = rw may.1 refl in
     spelled_again spell_block (is_good_block position before) (block_at (spell_block b ++ more)) b
     more
-    (of_fields position b more good (is_told position b.born b.died low good.life))
+    (of_fields position b more good (is_reported position b.born b.died low good.life))
     (and_from (is_life position b.born b.died) (not (meets_live before b)) good.life room)

@@ -22,7 +22,7 @@ use Rattle.trace_format.specs.Judging.{symbol_kind_of}
 use Rattle.trace_format.specs.Laws.Bytes.{below_32, bytes_of}
 use Rattle.trace_format.specs.Spelling.{kind_number, spell_symbol}
 use Rattle.saved_state.specs.Laws.Again.{spelled_again}
-use Rattle.saved_state.specs.Laws.Reading.{IsUnit, unit_is, unit_told}
+use Rattle.saved_state.specs.Laws.Reading.{IsUnit, unit_is, unit_stated}
 use Rattle.saved_state.specs.ObjectJudging.{is_good_name, is_good_symbol, symbol_at}
 use Rattle.saved_state.specs.ObjectJudging.{symbol_in}
 use Rattle.saved_state.specs.ObjectRules.{IsSavedSymbol}
@@ -103,7 +103,7 @@ pub symbol_is : (before : List Symbol) (bytes : List ℕ) (s : Symbol)
 unfolding symbol_in
 symbol_is before bytes s is = (
   unit_is spell_saved_symbol (is_good_symbol before) (symbol_at bytes) s bytes is,
-  unit_told spell_saved_symbol (is_good_symbol before (symbol_at bytes)) (symbol_at bytes) s bytes
+  unit_stated spell_saved_symbol (is_good_symbol before (symbol_at bytes)) (symbol_at bytes) s bytes
       is,
 )
 

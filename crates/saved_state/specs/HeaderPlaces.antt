@@ -1,4 +1,4 @@
--- Where a header tells what. What a state is refused for is named by these places too.
+-- Where a header states what. What a state is refused for is named by these places too.
 use Rattle.std.specs.Prelude.{ℕ}
 
 -- the size of a line, and the offset of the lines

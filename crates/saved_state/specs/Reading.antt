@@ -17,7 +17,8 @@ pub record Units (X : Type 0) : Type 0 where
   pub place : ℕ
   pub left : List ℕ
 
--- So many units more, each judged beside those before it. The first at fault is told by its place.
+-- So many units more, each judged beside those before it. The first at fault is reported by its
+-- place.
 abbrev pub read_units : {X : Type 0} → (List X → List ℕ → Option X) → (X → List ℕ) → ℕ → Units X
     → Result (Units X) ResumeFault
 read_units unit spell zero u = Ok u

@@ -31,7 +31,7 @@ watch_in report s = record {
 abbrev pub kept_of_list : Grid → Levels → ℕ → AccessList → Watch
 kept_of_list g v harts t = watch_in v.report (sorted_state_in g v harts t)
 
--- with the harts that it tells, and the place behind it
+-- with the harts that it states, and the place behind it
 pub record Resumption : Type 0 where
   pub watch : Watch
   pub harts : ℕ
@@ -49,10 +49,10 @@ resumption_of report (Ok found) =
 abbrev pub resumption_in : ℕ → List ℕ → Result Resumption ResumeFault
 resumption_in report bytes = resumption_of report (read_state bytes)
 
--- it stands for a list whose state it was taken up from, and tells the harts of the state and its
+-- it stands for a list whose state it was taken up from, and states the harts of the state and its
 -- length
 pub record IsResumedFrom (g : Grid) (v : Levels) (harts : ℕ) (t : AccessList) (w : Watch)
-    (told used : ℕ) : Type 0 where
+    (stated used : ℕ) : Type 0 where
   pub stands : StandsFor t w
-  pub same_harts : told ≡ harts
+  pub same_harts : stated ≡ harts
   pub whole : used ≡ length (state_of_list g v harts t)

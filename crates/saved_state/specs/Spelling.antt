@@ -24,7 +24,7 @@ pub record State : Type 0 where
   pub lines : List CountedLine
   pub tracks : List TrackValue
 
--- what is told before the lines and the tracks, of which only the numbers are told
+-- what is stated before the lines and the tracks, of which only the numbers are stated
 pub record Header : Type 0 where
   pub grid : Grid
   pub tracking : ℕ

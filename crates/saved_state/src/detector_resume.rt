@@ -24,8 +24,8 @@ use base::ResumeFault;
 use detector::{Detector, LineIndex};
 use std::alloc::Global;
 
-/// A detector that was taken up again, the number of harts that the state tells, and how many bytes
-/// of the part were used.
+/// A detector that was taken up again, the number of harts that the state records, and how many
+/// bytes of the part were used.
 #[derive(Drop)]
 pub struct Resumed<I: LineIndex> {
     /// The detector.

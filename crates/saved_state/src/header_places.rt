@@ -1,4 +1,4 @@
-// Where a header tells what.
+// Where a header states what.
 
 /// The size of a line.
 pub const SIZE_PLACE: u64 = 8;

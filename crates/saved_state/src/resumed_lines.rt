@@ -80,7 +80,7 @@ fn next_line<I: LineIndex>(
     }
 }
 
-/// Reads all lines that a header tells, into a detector that has none, and gathers the numbers of
+/// Reads all lines that a header states, into a detector that has none, and gathers the numbers of
 /// those that are due. It takes memory for the lines that are there alone.
 pub fn read_lines<'a, I: LineIndex>(
     detector: &mut Detector<I>,

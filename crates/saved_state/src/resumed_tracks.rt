@@ -65,7 +65,7 @@ fn next_track<I: LineIndex>(
     }
 }
 
-/// Reads all tracks that a header tells, into a detector that has none, beside its lines, of which
+/// Reads all tracks that a header states, into a detector that has none, beside its lines, of which
 /// these are due. It takes memory for the tracks that are there alone.
 pub fn read_tracks<'a, I: LineIndex>(
     alloc: Global,

@@ -28,7 +28,7 @@ pub struct StateParts<'a> {
     pub tracks: &'a [Track],
 }
 
-/// What is told before the lines and the tracks of a state.
+/// What is stated before the lines and the tracks of a state.
 #[derive(Clone, Copy)]
 pub struct StateHeader {
     /// The layout of the observed lines.
@@ -59,7 +59,7 @@ pub struct SavedTrack {
     pub count: u64,
 }
 
-/// What a track tells before its words.
+/// What a track states before its words.
 #[derive(Clone, Copy)]
 pub struct TrackHead {
     /// How it came to be tracked.

@@ -22,7 +22,7 @@ fn prediction_number(thresholds: Thresholds) -> u64
     thresholds.prediction().unwrap_or(0)
 }
 
-// What is told before the lines and the tracks.
+// What is stated before the lines and the tracks.
 fn header_of(state: &StateParts<'_>) -> StateHeader
     ensures { header_meant result ≡ header_of (state_of state.now) }
 {

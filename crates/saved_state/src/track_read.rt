@@ -117,7 +117,7 @@ fn is_in_time(start: u64, count: u64, position: u64) -> bool
     }
 }
 
-// What a head tells with a start, or with none.
+// What a head states with a start, or with none.
 fn head_with(layout: Layout, start: Option<(u64, History)>, bytes: &[u8]) -> TrackHead
     requires { 32 ≤ length bytes.now }
     ensures kind { result.kind ≡ kind_of (slice_index bytes.now 0) }
@@ -269,7 +269,7 @@ fn read_word(harts: u16, most: u64, bytes: &[u8]) -> Option<Word>
     requires long { 20 ≤ length bytes.now }
     requires few { harts ≤ 256 }
     ensures value { result ≡ word_in harts most bytes.now }
-    ensures told { IfSome result (λ w. w ≡ word_at bytes.now) }
+    ensures stated { IfSome result (λ w. w ≡ word_at bytes.now) }
     ensures possible { IfSome result (λ w. IsTrue (is_possible w)) }
     ensures few { IfSome result (λ w. accesses w ≤ most) }
 {

@@ -127,7 +127,7 @@ fn start_of(track: &Track) -> Option<(u64, History)>
     Some((start, history))
 }
 
-// What a track tells before its words.
+// What a track states before its words.
 #[tactic(auto, unfolding(crate::specs::Spelling::spell_head))]
 fn head_of(track: &Track) -> TrackHead
     ensures { spell_head (head_meant result) ≡ spell_head track.now }

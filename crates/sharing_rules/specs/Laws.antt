@@ -13,6 +13,9 @@ pub mod Listed
 pub mod Lists
 pub mod Observed
 pub mod Opened
+pub mod OpenedDoubled
+pub mod OpenedObserved
+pub mod OpenedShifted
 pub mod Openings
 pub mod Orders
 pub mod Pairs

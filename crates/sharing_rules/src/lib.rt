@@ -3,8 +3,8 @@
 //!
 //! The definitions stand in `specs/`, and their laws in `specs/Laws/`, each with its proof, so that
 //! other crates can cite it. Nothing here goes over a list: the crates above keep two entries and a
-//! row of words for each line, and are proved to agree with what is defined here; `sharing_oracle`
-//! computes it plainly.
+//! row of words for each line, and are proved to agree with what is defined here. The tables of
+//! `detector_tests` and the cases of `worked_runs` state worked results.
 #![tactic(auto)]
 
 mod bases;

@@ -4,7 +4,7 @@ use Rattle.std.proofs.Common.{Err, OnErr, ◌∙◌, ap, sym, subst}
 use Rattle.std.proofs.Common.{append_assoc}
 use Rattle.std.proofs.Math.Seq.{take-append_seam, take-append-add}
 use Rattle.std.specs.Io.KnownBytes.{Appends}
-use Rattle.shelf.specs.Shelf.{Outside, Files, Told, Goes, ChangesAt, AppendsPrefix}
+use Rattle.shelf.specs.Shelf.{Outside, Files, Known, Goes, ChangesAt, AppendsPrefix}
 use Rattle.shelf.specs.OneFile.{Waiting, AddsUp, Sunk, HoldsFront}
 
 -- what holds holds at an error
@@ -19,9 +19,9 @@ grown (Some x) None file piece was appends = absurd appends
 grown (Some x) (Some y) file piece was appends = cc
 
 part_sent : (sink : Waiting) (pushed : List ℕ) (old new : Option Files)
-    → Told old (AddsUp sink pushed)
+    → Known old (AddsUp sink pushed)
     → Goes old new (ChangesAt sink.name (λ before now. AppendsPrefix before now sink.kept))
-    → Told new (λ files. (k : ℕ) × (files sink.name ≡ Some (take k pushed)))
+    → Known new (λ files. (k : ℕ) × (files sink.name ≡ Some (take k pushed)))
 part_sent sink pushed None None sunk goes = tt
 part_sent sink pushed None (Some now) sunk goes = absurd goes
 part_sent sink pushed (Some before) None sunk goes = absurd goes
@@ -46,8 +46,8 @@ front_of_sent sink pushed piece old new same sunk goes =
     part_sent sink pushed old.written new.written sunk (subst P same goes)
 
 part_put : (sink : Waiting) (pushed bytes : List ℕ) (written : Option Files)
-    → Told written (AddsUp sink pushed)
-    → Told written (λ files. (k : ℕ) × (files sink.name ≡ Some (take k (pushed ++ bytes))))
+    → Known written (AddsUp sink pushed)
+    → Known written (λ files. (k : ℕ) × (files sink.name ≡ Some (take k (pushed ++ bytes))))
 part_put sink pushed bytes None sunk = tt
 part_put sink pushed bytes (Some files) sunk =
     let joined : pushed ++ bytes ≡ sunk.0 ++ (sink.kept ++ bytes) = ap (λ x. x ++ bytes)

@@ -7,7 +7,7 @@ use Rattle.std.proofs.lemmas.Slice.Eq.{bytes_eq-Decides}
 use Rattle.std.specs.Io.KnownBytes.{Appends}
 use Rattle.std.specs.Str.{bytes_eq}
 use Rattle.shelf.specs.Laws.Files.{goes_then}
-use Rattle.shelf.specs.Laws.Told.{goes_map, goes_same}
+use Rattle.shelf.specs.Laws.Known.{goes_map, goes_same}
 use Rattle.shelf.specs.OneFile.{GoesOn, LosesNothing}
 use Rattle.shelf.specs.Shelf.{AppendsPrefix, ChangesAt, Files, Goes, Outside}
 

@@ -12,7 +12,7 @@ use Rattle.std.specs.Str.{bytes_eq}
 use Rattle.std.proofs.Math.Seq.{map-set_same}
 use Rattle.std.proofs.lemmas.List.{append-nil}
 use Rattle.std.proofs.Math.Seq.{take-append_seam}
-use Rattle.shelf.specs.Shelf.{Outside, Files, Told, Goes, HasCauseAt, ChangesAt, OnlyWrites}
+use Rattle.shelf.specs.Shelf.{Outside, Files, Known, Goes, HasCauseAt, ChangesAt, OnlyWrites}
 use Rattle.shelf.specs.Shelf.{OnlyWritesAndReads, Rose}
 use Rattle.shelf.specs.declared.shelf.ShelfError.{ShelfError}
 use Rattle.shelf.specs.declared.shelf.ShelfError.TheVariants.{Failed, NoMemory}
@@ -24,7 +24,7 @@ use Rattle.shelf.specs.OnTheirWay.{NothingWaits, changed_at, waiting_with}
 use Rattle.shelf.specs.Laws.Files.{Sunk-front, goes_by, goes_then, Others, output_names, HaveFronts}
 use Rattle.shelf.specs.Laws.Files.{AreHeld, all_begun, front_at, front_name, held_whole}
 use Rattle.shelf.specs.Laws.Files.{sunk_fronts, sunk_names}
-use Rattle.shelf.specs.Laws.Told.{writes_alone, writes_both}
+use Rattle.shelf.specs.Laws.Known.{writes_alone, writes_both}
 use Rattle.shelf.proofs.Lasting.{stays_then}
 
 pub changed_not : (outputs : List Output) (place : ℕ) → changed_at outputs place (λ b. b) ≡ outputs
@@ -188,25 +188,25 @@ fronts_moved : (f : Waiting) (g : List ℕ → List ℕ) (old new : Outside) (r 
     → AreApart (names_of files) → (outputs : List Output)
     → AreSunk files outputs old
     → HaveFronts (changed_at outputs i g) n
-fronts_moved f g old new r stops n told [] i below is apart outputs sunk = absurd (omega arith)
-fronts_moved f g old new r stops n told (x ∷ files) i below is apart [] sunk = absurd sunk
-fronts_moved f g old new r stops n told (x ∷ files) zero below is apart (o ∷ outputs) sunk =
+fronts_moved f g old new r stops n stated [] i below is apart outputs sunk = absurd (omega arith)
+fronts_moved f g old new r stops n stated (x ∷ files) i below is apart [] sunk = absurd sunk
+fronts_moved f g old new r stops n stated (x ∷ files) zero below is apart (o ∷ outputs) sunk =
     let name : f.name ≡ o.name = sym (ap (λ (y : Waiting). y.name) is) ∙ sunk.0 in
     let put : Sunk f o.bytes old = subst (λ (y : Waiting). Sunk y o.bytes old) is sunk.1 in
     let new_name : IsNew f.name (names_of files) =
     subst (λ (y : Waiting). IsNew y.name (names_of files)) is apart.0 in (
-      front_at o.name (g o.bytes) new n told
+      front_at o.name (g o.bytes) new n stated
           (subst (λ (m : List ℕ). HoldsFront m (g o.bytes) new) name (stops.front o.bytes put)),
-      sunk_fronts files outputs new n told
+      sunk_fronts files outputs new n stated
           (all_stay f.name files outputs old new new_name stops.stand sunk.2),
     )
-fronts_moved f g old new r stops n told (x ∷ files) (suc i) below is apart (o ∷ outputs) sunk =
+fronts_moved f g old new r stops n stated (x ∷ files) (suc i) below is apart (o ∷ outputs) sunk =
     let other : f.name ≢ x.name = new_at x.name files i f (omega arith) is apart.0 in
     let stays : Sunk x o.bytes new = stops.stand.sunk x o.bytes (λ e. other (sym e)) sunk.1 in (
-      front_at o.name o.bytes new n told
+      front_at o.name o.bytes new n stated
           (subst (λ (m : List ℕ). HoldsFront m o.bytes new) sunk.0
           (Sunk-front x o.bytes new stays)),
-      fronts_moved f g old new r stops n told files i (omega arith) is apart.1 outputs sunk.2,
+      fronts_moved f g old new r stops n stated files i (omega arith) is apart.1 outputs sunk.2,
     )
 
 rose_at : (f : Waiting) (g : List ℕ → List ℕ) (before now : List ℕ → ℕ) (old : Outside)
@@ -253,7 +253,7 @@ outputs_stopped f g old new r stops files i below is apart outputs before on =
     record {
       begun = goes_by (Others (names_of files)) (BegunInOrder (changed_at outputs i g))
           before.written new.written
-          (λ b n told there others. all_begun (changed_at outputs i g) b n
+          (λ b n stated there others. all_begun (changed_at outputs i g) b n
           (fronts_moved f g old new r stops n there files i below is apart outputs on.sunk)
           (subst (λ (l : List (List ℕ)). Others l b n) (sym names) others)) goes;
       cause = record {
@@ -268,11 +268,11 @@ outputs_stopped f g old new r stops files i below is apart outputs before on =
 
 -- ---- all is written
 
-held_told : (name kept bytes : List ℕ) (written : Option Files) → kept ≡ []
-    → Told written (AddsUp (record { name = name; kept = kept }) bytes)
-    → Told written (λ files. files name ≡ Some bytes)
-held_told name kept bytes None none sunk = tt
-held_told name kept bytes (Some files) none sunk =
+held_known : (name kept bytes : List ℕ) (written : Option Files) → kept ≡ []
+    → Known written (AddsUp (record { name = name; kept = kept }) bytes)
+    → Known written (λ files. files name ≡ Some bytes)
+held_known name kept bytes None none sunk = tt
+held_known name kept bytes (Some files) none sunk =
     let all : sunk.0 ++ [] ≡ bytes = subst (λ (l : List ℕ). sunk.0 ++ l ≡ bytes) none sunk.2 in
     sunk.1 ∙ ap (λ (l : List ℕ). Some l) (sym (append-nil sunk.0) ∙ all)
 
@@ -283,7 +283,7 @@ all_held files [] outside nothing sunk = tt
 all_held [] (o ∷ outputs) outside nothing sunk = absurd sunk
 all_held (f ∷ files) (o ∷ outputs) outside nothing sunk = (
   subst (λ (n : List ℕ). Holds n o.bytes outside) sunk.0
-      (held_told f.name f.kept o.bytes outside.written nothing.0 sunk.1),
+      (held_known f.name f.kept o.bytes outside.written nothing.0 sunk.1),
   all_held
       files outputs outside nothing.1 sunk.2,
 )
@@ -375,7 +375,7 @@ pub record FinishedTo (first now : List Waiting) (place : ℕ) (old new : Outsid
   pub begun : AreBegun (names_of now) new
   pub outputs : (outputs : List Output) (before : Outside) → IsOutputs first outputs before old
       → IsOutputs now outputs before new
-  pub tells : new.held ≡ old.held
+  pub keeps_held : new.held ≡ old.held
   pub gives : new.given ≡ old.given
   pub done : FirstDone place now
   pub stays : LosesNothing old new
@@ -574,7 +574,7 @@ finished_more first files i f after old mid new finished apart below is moves be
           (outputs_moved f after (λ put. put) mid new moves files i below is
           (subst AreApart (sym finished.names) apart) outputs before
           (finished.outputs outputs before on));
-      tells = moves.only.held ∙ finished.tells;
+      keeps_held = moves.only.held ∙ finished.keeps_held;
       gives = moves.only.given ∙ finished.gives;
       done = done_more files i after none finished.done;
       stays = stays_then old mid new finished.stays stays;

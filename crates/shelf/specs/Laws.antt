@@ -1,4 +1,4 @@
 -- The laws of the definitions, by what they are about.
 pub mod Agreeing
 pub mod Files
-pub mod Told
+pub mod Known

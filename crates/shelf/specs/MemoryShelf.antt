@@ -10,7 +10,7 @@ use Rattle.shelf.specs.declared.memory.MemoryShelf.{MemoryShelf}
 use Rattle.shelf.specs.declared.shelf.ShelfError.{ShelfError}
 use Rattle.shelf.specs.declared.shelf.ShelfError.TheVariants.{Failed, NoMemory}
 
--- it tells everything, and has one number of faults of a kind for all names alike
+-- everything is known of it, and it has one number of faults of a kind for all names alike
 abbrev pub memory_outside : MemoryShelf → Outside
 memory_outside shelf = record {
   held = Some (file_of shelf.files.items);

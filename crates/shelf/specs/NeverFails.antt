@@ -1,4 +1,4 @@
--- What a shelf that never fails means: it tells its files alone, and no number of faults ever
+-- What a shelf that never fails means: its files alone are known, and no number of faults ever
 -- rises.
 use Rattle.std.specs.Prelude.{List, [], Some, None}
 use Rattle.shelf.specs.Shelf.{Outside}
@@ -6,7 +6,7 @@ use Rattle.shelf.specs.HeldFile.{file_of}
 use Rattle.shelf.specs.declared.files.HeldFile.{HeldFile}
 use Rattle.shelf.specs.declared.never_fails.NeverFails.{NeverFails}
 
--- these files alone are told, nothing was read, and nothing ever fails
+-- these files alone are known, nothing was read, and nothing ever fails
 abbrev pub faultless_outside : List HeldFile → Outside
 faultless_outside files = record {
   held = Some (file_of files);

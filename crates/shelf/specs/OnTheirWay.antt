@@ -18,7 +18,7 @@ abbrev pub AreApart : List (List ℕ) → Type 0
 AreApart [] = Unit {0}
 AreApart (n ∷ names) = IsNew n names × AreApart names
 
--- each name is begun, where files are told
+-- each name is begun, where files are known
 abbrev pub AreBegun : List (List ℕ) → Outside → Type 0
 AreBegun [] outside = Unit {0}
 AreBegun (n ∷ names) outside = IsBegun n outside × AreBegun names outside

@@ -4,7 +4,7 @@ use Rattle.std.specs.Prelude.{◌≡◌, ◌≢◌, ℕ, List, [], ◌++◌, len
 use Rattle.std.specs.Prelude.{nat_lt}
 use Rattle.std.specs.Prelude.{if◌then◌else◌}
 use Rattle.std.specs.Option.{ForSome}
-use Rattle.shelf.specs.Shelf.{Outside, Files, Told, Goes}
+use Rattle.shelf.specs.Shelf.{Outside, Files, Known, Goes}
 
 -- the bytes that wait for the written file of a name
 pub record Waiting : Type 0 where
@@ -15,7 +15,7 @@ pub record Waiting : Type 0 where
 abbrev pub kept_of : List ℕ → List ℕ
 kept_of bytes = if nat_lt (length bytes) 65536 then bytes else []
 
--- the name has a written file, where files are told
+-- the name has a written file, where files are known
 abbrev pub IsBegun : List ℕ → Outside → Type 0
 IsBegun name outside = ForSome outside.written (λ files. IsSome (files name))
 
@@ -25,15 +25,15 @@ AddsUp sink pushed files = (file : List ℕ) × (files sink.name ≡ Some file)
     × (file ++ sink.kept ≡ pushed)
 
 abbrev pub Sunk : Waiting → List ℕ → Outside → Type 0
-Sunk sink pushed outside = Told outside.written (AddsUp sink pushed)
+Sunk sink pushed outside = Known outside.written (AddsUp sink pushed)
 
 -- the file of the name is these bytes
 abbrev pub Holds : List ℕ → List ℕ → Outside → Type 0
-Holds name bytes outside = Told outside.written (λ files. files name ≡ Some bytes)
+Holds name bytes outside = Known outside.written (λ files. files name ≡ Some bytes)
 
 -- the file of the name is a front of these bytes
 abbrev pub HoldsFront : List ℕ → List ℕ → Outside → Type 0
-HoldsFront name bytes outside = Told outside.written
+HoldsFront name bytes outside = Known outside.written
     (λ files. (k : ℕ) × (files name ≡ Some (take k bytes)))
 
 -- what stood in a file stands, and there may be more behind it

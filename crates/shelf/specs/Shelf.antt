@@ -21,7 +21,7 @@ pub record Given : Type 0 where
   pub room : ℕ
   pub bytes : List ℕ
 
--- all that a shelf means; the first three may be untold
+-- all that a shelf means; the first three may be unknown
 pub record Outside : Type 0 where
   -- the files that can be read
   pub held : Option Files
@@ -38,12 +38,13 @@ pub record Outside : Type 0 where
   -- what the reads have given that were answered Ok, the latest first
   pub given : List Given
 
--- where a meaning is told, P holds of it
-abbrev pub Told : {A : Type 0} → Option A → (A → Type 0) → Type 0
-Told None P = Unit {0}
-Told (Some x) P = P x
+-- where a meaning is known, P holds of it
+abbrev pub Known : {A : Type 0} → Option A → (A → Type 0) → Type 0
+Known None P = Unit {0}
+Known (Some x) P = P x
 
--- what is told stays told, and P leads from the old meaning to the new; what is untold stays untold
+-- what is known stays known, and P leads from the old meaning to the new; what is unknown stays
+-- unknown
 abbrev pub Goes : {A : Type 0} → Option A → Option A → (A → A → Type 0) → Type 0
 Goes None None P = Unit {0}
 Goes None (Some y) P = ⊥
@@ -56,9 +57,9 @@ pub record ChangesAt (name : List ℕ) (P : Option (List ℕ) → Option (List �
   pub here : P (old name) (new name)
   pub others : (n : List ℕ) → n ≢ name → new n ≡ old n
 
--- what is told is what was told before, or it is told no more
+-- what is known is what was known before, or it is known no more
 abbrev pub Narrows : {A : Type 0} → Option A → Option A → Type 0
-Narrows old new = Told new (λ x. old ≡ Some x)
+Narrows old new = Known new (λ x. old ≡ Some x)
 
 -- a number of faults is greater than before, or it stands at its end
 abbrev pub Rose : ℕ → ℕ → Type 0
@@ -90,7 +91,7 @@ abbrev pub Grows : List Given → List Given → Type 0
 Grows before now = (more : List Given) × (now ≡ more ++ before)
 
 -- nothing changes but the faults of reading, and what was given, which grows; and the files that are
--- held may be told no more
+-- held may be known no more
 pub record OnlyReads (old new : Outside) : Type 0 where
   pub held : Narrows old.held new.held
   pub written : new.written ≡ old.written
@@ -113,7 +114,7 @@ pub record OnlyWrites (old new : Outside) : Type 0 where
   pub given : new.given ≡ old.given
 
 -- the same, but reads that didn't fail may stand between the writes of one output, so more may be
--- given, and the files that are held may be told no more
+-- given, and the files that are held may be known no more
 pub record OnlyWritesAndReads (old new : Outside) : Type 0 where
   pub held : Narrows old.held new.held
   pub printed : new.printed ≡ old.printed
@@ -136,7 +137,7 @@ pub record Reads (file : List ℕ) (at n : ℕ) (buffer : List ℕ) : Type 0 whe
   pub bytes : take n buffer ≡ take n (drop at file)
   pub ends : n ≡ 0 → 0 < length buffer → length file ≤ at
 
--- told bytes grow by some prefix of these
+-- known bytes grow by some prefix of these
 abbrev pub AppendsPrefix : Option (List ℕ) → Option (List ℕ) → List ℕ → Type 0
 AppendsPrefix old new bytes = (k : ℕ) × Appends old new (take k bytes)
 
@@ -150,7 +151,7 @@ AppendsUnless old new result bytes = MatchResult result (λ _. Appends old new b
 abbrev pub Begins : {T E : Type 0} → Result T E → Option (List ℕ) → Option (List ℕ) → Type 0
 Begins result old new = MatchResult result (λ _. new ≡ Some []) (λ _. (new ≡ old) ⊎ (new ≡ Some []))
 
--- a told text grows by these bytes, and one that is untold stays untold
+-- a known text grows by these bytes, and one that is unknown stays unknown
 abbrev pub Adds : Option (List ℕ) → Option (List ℕ) → List ℕ → Type 0
 Adds old new bytes = Goes old new (λ before now. now ≡ before ++ bytes)
 

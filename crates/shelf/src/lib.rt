@@ -1,10 +1,10 @@
 //! The outside, as the program sees it: files under names, and one printed text.
 //!
 //! [`Shelf`] is the one way out of the program. Its contract speaks of what the shelf means: the
-//! files that can be read, what was written and printed, where the shelf tells it, how often calls
-//! have failed, and what reads have given, which `specs/Agreeing.antt` puts together to what they
-//! show of a file. [`MemoryShelf`] keeps all in memory and fails where it is told to,
-//! [`NeverFails`] never fails, and [`fetch`] reads a whole file from any shelf.
+//! files that can be read, what was written and printed, where that is known, how often calls have
+//! failed, and what reads have given, which `specs/Agreeing.antt` puts together to what they show
+//! of a file. [`MemoryShelf`] keeps all in memory and fails where it is asked to, [`NeverFails`]
+//! never fails, and [`fetch`] reads a whole file from any shelf.
 //!
 //! [`Outputs`] is a list of named files on their way to a shelf. Each is begun once, gets its bytes
 //! in pieces, and is whole once all is finished. What is put into a file waits until there are 64

@@ -4,7 +4,7 @@ ghost use Rattle.std.specs.Prelude.{IsOkUnless, IsErrOf, IfSome, IsOk, IsSome};
 ghost use Rattle.std.specs.Option.{option_copied, ForSome};
 ghost use Rattle.std.specs.Io.KnownBytes.{Appends};
 ghost use Rattle.std.specs.Io.{ReadsAtMost};
-ghost use Rattle.shelf.specs.Shelf.{content, Told, Goes, ChangesAt, HasCause, HasCauseAt, given_after};
+ghost use Rattle.shelf.specs.Shelf.{content, Known, Goes, ChangesAt, HasCause, HasCauseAt, given_after};
 ghost use Rattle.shelf.specs.Shelf.{OnlyReads, OnlyWrites, OnlyPrints, Reads, AddsUnless};
 ghost use Rattle.shelf.specs.Shelf.{AppendsUnless, Begins};
 ghost use Rattle.shelf.specs.Failing.{failing_at, kept_of};
@@ -25,7 +25,7 @@ pub struct Failing {
     pub keep: u32,
 }
 
-/// Files and a printed text in memory. It tells everything.
+/// Files and a printed text in memory. All of these are known.
 ///
 /// A call answers `Failed` exactly where its number is among those that are to fail, or where it
 /// reads a name that isn't held. It counts its faults by kind, for all names alike. A number of
@@ -115,7 +115,7 @@ impl Shelf for MemoryShelf {
     /// Reads all bytes from `at` on for which there is room. Takes no memory.
     fn read_at(&mut self, name: &str, at: u64, into: &mut [u8]) -> Result<usize, ShelfError>
         ensures bound { ReadsAtMost result into.new }
-        ensures bytes { IfOk result (λ n. Told (memory_outside self.new).held
+        ensures bytes { IfOk result (λ n. Known (memory_outside self.new).held
             (λ files. Reads (content files name.now) at n into.new)) }
         ensures given { (memory_outside self.new).given
             ≡ given_after result name.now at into.new (memory_outside self.old).given }
@@ -128,7 +128,7 @@ impl Shelf for MemoryShelf {
             ↔ (IsSome (next_failure self.old) ⊎ ¬ (IsHeld self.old name.now)) }
         ensures ok { IsOk result ↔ ((next_failure self.old ≡ None) × IsHeld self.old name.now) }
         ensures memory { IsOkUnless result ShelfError.Failed }
-        ensures count { IfOk result (λ n. Told (memory_outside self.old).held
+        ensures count { IfOk result (λ n. Known (memory_outside self.old).held
             (λ files. n ≡ min (length (content files name.now) - at) (length into.new))) }
         ensures faults { (n : List ℕ) → (memory_outside self.new).read_faults n
             ≡ faults_after result ((memory_outside self.old).read_faults n) }

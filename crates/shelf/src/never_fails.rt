@@ -2,7 +2,7 @@
 ghost use Rattle.std.specs.Prelude.{◌≡◌, ◌-◌, min, length, IfOk, IsOk, IsSome};
 ghost use Rattle.std.specs.Option.{ForSome};
 ghost use Rattle.std.specs.Io.{ReadsAtMost};
-ghost use Rattle.shelf.specs.Shelf.{content, Told, Goes, ChangesAt, HasCause, HasCauseAt, given_after};
+ghost use Rattle.shelf.specs.Shelf.{content, Known, Goes, ChangesAt, HasCause, HasCauseAt, given_after};
 ghost use Rattle.shelf.specs.Shelf.{OnlyReads, OnlyWrites, OnlyPrints, Reads, AddsUnless};
 ghost use Rattle.shelf.specs.Shelf.{AppendsUnless, Begins};
 ghost use Rattle.shelf.specs.HeldFile.{file_of};
@@ -11,7 +11,7 @@ use crate::files::read_file;
 use crate::read_log::{ReadBytes, ReadLog};
 use crate::{HeldFile, Shelf, ShelfError};
 
-/// Files in memory that are read without a fault. It tells these files alone: what is written or
+/// Files in memory that are read without a fault. These files alone are known: what is written or
 /// printed is dropped. Its calls take no memory and always answer Ok.
 #[derive(Drop)]
 pub struct NeverFails {
@@ -54,7 +54,7 @@ impl Shelf for NeverFails {
     /// empty file.
     fn read_at(&mut self, name: &str, at: u64, into: &mut [u8]) -> Result<usize, ShelfError>
         ensures bound { ReadsAtMost result into.new }
-        ensures bytes { IfOk result (λ n. Told (never_fails_outside self.new).held
+        ensures bytes { IfOk result (λ n. Known (never_fails_outside self.new).held
             (λ files. Reads (content files name.now) at n into.new)) }
         ensures given { (never_fails_outside self.new).given
             ≡ given_after result name.now at into.new (never_fails_outside self.old).given }
@@ -63,7 +63,7 @@ impl Shelf for NeverFails {
             result }
         ensures only { OnlyReads (never_fails_outside self.old) (never_fails_outside self.new) }
         ensures always { IsOk result }
-        ensures count { IfOk result (λ n. Told (never_fails_outside self.old).held
+        ensures count { IfOk result (λ n. Known (never_fails_outside self.old).held
             (λ files. n ≡ min (length (content files name.now) - at) (length into.new))) }
     {
         let count = read_or_none(&self.files, name, at, into);

@@ -68,7 +68,7 @@ impl<'a> Outputs<'a> {
             → IsOutputs self.old outputs before (S.outside shelf.old)
             → AreCut (outputs ++ record { name = name.now; bytes = [] } ∷ []) before
             (S.outside shelf.new) error) }
-        ensures tells { (S.outside shelf.new).held ≡ (S.outside shelf.old).held }
+        ensures keeps_held { (S.outside shelf.new).held ≡ (S.outside shelf.old).held }
         ensures gives { (S.outside shelf.new).given ≡ (S.outside shelf.old).given }
     {
         match Sink::begin(alloc, shelf, name) {
@@ -85,8 +85,8 @@ impl<'a> Outputs<'a> {
     ///
     /// At an error each file is a front of all that was put into it, these bytes included, and none
     /// has lost what was written to it. `Failed` comes only where the faults of writing one of the
-    /// names rose, `NoMemory` for want of memory. The condition is that each file is begun, where the
-    /// shelf tells what is written.
+    /// names rose, `NoMemory` for want of memory. The condition is that each file is begun, where
+    /// what is written is known.
     #[inline]
     pub fn put<S: Shelf>(
         &mut self,
@@ -108,7 +108,7 @@ impl<'a> Outputs<'a> {
             → IsOutputs self.old outputs before (S.outside shelf.old)
             → AreCut (outputs_with outputs place bytes.now) before (S.outside shelf.new) error) }
         ensures stays { LosesNothing (S.outside shelf.old) (S.outside shelf.new) }
-        ensures tells { (S.outside shelf.new).held ≡ (S.outside shelf.old).held }
+        ensures keeps_held { (S.outside shelf.new).held ≡ (S.outside shelf.old).held }
         ensures gives { (S.outside shelf.new).given ≡ (S.outside shelf.old).given }
     {
         let file = &mut self.files[place];
@@ -120,8 +120,8 @@ impl<'a> Outputs<'a> {
     ///
     /// At an error each file is a front of all that was put into it, and none has lost what was
     /// written to it. `Failed` comes only where the faults of writing one of the names rose,
-    /// `NoMemory` for want of memory. The condition is that each file is begun, where the shelf tells
-    /// what is written.
+    /// `NoMemory` for want of memory. The condition is that each file is begun, where what is
+    /// written is known.
     pub fn finish<S: Shelf>(&mut self, shelf: &mut S) -> Result<(), ShelfError>
         requires { AreBegun (names_of self.old) (S.outside shelf.old) }
         ensures count { OnOk result (length self.new ≡ length self.old) }
@@ -138,7 +138,7 @@ impl<'a> Outputs<'a> {
             → IsOutputs self.old outputs before (S.outside shelf.old)
             → AreCut outputs before (S.outside shelf.new) error) }
         ensures stays { LosesNothing (S.outside shelf.old) (S.outside shelf.new) }
-        ensures tells { (S.outside shelf.new).held ≡ (S.outside shelf.old).held }
+        ensures keeps_held { (S.outside shelf.new).held ≡ (S.outside shelf.old).held }
         ensures gives { (S.outside shelf.new).given ≡ (S.outside shelf.old).given }
     {
         for place in 0..self.files.len() {

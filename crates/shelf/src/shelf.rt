@@ -2,7 +2,7 @@
 ghost use Rattle.std.specs.Prelude.{◌≡◌, IfOk, IsSome};
 ghost use Rattle.std.specs.Option.{ForSome};
 ghost use Rattle.std.specs.Io.{ReadsAtMost};
-ghost use Rattle.shelf.specs.Shelf.{Outside, content, Told, Goes, ChangesAt, HasCause, HasCauseAt};
+ghost use Rattle.shelf.specs.Shelf.{Outside, content, Known, Goes, ChangesAt, HasCause, HasCauseAt};
 ghost use Rattle.shelf.specs.Shelf.{given_after};
 ghost use Rattle.shelf.specs.Shelf.{OnlyReads, OnlyWrites, OnlyPrints, Reads, AddsUnless};
 ghost use Rattle.shelf.specs.Shelf.{AppendsUnless, Begins};
@@ -53,14 +53,14 @@ pub enum RunShown<'a> {
 /// Files under names and a printed text, any of whose calls may fail.
 ///
 /// A file that is read and a file that is written under one name have nothing to do with each
-/// other. A shelf need not tell what it holds, what was written or what was printed: what the
-/// clauses say of these holds where they are told. What it holds stays the same as long as it is
-/// told, and only a read may make it untold: a shelf that can't keep others from changing its
-/// files, as one on a disk, tells them for as long as what is read is theirs, and no more once a
-/// read gave other bytes.
+/// other. What a shelf holds, what was written and what was printed need not be known: what the
+/// clauses say of these holds where they are known. What it holds stays the same as long as it is
+/// known, and only a read may make it unknown: where a shelf can't keep others from changing its
+/// files, as one on a disk, they are known for as long as what is read is theirs, and no more once
+/// a read gave other bytes.
 pub trait Shelf {
-    /// What is held, was written and was printed, where told, how often calls have failed, and what
-    /// reads have given.
+    /// What is held, was written and was printed, where known, how often calls have failed, and
+    /// what reads have given.
     ghost outside: { Self → Outside };
 
     /// Reads bytes of the held file of a name into the front of `into`, from the byte `at` on, and
@@ -70,7 +70,7 @@ pub trait Shelf {
     /// `Failed` comes only where the faults of reading this name rose.
     fn read_at(&mut self, name: &str, at: u64, into: &mut [u8]) -> Result<usize, ShelfError>
         ensures bound { ReadsAtMost result into.new }
-        ensures bytes { IfOk result (λ n. Told (outside self.new).held
+        ensures bytes { IfOk result (λ n. Known (outside self.new).held
             (λ files. Reads (content files name.now) at n into.new)) }
         ensures given { (outside self.new).given
             ≡ given_after result name.now at into.new (outside self.old).given }

@@ -1,7 +1,7 @@
 // A whole file, read in pieces.
 ghost use Rattle.std.specs.Prelude.{◌≡◌, ◌<◌, ◌≤◌, ◌+◌, ◌^◌, [], true, false, length, IfOk};
 ghost use Rattle.std.specs.Prelude.{OnOk, IsErrOf};
-ghost use Rattle.shelf.specs.Shelf.{content, Told, HasCauseAt, OnlyReads};
+ghost use Rattle.shelf.specs.Shelf.{content, Known, HasCauseAt, OnlyReads};
 ghost use Rattle.shelf.specs.Fetch.{HasFetchCause, IsFront};
 
 use crate::{Shelf, ShelfError};
@@ -60,14 +60,14 @@ fn read_piece<S: Shelf>(
     piece: &mut [u8],
 ) -> Result<bool, ShelfError>
     requires room { 0 < length piece.old }
-    requires front { Told (S.outside shelf.old).held
+    requires front { Known (S.outside shelf.old).held
         (λ files. IsFront (content files name.now) bytes.old.items) }
     ensures more { IfOk result (λ more. more ≡ true
         → length bytes.old.items < length bytes.new.items) }
     ensures at_most { length bytes.new.items ≤ length bytes.old.items + length piece.old }
-    ensures front { OnOk result (Told (S.outside shelf.new).held
+    ensures front { OnOk result (Known (S.outside shelf.new).held
         (λ files. IsFront (content files name.now) bytes.new.items)) }
-    ensures all { IfOk result (λ more. more ≡ false → Told (S.outside shelf.new).held
+    ensures all { IfOk result (λ more. more ≡ false → Known (S.outside shelf.new).held
         (λ files. bytes.new.items ≡ content files name.now)) }
     ensures bytes_stay { IfOk result (λ more. more ≡ false → bytes.new.items ≡ bytes.old.items) }
     ensures cause { HasCauseAt name.now
@@ -94,10 +94,10 @@ fn read_pieces<S: Shelf>(
     requires limit { limit < 2 ^ 63 }
     requires room { 0 < length piece.old }
     requires empty { bytes.old.items ≡ [] }
-    ensures all { IfOk result (λ all. all ≡ true → Told (S.outside shelf.new).held
+    ensures all { IfOk result (λ all. all ≡ true → Known (S.outside shelf.new).held
         (λ files. bytes.new.items ≡ content files name.now)) }
     ensures within { IfOk result (λ all. all ≡ true → length bytes.new.items ≤ limit) }
-    ensures too_long { IfOk result (λ all. all ≡ false → Told (S.outside shelf.new).held
+    ensures too_long { IfOk result (λ all. all ≡ false → Known (S.outside shelf.new).held
         (λ files. limit < length (content files name.now))) }
     ensures cause { HasCauseAt name.now
         (S.outside shelf.old).read_faults (S.outside shelf.new).read_faults result }
@@ -117,10 +117,10 @@ fn read_pieces<S: Shelf>(
 /// condition is a limit below 2^63.
 ///
 /// `ReadFault` comes only where the shelf's faults of reading this name rose in this call;
-/// `TooLong` exactly where the shelf gave `limit + 1` bytes, which where the shelf still tells its
-/// files are the bytes of a longer one; `NoMemory` for want of memory. Nothing of the shelf changes
-/// but its faults of reading, which stay at each other answer than `ReadFault`, and that its files
-/// may be told no more.
+/// `TooLong` exactly where the shelf gave `limit + 1` bytes, which where the shelf's files are
+/// still known are the bytes of a longer one; `NoMemory` for want of memory. Nothing of the shelf
+/// changes but its faults of reading, which stay at each other answer than `ReadFault`, and that
+/// its files may be known no more.
 pub fn fetch<S: Shelf>(
     alloc: Global,
     shelf: &mut S,
@@ -129,10 +129,10 @@ pub fn fetch<S: Shelf>(
 ) -> Result<Vec<u8>, FetchError>
     requires { limit < 2 ^ 63 }
     // What is given are the held bytes, all of them.
-    ensures whole { IfOk result (λ bytes. Told (S.outside shelf.new).held
+    ensures whole { IfOk result (λ bytes. Known (S.outside shelf.new).held
         (λ files. bytes.items ≡ content files name.now)) }
     ensures within { IfOk result (λ bytes. length bytes.items ≤ limit) }
-    ensures too_long { IsErrOf result FetchError.TooLong → Told (S.outside shelf.new).held
+    ensures too_long { IsErrOf result FetchError.TooLong → Known (S.outside shelf.new).held
         (λ files. limit < length (content files name.now)) }
     // A fault of reading has its cause, and no number rises with another answer.
     ensures cause { HasFetchCause name.now (S.outside shelf.old) (S.outside shelf.new) result }

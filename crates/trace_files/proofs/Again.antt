@@ -1,6 +1,6 @@
 -- What is left of a copy, by what its second reading says.
 use Rattle.std.proofs.Common.{◌≡◌, ℕ, List, [], Option, Some, sym, subst}
-use Rattle.shelf.specs.Shelf.{Files, Outside, Told, content}
+use Rattle.shelf.specs.Shelf.{Files, Outside, Known, content}
 use Rattle.shelf.specs.declared.shelf.ShelfError.{ShelfError}
 use Rattle.shelf.specs.Files.{AreCut, GoOn, Output}
 use Rattle.shelf.specs.OneFile.{Waiting}
@@ -19,7 +19,7 @@ module _ (held : Option Files) (name : List ℕ) (names : List (List ℕ))
     (so_far : List TraceRecord → List Output)
     (named : (seen : List TraceRecord) → output_names (so_far seen) ≡ names)
     (goes : (seen : List TraceRecord) → AreFirst held name seen
-    → Told held (λ fs. (t : Trace) → trace_of (content fs name) ≡ Some t
+    → Known held (λ fs. (t : Trace) → trace_of (content fs name) ≡ Some t
     → GoOn (so_far seen) (outputs t)))
   where
     -- within a call that writes, once these records came

@@ -1,11 +1,11 @@
 -- A conversion on its way to the file that it would be.
 use Rattle.std.proofs.Common.{None, ◌≡◌, ℕ, List, [], ◌∷◌, ◌++◌, length, Option, Some, refl, sym, ap, ◌∙◌}
 use Rattle.std.proofs.Common.{subst}
-use Rattle.shelf.specs.Shelf.{Files, Narrows, Outside, Told, content}
+use Rattle.shelf.specs.Shelf.{Files, Narrows, Outside, Known, content}
 use Rattle.shelf.specs.declared.shelf.ShelfError.{ShelfError}
 use Rattle.shelf.specs.Files.{AreCut, AreWritten, GoOn, Output}
 use Rattle.shelf.specs.OneFile.{Waiting}
-use Rattle.shelf.specs.Laws.Told.{told_both, told_still}
+use Rattle.shelf.specs.Laws.Known.{known_both, known_still}
 use Rattle.trace_format.specs.declared.record.Version.{Version}
 use Rattle.trace_format.specs.declared.record.TraceRecord.{TraceRecord}
 use Rattle.trace_format.specs.Rules.{touches_in}
@@ -21,7 +21,7 @@ use Rattle.trace_files.specs.Copying.{write_fault}
 use Rattle.trace_files.specs.OneTrace.{trace_so_far}
 use Rattle.trace_files.proofs.Again.{stopped_reading, stopped_writing}
 use Rattle.trace_files.proofs.Others.{spelled_other}
-use Rattle.trace_files.proofs.Stopped.{first_all, told_parts}
+use Rattle.trace_files.proofs.Stopped.{first_all, known_parts}
 
 module _ (held : Option Files) (name output : List ℕ) (first : Passed)
     (accepted : IsAccepted held name first) where
@@ -39,13 +39,13 @@ module _ (held : Option Files) (name output : List ℕ) (first : Passed)
       (refl, (on.0, spelled_other t.version t.header t.items t.ending ∙ on.1), tt)
 
   pub goes : (seen : List TraceRecord) → AreFirst held name seen
-      → Told held (λ fs. (t : Trace) → trace_of (content fs name) ≡ Some t
+      → Known held (λ fs. (t : Trace) → trace_of (content fs name) ≡ Some t
       → GoOn (so_far seen) (conversion output t))
   goes seen are =
-      told_both held (λ fs parts more t is.
+      known_both held (λ fs parts more t is.
       let same = parts t is in
       goes_on t same.0 seen more.0 same.1 (sym (trace-records (content fs name) t is) ∙ more.1))
-      (told_parts held name first accepted) are
+      (known_parts held name first accepted) are
 
   -- once all records of a trace came, the file is that of the trace
   whole : (second : Passed) (items : List TraceRecord) → AreAlike first second
@@ -89,8 +89,8 @@ module _ (held : Option Files) (name output : List ℕ) (first : Passed)
           abbrev trace : Trace
           trace = trace_with second copied.items
 
-          told : Told held (λ fs. copied.bytes ≡ content fs name)
-          told = told_still (λ fs. copied.bytes ≡ content fs name) mid.held held narrow
+          stated : Known held (λ fs. copied.bytes ≡ content fs name)
+          stated = known_still (λ fs. copied.bytes ≡ content fs name) mid.held held narrow
               copied.whole
 
           pub copied_whole : AreWritten (files (all_records trace)) before now
@@ -99,10 +99,10 @@ module _ (held : Option Files) (name output : List ℕ) (first : Passed)
               × (second.ending.accesses ≡ length (touches_in t.items)) × IsUnfiltered t) before now
           copied_whole written = record {
             bytes = copied.bytes;
-            whole = told;
+            whole = stated;
             trace = trace;
             is = copied.is;
-            told = (
+            stated = (
               is ∙ ap other_version (sym alike.version),
               (trace-parts copied.bytes trace copied.is).counted,
               ap (λ (h : Header). near_refusal None h.near) alike.header ∙ accepted.plain,
@@ -119,6 +119,6 @@ module _ (held : Option Files) (name output : List ℕ) (first : Passed)
               (write_fault error)
           stopped_ending error cut =
               stopped_put (all_records trace)
-              (first_all held name copied.bytes trace told copied.is) before now error
+              (first_all held name copied.bytes trace stated copied.is) before now error
               (subst (λ (f : List TraceRecord → List Output). AreCut (f (all_records trace)) before
               now error) so_named cut)

@@ -7,7 +7,7 @@ use Rattle.shelf.specs.Shelf.{Given}
 use Rattle.trace_passes.specs.declared.passes.Passed.{Passed}
 use Rattle.trace_passes.specs.declared.wanted.Refusal.{Refusal}
 use Rattle.trace_passes.specs.Passes.{near_refusal, HasParts, refusal_of, trace_of, trace_with}
-use Rattle.trace_files.specs.Copies.{IsOther, unfiltered, difference, refusal_again, told_of}
+use Rattle.trace_files.specs.Copies.{IsOther, unfiltered, difference, refusal_again, passed_of}
 use Rattle.trace_files.specs.Laws.Copies.{plain_unrefused}
 
 -- as no trace
@@ -18,7 +18,7 @@ no_trace_again name first refusal before now shown =
     shown_then name (λ file. refusal_of unfiltered file ≡ Some refusal)
     (λ file. refusal_again first file ≡ Some refusal) before now
     (λ file is. ap (λ (o : Option Refusal). option_or o
-    (option_and_then (λ t. difference first (told_of t)) (trace_of file))) is) shown
+    (option_and_then (λ t. difference first (passed_of t)) (trace_of file))) is) shown
 
 -- beside the first reading
 pub other_again : (name : List ℕ) (first second : Passed) (refusal : Refusal)
@@ -28,6 +28,6 @@ pub other_again : (name : List ℕ) (first second : Passed) (refusal : Refusal)
 other_again name first second refusal before now shown plain differs =
     shown_then name (HasParts second) (λ file. refusal_again first file ≡ Some refusal) before now
     (λ file found. ap (λ (o : Option Refusal). option_or o
-    (option_and_then (λ t. difference first (told_of t)) (trace_of file)))
+    (option_and_then (λ t. difference first (passed_of t)) (trace_of file)))
     (plain_unrefused file (trace_with second found.0) found.1 plain)
-    ∙ ap (option_and_then (λ t. difference first (told_of t))) found.1 ∙ differs) shown
+    ∙ ap (option_and_then (λ t. difference first (passed_of t))) found.1 ∙ differs) shown

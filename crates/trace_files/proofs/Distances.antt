@@ -16,13 +16,13 @@ groups_taken z = grind (arith, nat_tests)
 few_more : (z a b : ℕ) → z ≤ a + b + 1 → taken z ≤ taken a + taken b + 1
 few_more z a b within = grind (arith, nat_tests)
 
--- a distance as it is told, by how far up it is
-abbrev told : ℕ → ℕ
-told up = cond (ltb up (2 ^ 31)) (2 * up) (2 * (2 ^ 32 - up) - 1)
+-- a distance as it is recorded, by how far up it is
+abbrev stated : ℕ → ℕ
+stated up = cond (ltb up (2 ^ 31)) (2 * up) (2 * (2 ^ 32 - up) - 1)
 
-told_through : (u w s : ℕ) → u < 2 ^ 32 → w < 2 ^ 32 → s < 2 ^ 32
-    → ((s ≡ u + w) ⊎ (s + 2 ^ 32 ≡ u + w)) → told s ≤ told u + told w + 1
-told_through u w s low_u low_w low_s is = grind (arith, nat_tests)
+stated_through : (u w s : ℕ) → u < 2 ^ 32 → w < 2 ^ 32 → s < 2 ^ 32
+    → ((s ≡ u + w) ⊎ (s + 2 ^ 32 ≡ u + w)) → stated s ≤ stated u + stated w + 1
+stated_through u w s low_u low_w low_s is = grind (arith, nat_tests)
 
 -- how far an address is up from another one
 abbrev up_from : ℕ → ℕ → ℕ
@@ -43,7 +43,7 @@ pub groups_through : (a b c : ℕ) → a < 2 ^ 32 → b < 2 ^ 32 → c < 2 ^ 32
 groups_through a b c low_a low_b low_c =
     let few : taken (distance a c) ≤ taken (distance a b) + taken (distance b c) + 1 =
     few_more (distance a c) (distance a b) (distance b c)
-    (told_through (up_from a b) (up_from b c) (up_from a c) (up_small a b) (up_small b c)
+    (stated_through (up_from a b) (up_from b c) (up_from a c) (up_small a b) (up_small b c)
     (up_small a c) (up_through a b c low_a low_b low_c)) in
     rw (
       groups_taken (distance a c),

@@ -11,13 +11,13 @@ use Rattle.std.proofs.lemmas.List.Elements.{All-cons, All-nil, All-weaker, filte
 use Rattle.std.proofs.lemmas.List.Folds.{list_any-append}
 use Rattle.base.specs.Touch.{Touch}
 use Rattle.trace_format.specs.declared.record.TraceEnd.{TraceEnd}
-use Rattle.shelf.specs.Shelf.{Files, Goes, Narrows, OnlyReads, Outside, Rose, Told, content}
+use Rattle.shelf.specs.Shelf.{Files, Goes, Narrows, OnlyReads, Outside, Rose, Known, content}
 use Rattle.shelf.specs.Fetch.{IsFront}
 use Rattle.shelf.specs.declared.shelf.ShelfError.{ShelfError}
 use Rattle.shelf.specs.declared.shelf.ShelfError.TheVariants as errors
 use Rattle.shelf.specs.Files.{AreCut, AreWritten, BegunInOrder, Output, RoseAmong, one_file}
 use Rattle.shelf.specs.Laws.Files.{AreCut-longer, IsOutputs-cut}
-use Rattle.shelf.specs.Laws.Told.{goes_map, narrows_then, told_map}
+use Rattle.shelf.specs.Laws.Known.{goes_map, narrows_then, known_map}
 use Rattle.trace_format.specs.declared.fault.TraceFault.{TraceFault}
 use Rattle.trace_format.specs.declared.fault.TraceFault.TheVariants as trace_faults
 use Rattle.trace_format.specs.declared.read_so_far.ReadSoFar.{ReadSoFar}
@@ -137,9 +137,9 @@ none_held : (near : ℕ) (table : List Move) (seen : List TraceRecord) (fault : 
 none_held near table seen fault none first =
     let no_one : None ≡ Some fault = ap (first_fault near table) (sym none) ∙ first in absurd cc
 
--- the bytes where an access is refused, or all that are told behind them
+-- the bytes where an access is refused, or all that are known behind them
 held_by : (held : Option Files) (trace file : List ℕ) (table : List Move) (bytes : List ℕ)
-    → Told held (λ fs. IsFront (content fs trace) bytes) → (before now : Outside)
+    → Known held (λ fs. IsFront (content fs trace) bytes) → (before now : Outside)
     (fault : MoveFault)
     → IsHeldUp table file (head_in bytes) (reading_of bytes).0 before now fault
     → IsRefused held trace file table before now fault
@@ -180,7 +180,7 @@ held_by (Some files) trace file table bytes front before now fault stops =
     }
 
 module _ (held : Option Files) (trace file : List ℕ) (table : List Move) (bytes : List ℕ)
-    (front : Told held (λ fs. IsFront (content fs trace) bytes))
+    (front : Known held (λ fs. IsFront (content fs trace) bytes))
   where
     abbrev pub head : Option (Version × Header)
     head = version_and_header (reading_of bytes).1.progress
@@ -200,7 +200,7 @@ module _ (held : Option Files) (trace file : List ℕ) (table : List Move) (byte
         → Goes before.written now.written P =
         λ P goes. subst (λ (w : Option Files). Goes before.written w P) (sym written) goes in
         record {
-          fronts = told_map held (λ fs f.
+          fronts = known_map held (λ fs f.
               let longer = written_of table file (content fs trace) in
               later (BegunInOrder longer)
               (AreCut-longer outs longer before last error
@@ -273,7 +273,7 @@ module _ (held : Option Files) (trace file : List ℕ) (table : List Move) (byte
 -- a trace that is refused, all of whose records were put
 pub refused_whole : (held : Option Files) (trace file : List ℕ) (table : List Move)
     (all : List ℕ) (refusal : Refusal) (before now : Outside)
-    → Told held (λ files. all ≡ content files trace) → refusal_of any all ≡ Some refusal
+    → Known held (λ files. all ≡ content files trace) → refusal_of any all ≡ Some refusal
     → IsAllWritten table file (version_and_header (reading_of all).1.progress) (reading_of all).0
     before now
     → IsRefused held trace file table before now (faults.Refused refusal)
@@ -379,7 +379,7 @@ file_of_whole table file bytes t is =
 
 pub whole_copied : (held : Option Files) (trace file : List ℕ) (table : List Move) (m : Mover)
     (passed : Passed) (bytes : List ℕ) (items : List TraceRecord) (made : Moved)
-    (before mid now : Outside) → Told held (λ files. bytes ≡ content files trace)
+    (before mid now : Outside) → Known held (λ files. bytes ≡ content files trace)
     → trace_of bytes ≡ Some (trace_with passed items)
     → HasMoved table file m (version_and_header (reading_of bytes).1.progress)
     (reading_of bytes).0 before mid
@@ -403,7 +403,7 @@ whole_copied held trace file table m passed bytes items made before mid now whol
       whole = whole;
       trace = t;
       is = is;
-      told = record {
+      stated = record {
         free = free_touches near table items parts.0;
         near = near_touches near table items parts.0;
         accesses = accesses ∙ (trace-parts bytes t is).counted;
@@ -429,7 +429,7 @@ pub record Gave (held : Option Files) (trace file : List ℕ) (table : List Move
   pub given_up : HasGivenUp held trace file table before now fault
 
 module _ (held : Option Files) (trace file : List ℕ) (table : List Move) (bytes : List ℕ)
-    (front : Told held (λ fs. IsFront (content fs trace) bytes)) (before now : Outside)
+    (front : Known held (λ fs. IsFront (content fs trace) bytes)) (before now : Outside)
   where
     -- within a call that writes
     pub gave_stopped : (fault : MoveFault)
@@ -504,12 +504,12 @@ module _ (held : Option Files) (trace file : List ℕ) (table : List Move) (byte
 
 -- at a trace that is refused
 module _ (held : Option Files) (trace file : List ℕ) (table : List Move) (all : List ℕ)
-    (whole : Told held (λ fs. all ≡ content fs trace)) (refusal : Refusal)
+    (whole : Known held (λ fs. all ≡ content fs trace)) (refusal : Refusal)
     (is : refusal_of any all ≡ Some refusal)
     (other : refusal ≢ refusals.Trace trace_faults.NoMemory) (before now : Outside)
   where
-    front_of_all : Told held (λ fs. IsFront (content fs trace) all)
-    front_of_all = told_map held (λ fs same.
+    front_of_all : Known held (λ fs. IsFront (content fs trace) all)
+    front_of_all = known_map held (λ fs same.
         subst (λ (l : List ℕ). IsFront l all) same
         (record { within = omega arith; same = sym (take_all (length all) all (omega arith)) })) whole
 

@@ -9,7 +9,7 @@ use Rattle.shelf.specs.OneFile.{Waiting}
 use Rattle.shelf.specs.OnTheirWay.{IsOutputs}
 use Rattle.shelf.specs.Laws.Agreeing.{front_none}
 use Rattle.shelf.specs.Laws.Files.{IsOutputs-read}
-use Rattle.shelf.specs.Laws.Told.{narrows_same, narrows_then, told_still}
+use Rattle.shelf.specs.Laws.Known.{narrows_same, narrows_then, known_still}
 use Rattle.trace_format.specs.declared.record.TraceRecord.{TraceRecord}
 use Rattle.trace_format.specs.Reading.{read_on, reading_of}
 use Rattle.trace_passes.specs.Cursors.{GoesOn, HasCome, Reached}
@@ -26,7 +26,7 @@ pub record PutTo {A : Type 0} (waiting : A → List Waiting)
   pub outputs : (seen : List TraceRecord) (before : Outside) → has first seen
       → IsOutputs (waiting first) (files first seen) before old
       → IsOutputs (waiting now) (files first (seen ++ take i items)) before new
-  pub tells : new.held ≡ old.held
+  pub keeps_held : new.held ≡ old.held
   pub gives : new.given ≡ old.given
 
 module _ {A : Type 0} (waiting : A → List Waiting) (files : A → List TraceRecord → List Output)
@@ -40,7 +40,7 @@ module _ {A : Type 0} (waiting : A → List Waiting) (files : A → List TraceRe
       outputs = λ seen before h on. subst
           (λ (l : List TraceRecord). IsOutputs (waiting first) (files first l) before old)
           (sym (append-nil seen)) on;
-      tells = refl;
+      keeps_held = refl;
       gives = refl;
     }
 
@@ -58,13 +58,14 @@ module _ {A : Type 0} (waiting : A → List Waiting) (files : A → List TraceRe
           (sym to.files_stay) (to.outputs way.seen way.before way.came way.outputs);
     }
 
--- What was read stands as long as its file is told.
+-- What was read stands as long as its file is known.
 come_still : (o n : Option Files) (name bytes : List ℕ) (cursor : Reached) → Narrows o n
     → HasCome o name unfiltered bytes cursor → HasCome n name unfiltered bytes cursor
 come_still o n name bytes cursor narrow come = record {
   size = come.size;
   room = come.room;
-  front = told_still (λ files. IsFront (content files name) bytes) o n narrow come.front;
+  few = come.few;
+  front = known_still (λ files. IsFront (content files name) bytes) o n narrow come.front;
   read = come.read;
 }
 

@@ -171,13 +171,13 @@ same_hart v harts last pcs p t pc items low has good =
     let is : pc_before new t.hart ≡ p = get_or-set_at pcs t.hart t.hart p 0 refl has.within in
     let was = All-get_or (λ n. n < 2 ^ 32) pcs t.hart 0 has.within has.low in
     let way = pc_through v (slice_index pcs t.hart) p q was low (pc_low v pc good.1) in
-    let told = ap (λ (n : ℕ). pc_cost v n q) is in
+    let stated = ap (λ (n : ℕ). pc_cost v n q) is in
     let rest : size v (before_after new x) items ≡ size v (before_after old x) items =
     ap (λ (l : List ℕ). size v (behind t.addr l) items) (set_again pcs t.hart p q) in
     omega (
       arith,
       way,
-      told,
+      stated,
       rest,
       one_more v old x items,
       one_more v new x items,
@@ -201,14 +201,14 @@ other_hart v last pcs h p t pc items apart more =
     let x : TraceRecord = records.Touch t pc in
     let is : pc_before new t.hart ≡ pc_before old t.hart =
     get_or-set_other pcs h t.hart p 0 (λ same. apart (sym same)) in
-    let told = ap (λ (n : ℕ). pc_cost v n q) is in
+    let stated = ap (λ (n : ℕ). pc_cost v n q) is in
     let stays = ap (λ (n : ℕ). pc_cost v n p) (get_or-set_other pcs t.hart h q 0 apart) in
     let rest = ap (λ (l : List ℕ). size v (behind t.addr l) items)
     (set_apart pcs h t.hart p q apart) in
     omega (
       arith,
       more,
-      told,
+      stated,
       stays,
       rest,
       one_more v old x items,

@@ -3,14 +3,14 @@ use Rattle.std.proofs.Common.{◌≡◌, ℕ, List, [], ◌∷◌, ◌++◌, tak
 use Rattle.std.proofs.Common.{sym, ap, ◌∙◌, subst, arith}
 use Rattle.std.proofs.lemmas.List.Elements.{All-nil, All-tail}
 use Rattle.shelf.specs.Agreeing.{HasShown}
-use Rattle.shelf.specs.Shelf.{Files, Given, HasRead, Narrows, OnlyReads, Outside, Told, content}
+use Rattle.shelf.specs.Shelf.{Files, Given, HasRead, Narrows, OnlyReads, Outside, Known, content}
 use Rattle.shelf.specs.declared.shelf.ShelfError.{ShelfError}
 use Rattle.shelf.specs.Files.{Output, AreCut}
 use Rattle.shelf.specs.OneFile.{Waiting}
 use Rattle.shelf.specs.OnTheirWay.{IsOutputs}
 use Rattle.shelf.specs.Laws.Agreeing.{shown_then}
 use Rattle.shelf.specs.Laws.Files.{IsOutputs-read}
-use Rattle.shelf.specs.Laws.Told.{only_none}
+use Rattle.shelf.specs.Laws.Known.{only_none}
 use Rattle.trace_format.specs.declared.record.TraceEnd.{TraceEnd}
 use Rattle.trace_format.specs.declared.read_so_far.ReadSoFar.{ReadSoFar}
 use Rattle.trace_format.specs.declared.record.TraceRecord.{TraceRecord}
@@ -60,10 +60,10 @@ piece_writable old new name bytes next on =
 
 -- how the name's bytes are refused, by a call that reads
 pub refused_at : (held : Option Files) (name : List ℕ) (w : Wanted) → w ≡ unfiltered → (refusal : Refusal)
-    → Told held (λ fs. refusal_of w (content fs name) ≡ Some refusal)
-    → Told held (λ fs. refusal_of unfiltered (content fs name) ≡ Some refusal)
-refused_at held name w is refusal told =
-    subst (λ (x : Wanted). Told held (λ fs. refusal_of x (content fs name) ≡ Some refusal)) is told
+    → Known held (λ fs. refusal_of w (content fs name) ≡ Some refusal)
+    → Known held (λ fs. refusal_of unfiltered (content fs name) ≡ Some refusal)
+refused_at held name w is refusal stated =
+    subst (λ (x : Wanted). Known held (λ fs. refusal_of x (content fs name) ≡ Some refusal)) is stated
 
 module _ {A : Type 0} (waiting : A → List Waiting) (files : A → List TraceRecord → List Output)
     (has : A → List TraceRecord → Type 0)

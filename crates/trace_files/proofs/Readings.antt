@@ -11,7 +11,7 @@ use Rattle.shelf.specs.Files.{Output, AreCut, RoseAmong}
 use Rattle.shelf.specs.OneFile.{Waiting}
 use Rattle.shelf.specs.OnTheirWay.{IsOutputs}
 use Rattle.shelf.specs.Laws.Files.{IsOutputs-cut, output_names}
-use Rattle.shelf.specs.Laws.Told.{narrows_then, told, told_map, told_still}
+use Rattle.shelf.specs.Laws.Known.{narrows_then, if_known, known_map, known_still}
 use Rattle.trace_format.specs.declared.record.TraceRecord.{TraceRecord}
 use Rattle.trace_format.specs.Reading.{Reading, reading_of}
 use Rattle.trace_format.specs.Laws.Reading.{read_on-pieces}
@@ -39,13 +39,13 @@ seen_more items i x below is seen =
 -- ---- the first records
 
 pub first_none : (held : Option Files) (name : List ℕ) → AreFirst held name []
-first_none held name = told held (λ files. ((reading_of (content files name)).0, refl))
+first_none held name = if_known held (λ files. ((reading_of (content files name)).0, refl))
 
--- they are the first ones as long as their file is told
+-- they are the first ones as long as their file is known
 pub first_still : (o n : Option Files) (name : List ℕ) (seen : List TraceRecord) → Narrows o n
     → AreFirst o name seen → AreFirst n name seen
 first_still o n name seen narrow first =
-    told_still (λ files. (more : List TraceRecord)
+    known_still (λ files. (more : List TraceRecord)
     × ((reading_of (content files name)).0 ≡ seen ++ more)) o n narrow first
 
 -- the records of a front are the first ones
@@ -63,7 +63,7 @@ front_first file bytes front =
 pub first_read : (held : Option Files) (name bytes : List ℕ) (now : Reached)
     → HasCome held name unfiltered bytes now
     → AreFirst held name (reading_of bytes).0
-first_read held name bytes now come = told_map held
+first_read held name bytes now come = known_map held
     (λ files front. front_first (content files name) bytes front) come.front
 
 -- and so are those of which some are missing
@@ -83,7 +83,7 @@ pub first_of : (held : Option Files) (name : List ℕ) (seen items : List TraceR
     → AreFirst held name (seen ++ items)
     → AreFirst held name (seen ++ take k items)
 first_of held name seen items k first =
-    told_map held (λ files is. (
+    known_map held (λ files is. (
       drop k items ++ is.0,
       parted seen items is.0
           (reading_of (content files name)).0 k is.1,

@@ -5,13 +5,13 @@ use Rattle.std.proofs.Common.{refl, sym, ap, ◌∙◌, subst, arith, append-nil
 use Rattle.std.specs.List.{All}
 use Rattle.std.specs.Option.{IfSome}
 use Rattle.trace_format.specs.declared.record.TraceEnd.{TraceEnd}
-use Rattle.shelf.specs.Shelf.{Files, HasRead, Outside, Told, content}
+use Rattle.shelf.specs.Shelf.{Files, HasRead, Outside, Known, content}
 use Rattle.shelf.specs.Fetch.{IsFront}
 use Rattle.shelf.specs.declared.shelf.ShelfError.{ShelfError}
 use Rattle.shelf.specs.declared.shelf.ShelfError.TheVariants as errors
 use Rattle.shelf.specs.Files.{AreCut, AreWritten}
 use Rattle.shelf.specs.Laws.Files.{IsOutputs-read}
-use Rattle.shelf.specs.Laws.Told.{told_same}
+use Rattle.shelf.specs.Laws.Known.{known_same}
 use Rattle.trace_format.specs.declared.read_so_far.ReadSoFar.{ReadSoFar}
 use Rattle.trace_format.specs.declared.record.Header.{Header}
 use Rattle.trace_format.specs.declared.record.TraceRecord.{TraceRecord}
@@ -281,12 +281,12 @@ module _ (table : List Move) (trace file : List ℕ) (m : Mover) (cursor : Reach
         (subst (λ (h : Option (Version × Header)). P m.name.now h (reading_of all).0 old) head_is
         (subst (λ (l : List TraceRecord). P m.name.now head l old) all_is here))
 
--- the bytes that were read are the first of the name's, as long as these are told
+-- the bytes that were read are the first of the name's, as long as these are known
 pub front_still : (o n : Option Files) (trace bytes : List ℕ) → n ≡ o
-    → Told o (λ fs. IsFront (content fs trace) bytes)
-    → Told n (λ fs. IsFront (content fs trace) bytes)
+    → Known o (λ fs. IsFront (content fs trace) bytes)
+    → Known n (λ fs. IsFront (content fs trace) bytes)
 front_still o n trace bytes same front =
-    told_same (λ fs. IsFront (content fs trace) bytes) o n same front
+    known_same (λ fs. IsFront (content fs trace) bytes) o n same front
 
 pub moving_next : (table : List Move) (trace file : List ℕ) (m : Mover) (cursor : Reached)
     (old read new : Outside) (all : List ℕ) → new.held ≡ read.held
@@ -299,6 +299,7 @@ moving_next table trace file m cursor old read new all same come has = record {
   come = record {
     size = come.size;
     room = come.room;
+    few = come.few;
     front = front_still read.held new.held trace all same come.front;
     read = come.read;
   };

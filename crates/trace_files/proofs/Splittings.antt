@@ -5,13 +5,13 @@ use Rattle.std.proofs.Common.{append_assoc, arith}
 use Rattle.std.specs.Prelude.{min}
 use Rattle.std.proofs.lemmas.List.{append-nil}
 use Rattle.std.proofs.lemmas.List.Elements.{All-head}
-use Rattle.shelf.specs.Shelf.{Files, Narrows, Outside, Told, content}
+use Rattle.shelf.specs.Shelf.{Files, Narrows, Outside, Known, content}
 use Rattle.shelf.specs.declared.shelf.ShelfError.{ShelfError}
 use Rattle.shelf.specs.Files.{AreCut, AreWritten, GoOn, Output}
 use Rattle.shelf.specs.OneFile.{Waiting}
 use Rattle.shelf.specs.OnTheirWay.{outputs_with}
 use Rattle.shelf.specs.Laws.Files.{GoOn-same}
-use Rattle.shelf.specs.Laws.Told.{told_both, told_map, told_still}
+use Rattle.shelf.specs.Laws.Known.{known_both, known_map, known_still}
 use Rattle.trace_format.specs.declared.record.TraceEnd.{TraceEnd}
 use Rattle.trace_format.specs.declared.record.Header.{Header}
 use Rattle.trace_format.specs.declared.record.Version.{Version}
@@ -38,7 +38,7 @@ use Rattle.trace_files.specs.Copying.{write_fault}
 use Rattle.trace_files.proofs.Again.{stopped_reading, stopped_writing}
 use Rattle.trace_files.proofs.Pieces.{all_behind}
 use Rattle.trace_files.proofs.Readings.{first_none}
-use Rattle.trace_files.proofs.Stopped.{same_trace, told_parts}
+use Rattle.trace_files.proofs.Stopped.{same_trace, known_parts}
 
 -- the law of a cut that this rests on: one record more goes to its side
 abbrev pub Grows : Type 0
@@ -55,7 +55,7 @@ pub halves_more : Grows → (cut : ℕ) (seen : List TraceRecord) (item : TraceR
 halves_more grows cut seen item side is =
     grows cut seen item ∙ ap (λ (s : Side). put_behind s item (halves_of cut seen)) (sym is)
 
--- the splitter's count of what it met is not told in the files
+-- the splitter's count of what it met is not stated in the files
 pub same_files : (first second : List ℕ) (v : Version) (old new : Split) → SameCut old new
     → halves_so_far first second v new ≡ halves_so_far first second v old
 same_files first second v old new same = λ i seen.
@@ -257,13 +257,13 @@ module _ (grows : Grows) (held : Option Files) (name : List ℕ) (at : ℕ) (fir
         (halves at first second t)) is (halves_on grows at first second t seen more all))
 
     goes : (seen : List TraceRecord) → AreFirst held name seen
-        → Told held (λ fs. (t : Trace) → trace_of (content fs name) ≡ Some t
+        → Known held (λ fs. (t : Trace) → trace_of (content fs name) ≡ Some t
         → GoOn (so_far seen) (halves at first second t))
     goes seen are =
-        told_both held (λ fs parts more t is.
+        known_both held (λ fs parts more t is.
         let same = parts t is in
         goes_on t same.0 seen more.0 same.1 (sym (trace-records (content fs name) t is) ∙ more.1))
-        (told_parts held name passed accepted) are
+        (known_parts held name passed accepted) are
 
     pub stopped_begun : (before now : Outside) (error : ShelfError)
         → AreCut (so_far []) before now error
@@ -293,8 +293,8 @@ module _ (grows : Grows) (held : Option Files) (name : List ℕ) (at : ℕ) (fir
             abbrev trace : Trace
             trace = trace_with again copied.items
 
-            told : Told held (λ fs. copied.bytes ≡ content fs name)
-            told = told_still (λ fs. copied.bytes ≡ content fs name) mid.held held narrow
+            stated : Known held (λ fs. copied.bytes ≡ content fs name)
+            stated = known_still (λ fs. copied.bytes ≡ content fs name) mid.held held narrow
                 copied.whole
 
             so_cut : s ≡ begin_split again.header again.ending.accesses at
@@ -323,10 +323,10 @@ module _ (grows : Grows) (held : Option Files) (name : List ℕ) (at : ℕ) (fir
                 ≡ s.cut = ap (λ (e : TraceEnd × TraceEnd). e.0.accesses) are in
                 record {
                   bytes = copied.bytes;
-                  whole = told;
+                  whole = stated;
                   trace = trace;
                   is = copied.is;
-                  told = (
+                  stated = (
                     cut_at ∙ ap (λ (x : Split). x.cut) so_cut ∙ ap (min at) counted,
                     ap (λ (e : TraceEnd × TraceEnd). e.1.accesses) are
                         ∙ ap (λ (x : Split). x.total - s.cut) so_cut
@@ -339,15 +339,15 @@ module _ (grows : Grows) (held : Option Files) (name : List ℕ) (at : ℕ) (fir
 
             -- the ends, or what waits, could not be written
             same_goes : (seen : List TraceRecord) → AreFirst held name seen
-                → Told held (λ fs. (t : Trace) → trace_of (content fs name) ≡ Some t
+                → Known held (λ fs. (t : Trace) → trace_of (content fs name) ≡ Some t
                 → GoOn (halves at first second trace) (halves at first second t))
             same_goes seen first_ones =
-                told_map held (λ fs bytes t is.
+                known_map held (λ fs bytes t is.
                 subst (λ (x : Trace). GoOn (halves at first second trace)
                 (halves at first second x))
                 (same_trace trace t (trace_of (content fs name))
                 (ap trace_of (sym bytes) ∙ copied.is) is)
-                (GoOn-same (halves at first second trace))) told
+                (GoOn-same (halves at first second trace))) stated
 
             pub stopped_ending : (error : ShelfError)
                 → AreCut (with_ends passed.version (files (all_records trace)) ends) before now error

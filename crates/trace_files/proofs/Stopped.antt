@@ -6,14 +6,14 @@ use Rattle.std.proofs.lemmas.List.{append-nil}
 use Rattle.std.proofs.lemmas.Slice.Eq.{bytes_eq-Decides}
 use Rattle.std.specs.Str.{bytes_eq}
 use Rattle.shelf.specs.Shelf.{Files, Goes, HasRead, Narrows, OnlyReads, Outside, Rose}
-use Rattle.shelf.specs.Shelf.{Told, content}
+use Rattle.shelf.specs.Shelf.{Known, content}
 use Rattle.shelf.specs.Files.{Output, AreWhole, AreWritten, BegunInOrder, GoOn, bytes_for}
 use Rattle.shelf.specs.OneFile.{Waiting}
 use Rattle.shelf.specs.OnTheirWay.{IsNew, IsOutputs}
 use Rattle.shelf.specs.Laws.Files.{AreCut-longer, BegunInOrder-others, goes_by, none_begun}
 use Rattle.shelf.specs.Laws.Files.{output_names}
-use Rattle.shelf.specs.Laws.Told.{narrows_then, only_none, reads_alone, told, told_both, told_map}
-use Rattle.shelf.specs.Laws.Told.{goes_map, told_still, writes_both}
+use Rattle.shelf.specs.Laws.Known.{narrows_then, only_none, reads_alone, if_known, known_both, known_map}
+use Rattle.shelf.specs.Laws.Known.{goes_map, known_still, writes_both}
 use Rattle.trace_format.specs.declared.record.TraceRecord.{TraceRecord}
 use Rattle.trace_format.specs.Reading.{reading_of}
 use Rattle.trace_passes.specs.declared.passes.PassFault.{PassFault}
@@ -59,7 +59,7 @@ module _ (held : Option Files) (name : List ℕ) (names : List (List ℕ))
     (files : List TraceRecord → List Output) (before now : Outside) (fault : CopyFault)
     (named : (seen : List TraceRecord) → output_names (files seen) ≡ names)
     (goes : (seen : List TraceRecord) → AreFirst held name seen
-    → Told held (λ fs. (t : Trace) → trace_of (content fs name) ≡ Some t
+    → Known held (λ fs. (t : Trace) → trace_of (content fs name) ≡ Some t
     → GoOn (files seen) (outputs t)))
     (short : IsCutShort held name files before now fault)
   where
@@ -72,7 +72,7 @@ module _ (held : Option Files) (name : List ℕ) (names : List (List ℕ))
         let some = files short.seen in
         let is = named short.seen in
         record {
-          fronts = told_map held (λ fs on t there. moved (BegunInOrder (outputs t))
+          fronts = known_map held (λ fs on t there. moved (BegunInOrder (outputs t))
               (AreCut-longer some (outputs t) before short.last short.error
               (on t there) short.cut).begun) (goes short.seen short.first);
           others = moved (λ old new. (n : List ℕ) → IsNew n names → new n ≡ old n)
@@ -101,7 +101,7 @@ module _ (held : Option Files) (name : List ℕ) (old new : Outside) (only : Onl
       → HasCopyCause name names old new fault
       → HasStopped held name names outputs old new fault
   with_cause fault names outputs cause = record {
-    fronts = told held (λ fs t is. goes_same (BegunInOrder (outputs t)) old.written new.written
+    fronts = if_known held (λ fs t is. goes_same (BegunInOrder (outputs t)) old.written new.written
         only.written (λ x. none_begun (outputs t) x x (λ n. refl)));
     others = goes_same (λ a b. (n : List ℕ) → IsNew n names → b n ≡ a n) old.written new.written
         only.written (λ x n other. refl);
@@ -184,7 +184,7 @@ module _ (old mid new : Outside) (read : HasRead old mid) where
     whole = copied.whole;
     trace = copied.trace;
     is = copied.is;
-    told = copied.told;
+    stated = copied.stated;
     written = written_since (outputs copied.trace) copied.written;
   }
 
@@ -193,7 +193,7 @@ module _ (old mid new : Outside) (read : HasRead old mid) where
       → HasStopped held name names outputs mid new fault
       → HasStopped held name names outputs old new fault
   stopped_since held name names outputs fault stopped = record {
-    fronts = told_map held (λ fs on t there. since (BegunInOrder (outputs t)) (on t there))
+    fronts = known_map held (λ fs on t there. since (BegunInOrder (outputs t)) (on t there))
         stopped.fronts;
     others = since (λ a b. (n : List ℕ) → IsNew n names → b n ≡ a n) stopped.others;
     cause = cause_since name names fault stopped.cause;
@@ -206,10 +206,10 @@ module _ (old mid new : Outside) (read : HasRead old mid) where
 
 -- the records of the trace that was copied are all of the held bytes
 pub first_all : (held : Option Files) (name bytes : List ℕ) (t : Trace)
-    → Told held (λ files. bytes ≡ content files name)
+    → Known held (λ files. bytes ≡ content files name)
     → trace_of bytes ≡ Some t → AreFirst held name (all_records t)
 first_all held name bytes t whole is =
-    told_map held (λ files same. (
+    known_map held (λ files same. (
       [],
       ap (λ (xs : List ℕ). (reading_of xs).0) (sym same) ∙ trace-records bytes t is
           ∙ sym (append-nil (all_records t)),
@@ -226,29 +226,29 @@ short_other held name files seen waiting before now refusal first on =
     (passes.Refused refusal)
     (record { later = λ n. omega arith; failed = λ e. absurd cc; quiet = λ e. refl })
 
--- ---- two readings of what is told
+-- ---- two readings of what is known
 
 pub same_trace : (a b : Trace) (x : Option Trace) → x ≡ Some a → x ≡ Some b → a ≡ b
 same_trace a b x one two = let both : Some a ≡ Some b = sym one ∙ two in cc
 
--- the parts of the trace that is told
-pub told_parts : (held : Option Files) (name : List ℕ) (first : Passed) → IsAccepted held name first
-    → Told held (λ files. (t : Trace) → trace_of (content files name) ≡ Some t
+-- the parts of the trace that is known
+pub known_parts : (held : Option Files) (name : List ℕ) (first : Passed) → IsAccepted held name first
+    → Known held (λ files. (t : Trace) → trace_of (content files name) ≡ Some t
     → (items : List TraceRecord) × (t ≡ trace_with first items))
-told_parts held name first accepted =
-    told_map held (λ files same t is. (
+known_parts held name first accepted =
+    known_map held (λ files same t is. (
       accepted.items,
       same_trace t (trace_with first accepted.items) (trace_of (content files name)) is
           (ap trace_of (sym same) ∙ accepted.is),
     )) accepted.whole
 
--- two readings tell the same parts, where the bytes are told
+-- two readings give the same parts, where the bytes are known
 pub same_parts : (held : Option Files) (name : List ℕ) (first second : Passed) (bytes : List ℕ)
     (items : List TraceRecord)
-    → IsAccepted held name first → Told held (λ files. bytes ≡ content files name)
-    → trace_of bytes ≡ Some (trace_with second items) → Told held (λ files. first ≡ second)
+    → IsAccepted held name first → Known held (λ files. bytes ≡ content files name)
+    → trace_of bytes ≡ Some (trace_with second items) → Known held (λ files. first ≡ second)
 same_parts held name first second bytes items accepted whole is =
-    told_both held (λ files one two.
+    known_both held (λ files one two.
     let there : trace_of (content files name) ≡ Some (trace_with second items) = ap trace_of
     (sym two) ∙ is in
     let same : trace_of (content files name) ≡ Some (trace_with first accepted.items) = ap trace_of
@@ -258,40 +258,40 @@ same_parts held name first second bytes items accepted whole is =
     λ i. record { version = (t i).version; header = (t i).header; ending = (t i).ending })
     accepted.whole whole
 
-pub untold : (held : Option Files) (P : Type 0) → Told held (λ files. P) → (P → ⊥) → held ≡ None
-untold None P told never = refl
-untold (Some files) P told never = absurd (never told)
+pub unknown : (held : Option Files) (P : Type 0) → Known held (λ files. P) → (P → ⊥) → held ≡ None
+unknown None P holds never = refl
+unknown (Some files) P holds never = absurd (never holds)
 
 -- ---- an accepted trace
 
--- it is accepted as long as its bytes are told
+-- it is accepted as long as its bytes are known
 pub accepted_still : (o n : Option Files) (name : List ℕ) (first : Passed) → Narrows o n
     → IsAccepted o name first → IsAccepted n name first
 accepted_still o n name first narrow accepted = record {
   bytes = accepted.bytes;
-  whole = told_still (λ files. accepted.bytes ≡ content files name) o n narrow accepted.whole;
+  whole = known_still (λ files. accepted.bytes ≡ content files name) o n narrow accepted.whole;
   items = accepted.items;
   is = accepted.is;
   plain = accepted.plain;
 }
 
-pub told_accepted : (held : Option Files) (name : List ℕ) (first : Passed)
+pub known_accepted : (held : Option Files) (name : List ℕ) (first : Passed)
     → IsAccepted held name first
-    → Told held (λ files. refusal_of unfiltered (content files name) ≡ None)
-told_accepted held name first accepted =
-    told_map held
+    → Known held (λ files. refusal_of unfiltered (content files name) ≡ None)
+known_accepted held name first accepted =
+    known_map held
     (λ files same. ap (refusal_of unfiltered) (sym same) ∙ plain_unrefused accepted.bytes
     (trace_with first accepted.items) accepted.is accepted.plain)
     accepted.whole
 
--- it isn't refused where its bytes are told
+-- it isn't refused where its bytes are known
 pub never_refused : (held : Option Files) (name : List ℕ) (first : Passed)
     → IsAccepted held name first → (refusal : Refusal)
-    → Told held (λ files. refusal_of unfiltered (content files name) ≡ Some refusal) → held ≡ None
-never_refused held name first accepted refusal told =
-    untold held ⊥ (told_both held (λ files a b. let no : None ≡ Some refusal = sym a
+    → Known held (λ files. refusal_of unfiltered (content files name) ≡ Some refusal) → held ≡ None
+never_refused held name first accepted refusal holds =
+    unknown held ⊥ (known_both held (λ files a b. let no : None ≡ Some refusal = sym a
     ∙ b in absurd cc)
-    (told_accepted held name first accepted) told) (λ x. x)
+    (known_accepted held name first accepted) holds) (λ x. x)
 
 -- ---- a refused trace
 
@@ -302,7 +302,7 @@ pub refused_first : (held : Option Files) (name : List ℕ) (old new : Outside) 
     → StaysWhereRefused held name old new
 refused_first held name old new fault stopped =
     let others = (stopped [] (λ t. [])).others in
-    told held (λ files refusal is. goes_by (λ a b. (n : List ℕ) → IsNew n [] → b n ≡ a n)
+    if_known held (λ files refusal is. goes_by (λ a b. (n : List ℕ) → IsNew n [] → b n ≡ a n)
     (λ a b. (n : List ℕ) → b n ≡ a n)
     old.written new.written (λ a b i j same n. same n tt) others)
 
@@ -311,6 +311,6 @@ pub refused_never : (held : Option Files) (name : List ℕ) (first : Passed) (ol
     → IsAccepted held name first
     → StaysWhereRefused held name old new
 refused_never held name first old new accepted =
-    told_map held (λ files none refusal is. let no : None ≡ Some refusal = sym none
+    known_map held (λ files none refusal is. let no : None ≡ Some refusal = sym none
     ∙ is in absurd cc)
-    (told_accepted held name first accepted)
+    (known_accepted held name first accepted)

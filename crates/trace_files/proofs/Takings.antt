@@ -274,7 +274,7 @@ pub record MovedTo (table : List Move) (items : List TraceRecord) (i : ℕ) (fir
   pub moved : (head : Version × Header) (seen : List TraceRecord) (before : Outside)
       → HasMoved table first.name.now first (Some head) seen before old
       → HasMoved table first.name.now now (Some head) (seen ++ take i items) before new
-  pub tells : new.held ≡ old.held
+  pub keeps_held : new.held ≡ old.held
 
 pub moved_none : (table : List Move) (items : List TraceRecord) (first : Mover) (old : Outside)
     → MovedTo table items 0 first first old old
@@ -283,7 +283,7 @@ moved_none table items first old = record {
   moved = λ head seen before has.
       subst (λ (l : List TraceRecord). HasMoved table first.name.now first (Some head) l before old)
       (sym (append-nil seen)) has;
-  tells = refl;
+  keeps_held = refl;
 }
 
 -- under the name that it has
@@ -331,7 +331,7 @@ module _ (table : List Move) (items : List TraceRecord) (i : ℕ) (first now : M
         → HasMoved table now.name.now now (Some head) seen before new
         → HasMoved table now.name.now later (Some head) (seen ++ item ∷ []) before last)
         → MovedTo table items (i + 1) first later old last
-    moved_next later last named tells moved = record {
+    moved_next later last named keeps_held moved = record {
       name = named ∙ to.name;
       moved = λ head seen before has.
           let all = seen ++ take i items in
@@ -342,7 +342,7 @@ module _ (table : List Move) (items : List TraceRecord) (i : ℕ) (first now : M
           (moved head all before
           (subst (λ (n : List ℕ). HasMoved table n now (Some head) all before new) (sym now_named)
           (to.moved head seen before has))));
-      tells = tells ∙ to.tells;
+      keeps_held = keeps_held ∙ to.keeps_held;
     }
 
     pub stops_next : (last : Outside) (fault : MoveFault)

@@ -3,7 +3,7 @@ use Rattle.std.specs.Prelude.{◌≡◌, ◌≢◌, ◌⊎◌, ◌≤◌, ℕ, �
 use Rattle.std.specs.Prelude.{if◌then◌else◌, false}
 use Rattle.std.specs.Option.{option_and_then, option_or}
 use Rattle.shelf.specs.Agreeing.{HasShown}
-use Rattle.shelf.specs.Shelf.{Files, Given, Goes, Narrows, Outside, Rose, Told, content}
+use Rattle.shelf.specs.Shelf.{Files, Given, Goes, Narrows, Outside, Rose, Known, content}
 use Rattle.shelf.specs.Files.{Output, AreWritten, BegunInOrder, one_file}
 use Rattle.shelf.specs.OnTheirWay.{IsNew}
 use Rattle.trace_format.specs.declared.fault.TraceFault.TheVariants as faults
@@ -110,16 +110,16 @@ difference first second =
     (Some second.header))
     (count_difference first.ending.accesses second.ending.accesses))
 
--- what is told of a trace that was read
-abbrev pub told_of : Trace → Passed
-told_of t = record { version = t.version; header = t.header; ending = t.ending }
+-- what is stated of a trace that was read
+abbrev pub passed_of : Trace → Passed
+passed_of t = record { version = t.version; header = t.header; ending = t.ending }
 
 -- how bytes are refused that are read again: where they are no trace, as such; else beside the
 -- first reading
 abbrev pub refusal_again : Passed → List ℕ → Option Refusal
 refusal_again first bytes =
     option_or (refusal_of unfiltered bytes)
-    (option_and_then (λ t. difference first (told_of t)) (trace_of bytes))
+    (option_and_then (λ t. difference first (passed_of t)) (trace_of bytes))
 
 -- what the reads since then have given of the name is refused so behind such a first reading
 abbrev pub IsOther : List ℕ → Passed → Refusal → List Given → List Given → Type 0
@@ -128,26 +128,26 @@ IsOther name first refusal before now =
 
 -- ---- what a call says
 
--- There are bytes, the held ones of the name where these are still told, that are a trace, of which
--- this is told, and whose outputs are written.
+-- There are bytes, the held ones of the name where these are still known, that are a trace, of
+-- which this is stated, and whose outputs are written.
 pub record HasCopied (held : Option Files) (name : List ℕ) (outputs : Trace → List Output)
     (says : Trace → Type 0)
     (before now : Outside) : Type 0 where
   pub bytes : List ℕ
-  pub whole : Told held (λ files. bytes ≡ content files name)
+  pub whole : Known held (λ files. bytes ≡ content files name)
   pub trace : Trace
   pub is : trace_of bytes ≡ Some trace
-  pub told : says trace
+  pub stated : says trace
   pub written : AreWritten (outputs trace) before now
 
 -- how the name's bytes are refused as a trace, if they are
 abbrev pub IsJudged : Option Files → List ℕ → Option Refusal → Type 0
 IsJudged held name judged =
-    Told held (λ files. refusal_of unfiltered (content files name) ≡ judged)
+    Known held (λ files. refusal_of unfiltered (content files name) ≡ judged)
 
 -- where they are, each file is as it was
 abbrev pub StaysWhereRefused : Option Files → List ℕ → Outside → Outside → Type 0
-StaysWhereRefused held name before now = Told held (λ files. (refusal : Refusal)
+StaysWhereRefused held name before now = Known held (λ files. (refusal : Refusal)
     → refusal_of unfiltered (content files name) ≡ Some refusal
     → Goes before.written now.written (λ old new. (n : List ℕ) → new n ≡ old n))
 
@@ -168,11 +168,11 @@ pub record HasCopyCause (name : List ℕ) (outputs : List (List ℕ)) (before no
   pub write_quiet : fault ≢ WriteFault → now.write_faults ≡ before.write_faults
 
 -- A copy gave up. Its outputs are begun in their order, each a front of its bytes, where the trace is
--- still told, and each other file is as it was; it is known who is the cause.
+-- still known, and each other file is as it was; it is known who is the cause.
 pub record HasStopped (held : Option Files) (name : List ℕ) (names : List (List ℕ))
     (outputs : Trace → List Output)
     (before now : Outside) (fault : CopyFault) : Type 0 where
-  pub fronts : Told held (λ files. (t : Trace) → trace_of (content files name) ≡ Some t
+  pub fronts : Known held (λ files. (t : Trace) → trace_of (content files name) ≡ Some t
       → Goes before.written now.written (BegunInOrder (outputs t)))
   pub others : Goes before.written now.written
       (λ old new. (n : List ℕ) → IsNew n names → new n ≡ old n)

@@ -1,7 +1,7 @@
 -- How far a copy is, in the clauses of this crate's own functions.
 use Rattle.std.specs.Prelude.{None, ◌≡◌, ℕ, List, [], ◌∷◌, ◌++◌, length, Option, Some}
 use Rattle.shelf.specs.Agreeing.{HasShown}
-use Rattle.shelf.specs.Shelf.{Files, Given, Narrows, Outside, Told, content}
+use Rattle.shelf.specs.Shelf.{Files, Given, Narrows, Outside, Known, content}
 use Rattle.shelf.specs.declared.shelf.ShelfError.{ShelfError}
 use Rattle.shelf.specs.declared.shelf.ShelfError.TheVariants as errors
 use Rattle.shelf.specs.Files.{Output, AreCut}
@@ -72,11 +72,11 @@ pub record HasSplit (s : Splitting) (seen : List TraceRecord) : Type 0 where
 
 -- ---- two readings
 
--- There are bytes, the held ones where these are told, that are a trace of these parts, which isn't
--- filtered.
+-- There are bytes, the held ones where these are known, that are a trace of these parts, which
+-- isn't filtered.
 pub record IsAccepted (held : Option Files) (name : List ℕ) (passed : Passed) : Type 0 where
   pub bytes : List ℕ
-  pub whole : Told held (λ files. bytes ≡ content files name)
+  pub whole : Known held (λ files. bytes ≡ content files name)
   pub items : List TraceRecord
   pub is : trace_of bytes ≡ Some (trace_with passed items)
   pub plain : near_refusal None passed.header.near ≡ None
@@ -89,7 +89,7 @@ pub record HasChanged (name : List ℕ) (refusal : Refusal) (before now : List G
   pub accepted : HasShown name (HasParts first) before between
   pub other : IsOther name first refusal between now
 
--- two readings told the same version, header and number of accesses
+-- two readings stated the same version, header and number of accesses
 pub record AreAlike (first second : Passed) : Type 0 where
   pub version : second.version ≡ first.version
   pub header : second.header ≡ first.header
@@ -104,22 +104,22 @@ pub record IsUnderWay (waiting : List Waiting) (files : List TraceRecord → Lis
   pub came : has seen
   pub outputs : IsOutputs waiting (files seen) before now
 
--- All records of a trace came to the target, which the held bytes are where these are still told.
+-- All records of a trace came to the target, which the held bytes are where these are still known.
 pub record IsCopied (held : Option Files) (name : List ℕ) (passed : Passed)
     (files : List TraceRecord → List Output)
     (has : List TraceRecord → Type 0) (waiting : List Waiting)
     (before now : Outside) : Type 0 where
   pub bytes : List ℕ
-  pub whole : Told held (λ files. bytes ≡ content files name)
+  pub whole : Known held (λ files. bytes ≡ content files name)
   pub items : List TraceRecord
   pub is : trace_of bytes ≡ Some (trace_with passed items)
   pub came : has (all_records (trace_with passed items))
   pub outputs : IsOutputs waiting (files (all_records (trace_with passed items))) before now
 
--- these are the first records that the held bytes have, where these are told
+-- these are the first records that the held bytes have, where these are known
 abbrev pub AreFirst : Option Files → List ℕ → List TraceRecord → Type 0
 AreFirst held name seen =
-    Told held (λ files. (more : List TraceRecord)
+    Known held (λ files. (more : List TraceRecord)
     × ((reading_of (content files name)).0 ≡ seen ++ more))
 
 -- It gave up as these records came, and a call that reads may have failed behind the last that

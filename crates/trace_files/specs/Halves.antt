@@ -10,8 +10,8 @@ pub record IsWhole (t : Trace) : Type 0 where
   pub read : trace_of (spell_trace t) ≡ Some t
 
 -- Both are traces of as many harts as the whole. The first begins where the whole begins, and ends
--- as a part does; the second goes on behind its accesses, and ends as the whole. Each end tells how
--- many accesses its own half has.
+-- as a part does; the second goes on behind its accesses, and ends as the whole. Each end states
+-- how many accesses its own half has.
 pub record AreHalves (whole first second : Trace) : Type 0 where
   pub first_is : IsWhole first
   pub second_is : IsWhole second

@@ -4,7 +4,7 @@ use Rattle.std.specs.Prelude.{find, is_some, Option, Some, None, option_map}
 use Rattle.std.specs.Option.{option_and_then, option_map_or}
 use Rattle.std.specs.List.{take_while}
 use Rattle.shelf.specs.Files.{Output, AreWritten, BegunInOrder, one_file}
-use Rattle.shelf.specs.Shelf.{Files, Goes, Narrows, Outside, Rose, Told, content}
+use Rattle.shelf.specs.Shelf.{Files, Goes, Narrows, Outside, Rose, Known, content}
 use Rattle.trace_format.specs.declared.record.Header.{Header}
 use Rattle.trace_format.specs.declared.record.Version.{Version}
 use Rattle.trace_format.specs.declared.record.TraceRecord.{TraceRecord}
@@ -125,11 +125,11 @@ pub record HasMoveCause (name file : List ℕ) (before now : Outside) (fault : M
     pub read_quiet : fault ≢ ReadFault → now.read_faults ≡ before.read_faults
     pub write_quiet : fault ≢ WriteFault → now.write_faults ≡ before.write_faults
 
--- It gave up. The file is a front of what is written of the bytes, where these are told, and each
+-- It gave up. The file is a front of what is written of the bytes, where these are known, and each
 -- other file is as it was; it is known who is the cause.
 pub record HasGivenUp (held : Option Files) (name file : List ℕ) (table : List Move)
     (before now : Outside) (fault : MoveFault) : Type 0 where
-  pub fronts : Told held (λ files. Goes before.written now.written
+  pub fronts : Known held (λ files. Goes before.written now.written
       (BegunInOrder (written_of table file (content files name))))
   pub others : Goes before.written now.written
       (λ old new. (n : List ℕ) → n ≢ file → new n ≡ old n)
@@ -139,10 +139,10 @@ pub record HasGivenUp (held : Option Files) (name file : List ℕ) (table : List
   pub print_faults : now.print_faults ≡ before.print_faults
 
 -- The bytes are refused so, and all is written that is written of them; they are the held ones of
--- the name, where these are told.
+-- the name, where these are known.
 pub record IsRefused (held : Option Files) (name file : List ℕ) (table : List Move)
     (before now : Outside) (fault : MoveFault) : Type 0 where
   pub bytes : List ℕ
-  pub whole : Told held (λ files. bytes ≡ content files name)
+  pub whole : Known held (λ files. bytes ≡ content files name)
   pub refused : fault_of table bytes ≡ Some fault
   pub written : AreWritten (written_of table file bytes) before now

@@ -109,7 +109,7 @@ pub fn convert_trace<S: Shelf>(
     ensures memory { result ≢ Err (CopyFault.Refused (refusals.Trace trace_faults.NoMemory)) }
     // A second reading is refused as no trace, or beside the first: for its version, its number of
     // harts, its first position, or its number of accesses. What its reads have given is refused so,
-    // and no files are told then, or no more.
+    // and no files are known then, or no more.
     ensures changed { (refusal : Refused) → result ≡ Err (CopyFault.Changed refusal)
         → (S.outside shelf.new).held ≡ None }
     ensures other { (refusal : Refused) → result ≡ Err (CopyFault.Changed refusal)

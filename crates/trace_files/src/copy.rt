@@ -48,7 +48,7 @@ fn unfiltered() -> Wanted
     }
 }
 
-// Sees nothing: the first reading judges, and its end tells how many accesses there are.
+// Sees nothing: the first reading judges, and its end states how many accesses there are.
 #[derive(Clone, Copy)]
 struct Unseeing;
 
@@ -112,7 +112,7 @@ fn put_all<S: Shelf, T: Target>(
         → IsOutputs (T.waiting target.old) (T.files target.old seen) before (S.outside shelf.old)
         → AreCut (T.files target.old (seen ++ take k items.now)) before
         (S.outside shelf.new) error)) }
-    ensures tells { (S.outside shelf.new).held ≡ (S.outside shelf.old).held }
+    ensures keeps_held { (S.outside shelf.new).held ≡ (S.outside shelf.old).held }
     ensures gives { (S.outside shelf.new).given ≡ (S.outside shelf.old).given }
 {
     for item in items {
@@ -153,7 +153,7 @@ pub(crate) fn copy_records<S: Shelf, T: Target>(
     ensures found { (refusal : Refused) → result ≡ Err (CopyFault.Changed refusal)
         → HasShown name.now (λ file. refusal_of unfiltered file ≡ Some refusal)
         (S.outside shelf.old).given (S.outside shelf.new).given }
-    ensures tells { Narrows (S.outside shelf.old).held (S.outside shelf.new).held }
+    ensures keeps_held { Narrows (S.outside shelf.old).held (S.outside shelf.new).held }
 {
     let mut cursor = match Cursor::new(alloc) {
         Ok(cursor) => cursor,
@@ -180,7 +180,7 @@ pub(crate) fn differs(first: &Passed, second: &Passed) -> Option<Refusal>
     ensures alike { result ≡ None → AreAlike first.now second.now }
     ensures other { first.now ≡ second.now → result ≡ None }
 {
-    let (told, counted) = (first.ending.accesses, second.ending.accesses);
+    let (stated, counted) = (first.ending.accesses, second.ending.accesses);
     if first.version != second.version {
         Some(Refusal::Trace(TraceFault::BadMagic))
     } else if first.header.harts != second.header.harts {
@@ -190,8 +190,8 @@ pub(crate) fn differs(first: &Passed, second: &Passed) -> Option<Refusal>
             saved: first.header.first,
             first: second.header.first,
         })
-    } else if told != counted {
-        Some(Refusal::Trace(TraceFault::CountMismatch { told, counted }))
+    } else if stated != counted {
+        Some(Refusal::Trace(TraceFault::CountMismatch { stated, counted }))
     } else {
         None
     }

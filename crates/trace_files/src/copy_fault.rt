@@ -11,7 +11,7 @@ pub enum CopyFault {
     /// The trace is refused. Nothing was written.
     Refused(Refusal),
     /// The second reading is refused so, beside a first one that was accepted: the bytes have
-    /// changed. It never comes where the shelf still tells its files.
+    /// changed. It never comes where the shelf's files are still known.
     Changed(Refusal),
     /// A read failed: the shelf's faults of reading the trace rose.
     ReadFault,

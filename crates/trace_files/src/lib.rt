@@ -5,14 +5,14 @@
 //! accesses come from a linear congruence; `specs/Made.antt` says which trace is made, as one list.
 //!
 //! [`convert_trace`] copies a named trace in the other version, and [`split_trace`] cuts it in two
-//! at an access. The trace is read twice. A first reading judges it and tells how many accesses
+//! at an access. The trace is read twice. A first reading judges it and returns how many accesses
 //! there are, and only where it is accepted are the outputs begun. The second reading copies each
 //! record to a `Target`, which knows the files and the spelling. `specs/Copies.antt` says which
 //! traces are written, and what stands where a copy gave up.
 //!
 //! Each half may be cut again. `specs/Halves.antt` says what two traces are to each other that are the
-//! halves of a third: each is a trace, its end tells how many accesses it has, and the second goes on
-//! where the first one ends.
+//! halves of a third: each is a trace, its end states how many accesses it has, and the second goes
+//! on where the first one ends.
 //!
 //! [`move_trace`] writes a trace with its accesses moved as a [`MoveTable`] says, in one pass.
 //! `specs/Tables.antt` says what the text of a table is and which rules it keeps, `specs/Moves.antt`

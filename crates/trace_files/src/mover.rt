@@ -112,7 +112,7 @@ impl<'a> Mover<'a> {
             → AreCut (moved_so_far table self.old.name.now (Some (version, header)) []) before
             (S.outside shelf.new) error) }
         ensures name { self.new.name ≡ self.old.name }
-        ensures tells { (S.outside shelf.new).held ≡ (S.outside shelf.old).held }
+        ensures keeps_held { (S.outside shelf.new).held ≡ (S.outside shelf.old).held }
     {
         match self
             .files
@@ -151,7 +151,7 @@ impl<'a> Mover<'a> {
             → AreCut (moved_so_far table.now self.old.name.now (Some head) (seen ++ item.now ∷ []))
             before (S.outside shelf.new) error) }
         ensures name { self.new.name ≡ self.old.name }
-        ensures tells { (S.outside shelf.new).held ≡ (S.outside shelf.old).held }
+        ensures keeps_held { (S.outside shelf.new).held ≡ (S.outside shelf.old).held }
     {
         match item {
             TraceRecord::Touch(access, pc) => self.put_access(shelf, table, access, *pc),
@@ -183,7 +183,7 @@ impl<'a> Mover<'a> {
             → AreCut (moved_so_far table.now self.old.name.now (Some head)
             (seen ++ records.Touch access.now pc ∷ [])) before (S.outside shelf.new) error) }
         ensures name { self.new.name ≡ self.old.name }
-        ensures tells { (S.outside shelf.new).held ≡ (S.outside shelf.old).held }
+        ensures keeps_held { (S.outside shelf.new).held ≡ (S.outside shelf.old).held }
     {
         let (access, goes) = moved_access(table, access);
         self.moved = counted(self.moved, goes);
@@ -212,7 +212,7 @@ impl<'a> Mover<'a> {
             ShelfError.NoMemory) }
         ensures moved { self.new.moved ≡ self.old.moved }
         ensures name { self.new.name ≡ self.old.name }
-        ensures tells { (S.outside shelf.new).held ≡ (S.outside shelf.old).held }
+        ensures keeps_held { (S.outside shelf.new).held ≡ (S.outside shelf.old).held }
     {
         self.files.finish(shelf)
     }

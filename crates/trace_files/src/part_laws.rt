@@ -10,7 +10,7 @@ use trace_format::a_trace_is_cut_in_two;
 use trace_passes::a_trace_is_its_spelling;
 
 /// The halves of a trace that isn't filtered, cut at any access, are traces: their bytes are read as these halves, each
-/// tells how many accesses it has, and the second begins behind the accesses of the first. Nothing
+/// states how many accesses it has, and the second begins behind the accesses of the first. Nothing
 /// is done.
 pub fn the_halves_are_traces()
     // bytes that are a trace are its spelling, which is read as this trace again

@@ -53,7 +53,7 @@ fn end_whole<S: Shelf>(
         (head : Option (AVersion × Head)) (seen : List Record) (before : Outside)
         → HasMoved table name mover.old head seen before (S.outside shelf.old)
         → StopsAt table name head seen before (S.outside shelf.new) fault) }
-    ensures tells { (S.outside shelf.new).held ≡ (S.outside shelf.old).held }
+    ensures keeps_held { (S.outside shelf.new).held ≡ (S.outside shelf.old).held }
 {
     match mover.finish(shelf) {
         Ok(()) => Ok(Moved {
@@ -81,7 +81,7 @@ fn end_refused<S: Shelf>(
         → Follows known seen (version_and_header cursor.now.reading.progress) cursor.now.items
         → EndsAt table.now mover.old.name.now (version_and_header cursor.now.reading.progress)
         (seen ++ cursor.now.items) before (S.outside shelf.new) refusal result }
-    ensures tells { (S.outside shelf.new).held ≡ (S.outside shelf.old).held }
+    ensures keeps_held { (S.outside shelf.new).held ≡ (S.outside shelf.old).held }
 {
     match take(alloc, shelf, table, mover, cursor.head(), cursor.items()) {
         Ok(()) => {}

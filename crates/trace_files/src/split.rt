@@ -89,7 +89,7 @@ impl<'a> Splitting<'a> {
             → IsOutputs self.old.files outputs before (S.outside shelf.old)
             → AreCut (outputs_with (outputs_with outputs 0 (spell_ending version first)) 1
             (spell_ending version second)) before (S.outside shelf.new) error) }
-        ensures tells { (S.outside shelf.new).held ≡ (S.outside shelf.old).held }
+        ensures keeps_held { (S.outside shelf.new).held ≡ (S.outside shelf.old).held }
     {
         let (first, second) = (TraceRecord::End(first), TraceRecord::End(second));
         // No end is spelled against the records before it.
@@ -231,7 +231,7 @@ pub fn split_trace<S: Shelf>(
         → HasRead (S.outside shelf.old) (S.outside shelf.new) }
     // A second reading is refused as no trace, or beside the first: for its version, its number of
     // harts, its first position, or its number of accesses. What its reads have given is refused so,
-    // and no files are told then, or no more.
+    // and no files are known then, or no more.
     ensures changed { (refusal : Refused) → result ≡ Err (CopyFault.Changed refusal)
         → (S.outside shelf.new).held ≡ None }
     ensures other { (refusal : Refused) → result ≡ Err (CopyFault.Changed refusal)

@@ -65,7 +65,7 @@ fn put_one<S: Shelf>(
         → StopsAt table.now mover.old.name.now (Some head) (seen ++ item.now ∷ []) before
         (S.outside shelf.new) fault) }
     ensures name { mover.new.name ≡ mover.old.name }
-    ensures tells { (S.outside shelf.new).held ≡ (S.outside shelf.old).held }
+    ensures keeps_held { (S.outside shelf.new).held ≡ (S.outside shelf.old).held }
 {
     if let Some(fault) = record_fault(table, mover.near, item) {
         return match mover.finish(shelf) {
@@ -100,7 +100,7 @@ fn put_all<S: Shelf>(
         → StopsAt table.now mover.old.name.now (Some head) (seen ++ items.now) before
         (S.outside shelf.new) fault) }
     ensures name { mover.new.name ≡ mover.old.name }
-    ensures tells { (S.outside shelf.new).held ≡ (S.outside shelf.old).held }
+    ensures keeps_held { (S.outside shelf.new).held ≡ (S.outside shelf.old).held }
 {
     for item in items {
         match put_one(shelf, table, mover, item) {
@@ -138,7 +138,7 @@ fn begin_once<S: Shelf>(
         → StopsAt table mover.old.name.now (Some (version, header)) seen before
         (S.outside shelf.new) fault) }
     ensures name { mover.new.name ≡ mover.old.name }
-    ensures tells { (S.outside shelf.new).held ≡ (S.outside shelf.old).held }
+    ensures keeps_held { (S.outside shelf.new).held ≡ (S.outside shelf.old).held }
 {
     if mover.begun {
         return Ok(());
@@ -173,7 +173,7 @@ pub(crate) fn take<S: Shelf>(
         → StopsAt table.now mover.old.name.now head (seen ++ items.now) before
         (S.outside shelf.new) fault) }
     ensures name { mover.new.name ≡ mover.old.name }
-    ensures tells { (S.outside shelf.new).held ≡ (S.outside shelf.old).held }
+    ensures keeps_held { (S.outside shelf.new).held ≡ (S.outside shelf.old).held }
 {
     let Some((version, header)) = head else {
         return Ok(());

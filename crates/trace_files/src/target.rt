@@ -39,6 +39,6 @@ pub(crate) trait Target {
             → IsOutputs (waiting self.old) (files self.old seen) before (S.outside shelf.old)
             → AreCut (files self.old (seen ++ item.now ∷ [])) before
             (S.outside shelf.new) error) }
-        ensures tells { (S.outside shelf.new).held ≡ (S.outside shelf.old).held }
+        ensures keeps_held { (S.outside shelf.new).held ≡ (S.outside shelf.old).held }
         ensures gives { (S.outside shelf.new).given ≡ (S.outside shelf.old).given };
 }

@@ -63,7 +63,7 @@ impl<'a> TraceOutputs<'a> {
             → IsOutputs self.old outputs before (S.outside shelf.old)
             → AreCut (outputs ++ record { name = name.now; bytes = [] } ∷ []) before
             (S.outside shelf.new) error) }
-        ensures tells { (S.outside shelf.new).held ≡ (S.outside shelf.old).held }
+        ensures keeps_held { (S.outside shelf.new).held ≡ (S.outside shelf.old).held }
         ensures gives { (S.outside shelf.new).given ≡ (S.outside shelf.old).given }
     {
         self.outputs.begin(alloc, shelf, name)
@@ -96,7 +96,7 @@ impl<'a> TraceOutputs<'a> {
             → AreCut (outputs ++ record
             { name = name.now; bytes = begun_with version header [] } ∷ [])
             before (S.outside shelf.new) error) }
-        ensures tells { (S.outside shelf.new).held ≡ (S.outside shelf.old).held }
+        ensures keeps_held { (S.outside shelf.new).held ≡ (S.outside shelf.old).held }
         ensures gives { (S.outside shelf.new).given ≡ (S.outside shelf.old).given }
     {
         match self.begin(alloc, shelf, name) {
@@ -133,7 +133,7 @@ impl<'a> TraceOutputs<'a> {
             → IsOutputs self.old outputs before (S.outside shelf.old)
             → AreCut (outputs_with outputs place (spell_header writer.old.version header))
             before (S.outside shelf.new) error) }
-        ensures tells { (S.outside shelf.new).held ≡ (S.outside shelf.old).held }
+        ensures keeps_held { (S.outside shelf.new).held ≡ (S.outside shelf.old).held }
         ensures gives { (S.outside shelf.new).given ≡ (S.outside shelf.old).given }
     {
         self.piece.clear();
@@ -170,7 +170,7 @@ impl<'a> TraceOutputs<'a> {
             → AreCut (outputs_with outputs place
             (spell_record writer.old.version writer.old.before item.now))
             before (S.outside shelf.new) error) }
-        ensures tells { (S.outside shelf.new).held ≡ (S.outside shelf.old).held }
+        ensures keeps_held { (S.outside shelf.new).held ≡ (S.outside shelf.old).held }
         ensures gives { (S.outside shelf.new).given ≡ (S.outside shelf.old).given }
     {
         self.piece.clear();
@@ -199,7 +199,7 @@ impl<'a> TraceOutputs<'a> {
         ensures cut { IfErr result (λ error. (outputs : List Output) (before : Outside)
             → IsOutputs self.old outputs before (S.outside shelf.old)
             → AreCut (outputs_with outputs place bytes.now) before (S.outside shelf.new) error) }
-        ensures tells { (S.outside shelf.new).held ≡ (S.outside shelf.old).held }
+        ensures keeps_held { (S.outside shelf.new).held ≡ (S.outside shelf.old).held }
         ensures gives { (S.outside shelf.new).given ≡ (S.outside shelf.old).given }
     {
         self.outputs.put(shelf, place, bytes)
@@ -218,7 +218,7 @@ impl<'a> TraceOutputs<'a> {
         ensures cut { IfErr result (λ error. (outputs : List Output) (before : Outside)
             → IsOutputs self.old outputs before (S.outside shelf.old)
             → AreCut outputs before (S.outside shelf.new) error) }
-        ensures tells { (S.outside shelf.new).held ≡ (S.outside shelf.old).held }
+        ensures keeps_held { (S.outside shelf.new).held ≡ (S.outside shelf.old).held }
         ensures gives { (S.outside shelf.new).given ≡ (S.outside shelf.old).given }
     {
         self.outputs.finish(shelf)

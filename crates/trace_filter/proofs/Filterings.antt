@@ -3,7 +3,7 @@ use Rattle.std.proofs.Common.{◌≡◌, ◌<◌, ◌^◌, ◌++◌, ℕ, List, 
 use Rattle.std.proofs.Common.{refl, sym, ap, ◌∙◌, subst}
 use Rattle.std.specs.Option.{IfSome}
 use Rattle.shelf.specs.Fetch.{IsFront}
-use Rattle.shelf.specs.Laws.Told.{read_none, told_same}
+use Rattle.shelf.specs.Laws.Known.{read_none, known_same}
 use Rattle.shelf.specs.Shelf.{Files, HasRead, Outside, content}
 use Rattle.trace_format.specs.declared.record.Header.{Header}
 use Rattle.trace_format.specs.declared.record.TraceRecord.{TraceRecord}
@@ -58,6 +58,7 @@ come_next held trace bytes None cursor come = come
 come_next held trace bytes (Some f) cursor come = record {
   size = come.size;
   room = come.room;
+  few = come.few;
   front = come.front;
   read = record {
     reading = come.read.reading;
@@ -73,6 +74,7 @@ any_sited : (held : Option Files) (trace all : List ℕ) (next : Reached)
 any_sited held trace all next come good = record {
   size = come.size;
   room = come.room;
+  few = come.few;
   front = come.front;
   read = record {
     reading = come.read.reading;
@@ -163,7 +165,8 @@ filtering_next k trace name file cursor old read new all same come way = record 
   come = record {
     size = come.size;
     room = come.room;
-    front = told_same (λ fs. IsFront (content fs trace) all) read.held new.held same come.front;
+    few = come.few;
+    front = known_same (λ fs. IsFront (content fs trace) all) read.held new.held same come.front;
     read = come.read;
   };
   way = way;

@@ -16,7 +16,7 @@ pub record CameTo (items : List TraceRecord) (i : ℕ) (first now : FilterFile) 
   pub came : (k : ℕ) (name : List ℕ) (h : Header) (seen : List TraceRecord) (before : Outside)
       → IsUnderWay k name h first seen before old
       → IsUnderWay k name h now (seen ++ take i items) before new
-  pub tells : new.held ≡ old.held
+  pub keeps_held : new.held ≡ old.held
 
 pub came_none : (items : List TraceRecord) (f : FilterFile) (old : Outside)
     → CameTo items 0 f f old old
@@ -24,7 +24,7 @@ came_none items f old = record {
   came = λ k name h seen before came.
       subst (λ (l : List TraceRecord). IsUnderWay k name h f l before old) (sym (append-nil seen))
       came;
-  tells = refl;
+  keeps_held = refl;
 }
 
 pub seen_more : (items : List TraceRecord) (i : ℕ) (x : TraceRecord) → i < length items

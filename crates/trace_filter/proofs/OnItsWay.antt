@@ -7,7 +7,7 @@ use Rattle.std.specs.Option.{option_to_list}
 use Rattle.shelf.specs.declared.shelf.ShelfError.{ShelfError}
 use Rattle.shelf.specs.Files.{AreCut, AreWritten, Output}
 use Rattle.shelf.specs.Laws.Files.{IsOutputs-read}
-use Rattle.shelf.specs.Laws.Told.{goes_map, goes_same, read_both, read_none, reads_alone, writes_both}
+use Rattle.shelf.specs.Laws.Known.{goes_map, goes_same, read_both, read_none, reads_alone, writes_both}
 use Rattle.shelf.specs.OneFile.{Waiting}
 use Rattle.shelf.specs.OnTheirWay.{IsNew, IsOutputs, names_of}
 use Rattle.shelf.specs.Files.{HasCauseAmong, BegunInOrder}

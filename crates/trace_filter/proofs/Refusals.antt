@@ -3,7 +3,7 @@ use Rattle.std.proofs.Common.{◌≡◌, ◌++◌, ℕ, List, Bool, true, false,
 use Rattle.std.proofs.Common.{Result, Ok, Err, refl, sym, ap, ◌∙◌, subst, cond}
 use Rattle.std.specs.Option.{option_or}
 use Rattle.shelf.specs.Files.{AreWritten}
-use Rattle.shelf.specs.Shelf.{Files, HasRead, Outside, Told, content}
+use Rattle.shelf.specs.Shelf.{Files, HasRead, Outside, Known, content}
 use Rattle.trace_format.specs.declared.fault.TraceFault.{TraceFault}
 use Rattle.trace_format.specs.declared.record.Header.{Header}
 use Rattle.trace_format.specs.declared.record.TraceEnd.{TraceEnd}
@@ -65,7 +65,7 @@ pub record HasFault (held : Option Files) (name bytes : List ℕ) (refusal : Ref
     Type 0 where
   pub all : List ℕ
   pub behind : (more : List ℕ) × (all ≡ bytes ++ more)
-  pub whole : Told held (λ files. all ≡ content files name)
+  pub whole : Known held (λ files. all ≡ content files name)
   pub good : IsSited all
   pub refused : refusal_of sited all ≡ Some refusal
   pub reading : now.reading ≡ (reading_of all).1
@@ -140,21 +140,21 @@ early_of None None (Err f) refusal other is =
     some_one e = cc
 
 early_bytes : (held : Option Files) (name : List ℕ) (refusal : Refusal)
-    → Told held (λ fs. refusal_of sited (content fs name) ≡ Some refusal)
+    → Known held (λ fs. refusal_of sited (content fs name) ≡ Some refusal)
     → (b : List ℕ) × (refusal_of sited b ≡ Some refusal)
-    → (bytes : List ℕ) × Told held (λ fs. bytes ≡ content fs name)
+    → (bytes : List ℕ) × Known held (λ fs. bytes ≡ content fs name)
     × (refusal_of sited bytes ≡ Some refusal)
-early_bytes None name refusal told found = (found.0, tt, found.1)
-early_bytes (Some fs) name refusal told found = (content fs name, refl, told)
+early_bytes None name refusal stated found = (found.0, tt, found.1)
+early_bytes (Some fs) name refusal stated found = (content fs name, refl, stated)
 
 -- nothing is written then
 early_refused : (k : ℕ) (held : Option Files) (name file : List ℕ) (refusal : Refusal)
     (old now : Outside) → is_fault refusal ≡ false
-    → Told held (λ fs. refusal_of sited (content fs name) ≡ Some refusal)
+    → Known held (λ fs. refusal_of sited (content fs name) ≡ Some refusal)
     → (b : List ℕ) × (refusal_of sited b ≡ Some refusal) → HasRead old now
     → IsRefused held name file k old now refusal
-early_refused k held name file refusal old now other told found read =
-    let bytes = early_bytes held name refusal told found in
+early_refused k held name file refusal old now other stated found read =
+    let bytes = early_bytes held name refusal stated found in
     let r = reading_of bytes.0 in
     let early : early_refusal bytes.0 ≡ Some refusal =
     early_of (pcs_refusal sited bytes.0) (header_refusal sited (head_of r.1.progress))
@@ -177,13 +177,13 @@ pub other_refused : (k : ℕ) (held : Option Files) (name file : List ℕ) (begu
     (head : Option (Version × Header)) (seen : List TraceRecord) (refusal : Refusal)
     (old now : Outside) → is_fault refusal ≡ false
     → IsOnItsWay k file begun head seen old now
-    → Told held (λ fs. refusal_of (wanted_next begun) (content fs name) ≡ Some refusal)
+    → Known held (λ fs. refusal_of (wanted_next begun) (content fs name) ≡ Some refusal)
     → (b : List ℕ) × (refusal_of (wanted_next begun) b ≡ Some refusal)
     → IsRefused held name file k old now refusal
-other_refused k held name file None head seen refusal old now other way told found =
-    early_refused k held name file refusal old now other told found
+other_refused k held name file None head seen refusal old now other way stated found =
+    early_refused k held name file refusal old now other stated found
     (read_there k file head seen old now way)
-other_refused k held name file (Some g) head seen refusal old now other way told found =
+other_refused k held name file (Some g) head seen refusal old now other way stated found =
     let fault = is_trace_fault found.0 refusal found.1 in
     let both : true ≡ false = ap is_fault (sym fault.1) ∙ other in
     absurd cc

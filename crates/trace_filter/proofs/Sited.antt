@@ -8,8 +8,8 @@ use Rattle.std.proofs.Common.{drop}
 use Rattle.std.proofs.lemmas.List.Elements.{All-nil, All-tail}
 use Rattle.std.proofs.lemmas.List.{take_all}
 use Rattle.shelf.specs.Fetch.{IsFront}
-use Rattle.shelf.specs.Laws.Told.{told_map}
-use Rattle.shelf.specs.Shelf.{Files, Told, content}
+use Rattle.shelf.specs.Laws.Known.{known_map}
+use Rattle.shelf.specs.Shelf.{Files, Known, content}
 use Rattle.trace_format.specs.declared.fault.TraceFault.{TraceFault}
 use Rattle.trace_format.specs.declared.read_so_far.ReadSoFar.{ReadSoFar}
 use Rattle.trace_format.specs.declared.record.Header.{Header}
@@ -99,9 +99,9 @@ front_first all bytes front =
     )
 
 pub front_of_all : (held : Option Files) (trace all : List ℕ)
-    → Told held (λ fs. all ≡ content fs trace) → Told held (λ fs. IsFront (content fs trace) all)
+    → Known held (λ fs. all ≡ content fs trace) → Known held (λ fs. IsFront (content fs trace) all)
 front_of_all held trace all whole =
-    told_map held (λ fs same.
+    known_map held (λ fs same.
     subst (λ (l : List ℕ). IsFront l all) same
     (record { within = omega arith; same = sym (take_all (length all) all (omega arith)) })) whole
 

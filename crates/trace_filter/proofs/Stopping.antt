@@ -17,8 +17,8 @@ use Rattle.shelf.specs.Fetch.{IsFront}
 use Rattle.shelf.specs.Files.{AreCut, AreWhole, AreWritten, BegunInOrder, GoOn, IsFrontOf, Output}
 use Rattle.shelf.specs.Files.{RoseAmong, bytes_for, one_file}
 use Rattle.shelf.specs.Laws.Files.{AreCut-longer, BegunInOrder-others, IsOutputs-cut}
-use Rattle.shelf.specs.Laws.Told.{goes_map, narrows_then, told_map}
-use Rattle.shelf.specs.Shelf.{Files, Goes, Narrows, OnlyReads, Outside, Rose, Told, content}
+use Rattle.shelf.specs.Laws.Known.{goes_map, narrows_then, known_map}
+use Rattle.shelf.specs.Shelf.{Files, Goes, Narrows, OnlyReads, Outside, Rose, Known, content}
 use Rattle.trace_format.specs.declared.fault.TraceFault.TheVariants as trace_faults
 use Rattle.trace_format.specs.declared.record.Header.{Header}
 use Rattle.trace_format.specs.declared.record.TraceEnd.{TraceEnd}
@@ -229,7 +229,7 @@ none_for k file head put n other =
     none_named (so_far k file head put) n (new_name k file head put n other)
 
 module _ (held : Option Files) (trace file : List ℕ) (k : ℕ) (bytes : List ℕ)
-    (front : Told held (λ fs. IsFront (content fs trace) bytes)) (good : IsSited bytes)
+    (front : Known held (λ fs. IsFront (content fs trace) bytes)) (good : IsSited bytes)
   where
     abbrev pub head : Option (Version × Header)
     head = version_and_header (reading_of bytes).1.progress
@@ -252,7 +252,7 @@ module _ (held : Option Files) (trace file : List ℕ) (k : ℕ) (bytes : List �
         → Goes before.written now.written P =
         λ P goes. subst (λ (w : Option Files). Goes before.written w P) (sym written) goes in
         record {
-          fronts = told_map held (λ fs f.
+          fronts = known_map held (λ fs f.
               let longer = written_of k file (content fs trace) in
               later (BegunInOrder longer)
               (AreCut-longer outs longer before last error
@@ -303,7 +303,7 @@ module _ (held : Option Files) (trace file : List ℕ) (k : ℕ) (bytes : List �
 
     -- all that came is written, and is that of a trace that is refused
     pub refused_up : (before now : Outside) (refusal : Refusal)
-        → Told held (λ fs. bytes ≡ content fs trace) → refusal_of sited bytes ≡ Some refusal
+        → Known held (λ fs. bytes ≡ content fs trace) → refusal_of sited bytes ≡ Some refusal
         → refusal ≢ refusals.Trace trace_faults.NoMemory
         → AreWritten (so_far k file head (reading_of bytes).0) before now
         → HasGivenUp held trace file k before now (faults.Refused refusal)

@@ -6,7 +6,7 @@ use Rattle.sharing_rules.specs.Filtered.{filtered}
 use Rattle.shelf.specs.declared.shelf.ShelfError.{ShelfError}
 use Rattle.shelf.specs.declared.shelf.ShelfError.TheVariants as errors
 use Rattle.shelf.specs.Files.{AreCut, AreWritten, BegunInOrder, Output, one_file}
-use Rattle.shelf.specs.Shelf.{Files, Goes, HasRead, Narrows, Outside, Rose, Told, content}
+use Rattle.shelf.specs.Shelf.{Files, Goes, HasRead, Narrows, Outside, Rose, Known, content}
 use Rattle.trace_format.specs.declared.fault.TraceFault.TheVariants as trace_faults
 use Rattle.trace_format.specs.declared.record.Header.{Header}
 use Rattle.trace_format.specs.declared.record.TraceRecord.{TraceRecord}
@@ -84,20 +84,20 @@ pub record HasFilterCause (name file : List ℕ) (before now : Outside) (fault :
     pub write_quiet : fault ≢ WriteFault → now.write_faults ≡ before.write_faults
 
 -- The bytes are refused so, and all is written that is written of them; they are the held ones of
--- the name, where these are told.
+-- the name, where these are known.
 pub record IsRefused (held : Option Files) (name file : List ℕ) (k : ℕ) (before now : Outside)
     (refusal : Refusal) : Type 0 where
   pub bytes : List ℕ
-  pub whole : Told held (λ files. bytes ≡ content files name)
+  pub whole : Known held (λ files. bytes ≡ content files name)
   pub refused : refusal_of sited bytes ≡ Some refusal
   pub written : AreWritten (written_of k file bytes) before now
 
--- It gave up. The file is a front of what is written of the bytes, where these are told, and each
--- other file is as it was; it is known who is the cause. Where the trace is refused, the file is all
--- that is written of it.
+-- It gave up. The file is a front of what is written of the bytes, where these are known, and each
+-- other file is as it was; it is known who is the cause. Where the trace is refused, the file is
+-- all that is written of it.
 pub record HasGivenUp (held : Option Files) (name file : List ℕ) (k : ℕ) (before now : Outside)
     (fault : FilterFault) : Type 0 where
-  pub fronts : Told held (λ files. Goes before.written now.written
+  pub fronts : Known held (λ files. Goes before.written now.written
       (BegunInOrder (written_of k file (content files name))))
   pub others : Goes before.written now.written
       (λ old new. (n : List ℕ) → n ≢ file → new n ≡ old n)

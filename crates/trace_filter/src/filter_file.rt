@@ -39,7 +39,7 @@ impl<'a> FilterFile<'a> {
             (S.outside shelf.old) (S.outside shelf.new)) }
         ensures cut { IfErr result (λ error. AreCut (filtered_so_far near name.now header [])
             (S.outside shelf.old) (S.outside shelf.new) error) }
-        ensures tells { (S.outside shelf.new).held ≡ (S.outside shelf.old).held }
+        ensures keeps_held { (S.outside shelf.new).held ≡ (S.outside shelf.old).held }
     {
         let header = Header {
             first: 0,
@@ -89,7 +89,7 @@ impl<'a> FilterFile<'a> {
             → IsUnderWay k name header self.old seen before (S.outside shelf.old)
             → AreCut (filtered_so_far k name header (seen ++ item.now ∷ [])) before
             (S.outside shelf.new) error) }
-        ensures tells { (S.outside shelf.new).held ≡ (S.outside shelf.old).held }
+        ensures keeps_held { (S.outside shelf.new).held ≡ (S.outside shelf.old).held }
     {
         match self.records.on_record(item) {
             Ok(Passage::Kept) => self.files.put_record(shelf, 0, &mut self.writer, item),
@@ -121,7 +121,7 @@ impl<'a> FilterFile<'a> {
             → IsUnderWay k name header self.old seen before (S.outside shelf.old)
             → AreCut (filtered_so_far k name header (seen ++ take n items.now)) before
             (S.outside shelf.new) error)) }
-        ensures tells { (S.outside shelf.new).held ≡ (S.outside shelf.old).held }
+        ensures keeps_held { (S.outside shelf.new).held ≡ (S.outside shelf.old).held }
     {
         for item in items {
             match self.put(shelf, item) {
@@ -143,7 +143,7 @@ impl<'a> FilterFile<'a> {
             (seen : List Record) (before : Outside)
             → IsUnderWay k name header self.old seen before (S.outside shelf.old)
             → AreCut (filtered_so_far k name header seen) before (S.outside shelf.new) error) }
-        ensures tells { (S.outside shelf.new).held ≡ (S.outside shelf.old).held }
+        ensures keeps_held { (S.outside shelf.new).held ≡ (S.outside shelf.old).held }
     {
         self.files.finish(shelf)
     }

@@ -79,7 +79,7 @@ fn begin_with<'a, S: Shelf>(
         (S.outside shelf.old) (S.outside shelf.new)) }
     ensures cut { IfErr result (λ error. (version : AVersion) → IsCutAt near name.now
         (Some (version, header)) items.now (S.outside shelf.old) (S.outside shelf.new) error) }
-    ensures tells { (S.outside shelf.new).held ≡ (S.outside shelf.old).held }
+    ensures keeps_held { (S.outside shelf.new).held ≡ (S.outside shelf.old).held }
 {
     let mut file = match FilterFile::begin(alloc, shelf, name, near, header) {
         Ok(file) => file,
@@ -115,7 +115,7 @@ fn take<'a, S: Shelf>(
         → IsOnItsWay near name.now file.old known seen before (S.outside shelf.old)
         → Follows known seen head items.now
         → IsCutAt near name.now head (seen ++ items.now) before (S.outside shelf.new) error) }
-    ensures tells { (S.outside shelf.new).held ≡ (S.outside shelf.old).held }
+    ensures keeps_held { (S.outside shelf.new).held ≡ (S.outside shelf.old).held }
 {
     let Some((_, header)) = head else {
         return Ok(());
@@ -154,7 +154,7 @@ fn finish<S: Shelf>(
         (head : Option (AVersion × Head)) (seen : List Record) (before : Outside)
         → IsOnItsWay k name file.old head seen before (S.outside shelf.old)
         → AreCut (so_far k name head seen) before (S.outside shelf.new) error) }
-    ensures tells { (S.outside shelf.new).held ≡ (S.outside shelf.old).held }
+    ensures keeps_held { (S.outside shelf.new).held ≡ (S.outside shelf.old).held }
 {
     match file {
         None => Ok(Filtered { whole: 0, kept: 0 }),
@@ -197,7 +197,7 @@ fn end_refused<'a, S: Shelf>(
         → Follows known seen (version_and_header cursor.now.reading.progress) cursor.now.items
         → IsCutAt near name.now (version_and_header cursor.now.reading.progress)
         (seen ++ cursor.now.items) before (S.outside shelf.new) error) }
-    ensures tells { (S.outside shelf.new).held ≡ (S.outside shelf.old).held }
+    ensures keeps_held { (S.outside shelf.new).held ≡ (S.outside shelf.old).held }
 {
     match take(
         alloc,

@@ -196,16 +196,16 @@ pub short_touch_found : (kind : Kind) (size harts last place : ℕ) (bytes : Lis
 unfolding short_touch_judged
 short_touch_found kind size harts last place bytes a few low sized len is tag e =
     let hart = get_or bytes 1 0 in
-    let told = drop 2 bytes in
-    let z = number_in told in
+    let stated = drop 2 bytes in
+    let z = number_in stated in
     let addr = address_at last z in
     let made : Touch = record { hart = hart; addr = addr; kind = kind; size = size } in
     let first = passed (leb harts hart) _ _ a e in
-    let second = granted (are_groups told && eqb (addr % size) 0) _ _ a first.1 in
-    let both = and_parts (are_groups told) (eqb (addr % size) 0) second.0 in
+    let second = granted (are_groups stated && eqb (addr % size) 0) _ _ a first.1 in
+    let both = and_parts (are_groups stated) (eqb (addr % size) 0) second.0 in
     let inside : leb harts hart ≡ false = first.0 in
     let below : hart < harts = grind (arith, nat_tests) in
-    let those = groups_found told (IsBytes-drop 2 bytes is) (omega (arith, length-drop 2 bytes))
+    let those = groups_found stated (IsBytes-drop 2 bytes is) (omega (arith, length-drop 2 bytes))
     both.0 in
     let good : IsGoodTouch harts made = record {
       hart = below;
@@ -217,35 +217,35 @@ short_touch_found kind size harts last place bytes a few low sized len is tag e 
       };
     } in
     let long : 2 ≤ length bytes = omega arith in
-    let parts : bytes ≡ get_or bytes 0 0 ∷ hart ∷ told =
+    let parts : bytes ≡ get_or bytes 0 0 ∷ hart ∷ stated =
     drop_more bytes 0 0 (omega arith) ∙ ap (λ (xs : List ℕ). get_or bytes 0 0 ∷ xs)
     (drop_more bytes 1 0 (omega arith)) in
     let again : groups (distance last addr)
-    ≡ told = ap groups (distance_again last z low those.small) ∙ those.same in
-    let spelled : spell_short_touch last made ≡ get_or bytes 0 0 ∷ hart ∷ told =
+    ≡ stated = ap groups (distance_again last z low those.small) ∙ those.same in
+    let spelled : spell_short_touch last made ≡ get_or bytes 0 0 ∷ hart ∷ stated =
     λ i. tag i ∷ hart ∷ again i in
     subst (λ (x : Touch). IsGoodTouch harts x × (bytes ≡ spell_short_touch last x))
     (same_Ok made a second.1) (good, parts ∙ sym spelled)
 
 -- what an access with a pc was, by its two parts
-pub record WasSited (before : Before) (place : ℕ) (told : List ℕ) (j : Result Touch TraceFault)
+pub record WasSited (before : Before) (place : ℕ) (stated : List ℕ) (j : Result Touch TraceFault)
     (sited : Touch × Option ℕ) : Type 0 where
   pub touch : Touch
   pub judged : j ≡ Ok touch
-  pub groups_good : are_groups told ≡ true
-  pub is : (touch, Some (address_at (pc_before before touch.hart) (number_in told))) ≡ sited
+  pub groups_good : are_groups stated ≡ true
+  pub is : (touch, Some (address_at (pc_before before touch.hart) (number_in stated))) ≡ sited
 
-was_sited : (before : Before) (place : ℕ) (told : List ℕ) (j : Result Touch TraceFault)
+was_sited : (before : Before) (place : ℕ) (stated : List ℕ) (j : Result Touch TraceFault)
     (sited : Touch × Option ℕ)
-    → with_pc before place told j ≡ Ok sited → WasSited before place told j sited
-was_sited before place told (Err fault) sited e = absurd cc
-was_sited before place told (Ok a) sited e =
-    let g = granted (are_groups told) _ _ sited e in
+    → with_pc before place stated j ≡ Ok sited → WasSited before place stated j sited
+was_sited before place stated (Err fault) sited e = absurd cc
+was_sited before place stated (Ok a) sited e =
+    let g = granted (are_groups stated) _ _ sited e in
     record {
       touch = a;
       judged = refl;
       groups_good = g.0;
-      is = same_Ok (a, Some (address_at (pc_before before a.hart) (number_in told))) sited g.1;
+      is = same_Ok (a, Some (address_at (pc_before before a.hart) (number_in stated))) sited g.1;
     }
 
 -- an access of version 3: its front is one of version 2, and its pc is behind that
@@ -269,13 +269,13 @@ unfolding sited_touch_judged spell_touch
 sited_touch_found kind size harts before place bytes sited few low sized len is tag e =
     let n = short_touch_extent bytes in
     let front = take n bytes in
-    let told = drop n bytes in
-    let w = was_sited before (place + n) told
+    let stated = drop n bytes in
+    let w = was_sited before (place + n) stated
     (short_touch_judged kind size harts before.last place front) sited e in
     let last = pc_before before w.touch.hart in
-    let y = number_in told in
-    let count : length told ≡ group_count told = omega (arith, length-drop n bytes) in
-    let those = groups_found told (IsBytes-drop n bytes is) count w.groups_good in
+    let y = number_in stated in
+    let count : length stated ≡ group_count stated = omega (arith, length-drop n bytes) in
+    let those = groups_found stated (IsBytes-drop n bytes is) count w.groups_good in
     let some : 1 ≤ n = omega arith in
     let le : n ≤ length bytes = omega arith in
     let whole = front_whole bytes n refl some le in
@@ -283,7 +283,7 @@ sited_touch_found kind size harts before place bytes sited few low sized len is 
     ∙ sym (get_or-take n bytes 0 0 some) in
     let first = short_touch_found kind size harts before.last place front w.touch few low.last sized
     whole (IsBytes-take n bytes is) tagged w.judged in
-    let again : groups (distance last (address_at last y)) ≡ told =
+    let again : groups (distance last (address_at last y)) ≡ stated =
     ap groups (distance_again last y (pc_before_low before w.touch.hart low) those.small)
     ∙ those.same in
     record {
@@ -293,7 +293,7 @@ sited_touch_found kind size harts before place bytes sited few low sized len is 
       good = first.0;
       small = address_below last y;
       spelled = sym (take-append-drop n bytes)
-          ∙ ap (λ (xs : List ℕ). xs ++ told) first.1
+          ∙ ap (λ (xs : List ℕ). xs ++ stated) first.1
           ∙ ap (λ (xs : List ℕ). spell_short_touch before.last w.touch ++ xs) (sym again);
     }
 
@@ -378,7 +378,7 @@ no_zero_found (b ∷ bs) none =
     let other : eqb 0 b ≡ false = both.0 in
     All-cons (λ b. b ≢ 0) b bs (λ zero. grind (arith, nat_tests)) (no_zero_found bs both.1)
 
--- a symbol has as many bytes as it tells
+-- a symbol has as many bytes as it states
 long_enough : (bytes : List ℕ) → length bytes ≡ symbol_extent bytes → number_at w16 10 bytes ≤ 1024
     → length bytes ≡ 12 + number_at w16 10 bytes
 unfolding symbol_extent
@@ -397,17 +397,17 @@ symbol_found v harts before place bytes item len is tag None known e p = absurd 
 symbol_found v harts before place bytes item len is tag (Some kind) known e p =
     let addr = number_at w32 2 bytes in
     let size = number_at w32 6 bytes in
-    let told = number_at w16 10 bytes in
+    let stated = number_at w16 10 bytes in
     let name = drop 12 bytes in
     let first = passed (eqb size 0) _ _ item e in
-    let second = passed (ltb 1024 told) _ _ item first.1 in
+    let second = passed (ltb 1024 stated) _ _ item first.1 in
     let third = passed (list_any (eqb 0) name) _ _ item second.1 in
     let sized : eqb size 0 ≡ false = first.0 in
-    let fits : ltb 1024 told ≡ false = second.0 in
+    let fits : ltb 1024 stated ≡ false = second.0 in
     let some : 1 ≤ size = grind (arith, nat_tests) in
-    let short : told ≤ 1024 = grind (arith, nat_tests) in
+    let short : stated ≤ 1024 = grind (arith, nat_tests) in
     let long = long_enough bytes len short in
-    let as_told : length name ≡ told = omega (arith, length-drop 12 bytes) in
+    let as_stated : length name ≡ stated = omega (arith, length-drop 12 bytes) in
     let good : IsGoodSymbol addr size name = record {
       addr_in_range = below_32 bytes 2 is;
       size_in_range = below_32 bytes 6 is;
@@ -429,7 +429,7 @@ symbol_found v harts before place bytes item len is tag (Some kind) known e p =
     let k = kind_found (get_or bytes 1 0) kind known in
     let s1 = spelled_32 bytes 2 is (omega arith) in
     let s2 = spelled_32 bytes 6 is (omega arith) in
-    let s3 : to_le_bytes w16 (length name) ≡ part bytes 10 2 = ap (to_le_bytes w16) as_told
+    let s3 : to_le_bytes w16 (length name) ≡ part bytes 10 2 = ap (to_le_bytes w16) as_stated
     ∙ spelled_16 bytes 10 is (omega arith) in
     let spelled : spell_symbol kind addr size name ≡ joined (get_or bytes 0 0) (get_or bytes 1 0)
     (part bytes 2 4) (part bytes 6 4)

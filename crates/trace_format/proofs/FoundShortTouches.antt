@@ -32,12 +32,12 @@ first_group more a m high small some =
     let rest : z / 128 ≡ m = grind arith in
     rw (many, low, rest) refl
 
-pub record AreThose (told : List ℕ) : Type 0 where
-  pub same : groups (number_in told) ≡ told
-  pub small : number_in told < 2 ^ 32
+pub record AreThose (stated : List ℕ) : Type 0 where
+  pub same : groups (number_in stated) ≡ stated
+  pub small : number_in stated < 2 ^ 32
 
-pub groups_found : (told : List ℕ) → IsBytes told → length told ≡ group_count told → are_groups told
-    ≡ true → AreThose told
+pub groups_found : (stated : List ℕ) → IsBytes stated → length stated ≡ group_count stated → are_groups stated
+    ≡ true → AreThose stated
 groups_found [] is len good = absurd (grind (arith, nat_tests))
 groups_found (a ∷ []) is len good =
     let low : a < 128 = grind (arith, nat_tests) in

@@ -1,4 +1,4 @@
--- Numbers that are told in groups.
+-- Numbers that are stated in groups.
 use Rattle.std.proofs.Common.{◌≡◌, ℕ, ◌+◌, ◌^◌, ◌<◌, ◌≤◌, true, List, [], ◌∷◌, length, take, drop}
 use Rattle.std.proofs.Common.{sym, ap, ◌∙◌, arith}
 use Rattle.std.proofs.lemmas.Bool.Decides.{nat_tests}
@@ -6,9 +6,9 @@ use Rattle.std.proofs.lemmas.List.{drop-take}
 use Rattle.trace_format.specs.Ahead.{HasNumber, HasNumberAt}
 use Rattle.trace_format.specs.Numbers.{are_groups, group_count, number_in}
 
--- Groups that a number below 2^32 is spelled in tell such a number.
-pub small_number : (told : List ℕ) → length told ≤ 5 → are_groups told ≡ true
-    → number_in told < 2 ^ 32
+-- The groups of a spelled number below 2^32 state such a number.
+pub small_number : (stated : List ℕ) → length stated ≤ 5 → are_groups stated ≡ true
+    → number_in stated < 2 ^ 32
 small_number [] few good = omega arith
 small_number (a ∷ []) few good = omega arith
 small_number (a ∷ b ∷ []) few good = omega arith
@@ -30,5 +30,5 @@ number_from bytes rest place number size cut long has =
       extent = ap (λ (k : ℕ). place + k) (has.extent ∙ ap group_count cut);
       there = omega (arith, long, has.there);
       spelled = ap are_groups (sym same) ∙ has.spelled;
-      told = has.told ∙ ap number_in same;
+      stated = has.stated ∙ ap number_in same;
     }

@@ -1,4 +1,4 @@
--- What a header tells stays told, and is what the bytes have.
+-- What a header states stays known, and is what the bytes have.
 use Rattle.std.proofs.Common.{◌≡◌, ℕ, List, ◌++◌, Option, Some, None, IsSome, refl, sym, ap, subst}
 use Rattle.std.proofs.Common.{◌∙◌}
 use Rattle.trace_format.specs.declared.read_so_far.ReadSoFar.{ReadSoFar}
@@ -18,13 +18,13 @@ same_both p q r first later = record {
       first.header ∙ later.header;
 }
 
--- what tells as a header that is told tells too
-pub told_too : (p q : Option ReadSoFar) → SameHead p q → IsSome q → IsSome p
-told_too (Some p) q same some = refl
-told_too None None same some = some
-told_too None (Some q) same some = let version = same.version in cc
+-- a state with the same header as one that has a header has it too
+pub stated_too : (p q : Option ReadSoFar) → SameHead p q → IsSome q → IsSome p
+stated_too (Some p) q same some = refl
+stated_too None None same some = some
+stated_too None (Some q) same some = let version = same.version in cc
 
--- nothing is told that was not told before
+-- nothing is known that was not known before
 pub as_before : (old new : Reading) (bytes : List ℕ) → new.progress ≡ old.progress
     → KeepsHead old bytes new
 as_before old new bytes is =
@@ -32,12 +32,12 @@ as_before old new bytes is =
     subst (λ (p : Option ReadSoFar). SameHead p old.progress) (sym is) (same_head old.progress) in
     record {
       stays = λ _. same;
-      told = λ some. same_both _ _ _ same
+      stated = λ some. same_both _ _ _ same
           (same_back _ _ (read_on-head old bytes
           (subst (λ (p : Option ReadSoFar). IsSome p) is some)));
     }
 
--- what tells the same
+-- a state with the same progress keeps the header too
 pub keeps_with : (old mid new : Reading) (bytes : List ℕ) → new.progress ≡ mid.progress
     → KeepsHead old bytes mid
     → KeepsHead old bytes new
@@ -45,12 +45,12 @@ keeps_with old mid new bytes is keeps =
     record {
       stays = λ some. subst (λ (p : Option ReadSoFar). SameHead p old.progress) (sym is)
           (keeps.stays some);
-      told = λ some.
+      stated = λ some.
           subst (λ (p : Option ReadSoFar). SameHead p (read_on old bytes).1.progress) (sym is)
-          (keeps.told (subst (λ (p : Option ReadSoFar). IsSome p) is some));
+          (keeps.stated (subst (λ (p : Option ReadSoFar). IsSome p) is some));
     }
 
--- a header that was told in a front of the bytes
+-- a header that was known from a front of the bytes
 pub keeps_longer : (old new : Reading) (piece front back : List ℕ) → piece ≡ front ++ back
     → KeepsHead old front new
     → KeepsHead old piece new
@@ -61,9 +61,9 @@ keeps_longer old new piece front back cut keeps =
     ap (λ (x : List TraceRecord × Reading). x.1.progress) whole in
     record {
       stays = keeps.stays;
-      told = λ some.
-          let same = keeps.told some in
-          let on = read_on-head (read_on old front).1 back (told_too _ _ (same_back _ _ same) some)
+      stated = λ some.
+          let same = keeps.stated some in
+          let on = read_on-head (read_on old front).1 back (stated_too _ _ (same_back _ _ same) some)
           in
           subst (λ (p : Option ReadSoFar). SameHead new.progress p) (sym last)
           (same_both _ _ _ same (same_back _ _ on));

@@ -19,7 +19,7 @@ use Rattle.trace_format.specs.declared.reader_state.State.{State}
 use Rattle.trace_format.specs.ReaderStates.{AddsSome, KeepsHead, ReadsBut, ReadsOn, ReadsPart}
 use Rattle.trace_format.specs.ReaderStates.{SameHead, extent_in, reading_with}
 use Rattle.trace_format.specs.Laws.Pieces.{part_at-head, read_on-head}
-use Rattle.trace_format.proofs.Heads.{as_before, keeps_with, same_back, same_both, told_too}
+use Rattle.trace_format.proofs.Heads.{as_before, keeps_with, same_back, same_both, stated_too}
 
 abbrev pub WantsMemory : State → Type 0
 WantsMemory s = s.fault ≡ Some faults.NoMemory
@@ -49,7 +49,7 @@ wants_or_not (Some faults.BadHarts) = inr (λ e. cc)
 wants_or_not (Some (faults.BadTag place)) = inr (λ e. cc)
 wants_or_not (Some (faults.BadField place)) = inr (λ e. cc)
 wants_or_not (Some (faults.Truncated size)) = inr (λ e. cc)
-wants_or_not (Some (faults.CountMismatch told counted)) = inr (λ e. cc)
+wants_or_not (Some (faults.CountMismatch stated counted)) = inr (λ e. cc)
 wants_or_not (Some (faults.AfterEnd place)) = inr (λ e. cc)
 wants_or_not (Some faults.TooLong) = inr (λ e. cc)
 wants_or_not (Some faults.NoMemory) = inl refl
@@ -122,19 +122,19 @@ module _ (start : Reading) (bytes : List ℕ) (before : List TraceRecord) (s : S
             (sym (append_assoc to.since one.0 later.0));
         some = λ wants. absurd (enough wants);
         keeps = record {
-          stays = λ told.
-              let before = to.keeps.stays told in
-              let on = part_at-head (reading_with s []) (take n rest) (told_too _ _ before told) in
+          stays = λ stated.
+              let before = to.keeps.stays stated in
+              let on = part_at-head (reading_with s []) (take n rest) (stated_too _ _ before stated) in
               let is : now.progress ≡ one.1.progress = ap (λ (r : Reading). r.progress) part.reading
               in
               same_both _ _ _ (subst (λ (p : Option ReadSoFar). SameHead p s.progress) (sym is) on)
               before;
-          told = λ told.
+          stated = λ stated.
               let last : (read_on start bytes).1.progress ≡ later.1.progress =
               ap (λ (r : List TraceRecord × Reading). r.1.progress) (to.goes no_want)
               ∙ ap (λ (r : List TraceRecord × Reading). r.1.progress) (step ∙ same) in
               subst (λ (p : Option ReadSoFar). SameHead now.progress p) (sym last)
-              (same_back _ _ (read_on-head (reading_with now []) (drop n rest) told));
+              (same_back _ _ (read_on-head (reading_with now []) (drop n rest) stated));
         };
       }
 
@@ -201,11 +201,11 @@ module _ (start : Reading) (bytes : List ℕ) (before : List TraceRecord) (s : S
         goes = λ _. whole;
         some = λ wants. cc;
         keeps = record {
-          stays = λ told. same_both _ _ _ same (to.keeps.stays told);
-          told = λ told.
+          stays = λ stated. same_both _ _ _ same (to.keeps.stays stated);
+          stated = λ stated.
               subst (λ (p : Option ReadSoFar). SameHead now.progress p)
               (sym (ap (λ (r : List TraceRecord × Reading). r.1.progress) whole))
-              (same_back _ _ (read_on-head (reading_with now []) behind told));
+              (same_back _ _ (read_on-head (reading_with now []) behind stated));
         };
       }
 
@@ -300,8 +300,8 @@ head_first s pending piece new clean short low keeps =
     ap (λ (r : List TraceRecord × Reading). r.1.progress) same in
     record {
       stays = keeps.stays;
-      told = λ some. subst
-          (λ (p : Option ReadSoFar). SameHead new.progress p) last (keeps.told some);
+      stated = λ some. subst
+          (λ (p : Option ReadSoFar). SameHead new.progress p) last (keeps.stated some);
     }
 
 pub some_first : (s : State) (pending piece : List ℕ) (before after : List TraceRecord) → s.fault

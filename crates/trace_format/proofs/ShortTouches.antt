@@ -39,19 +39,19 @@ misaligned_short_touch kind size harts last place addr bytes below spelled is od
 
 -- an access with a pc is judged by its two parts
 pub sited_by_parts : (kind : Kind) (size harts place n : ℕ) (before : Before)
-    (bytes front told : List ℕ)
+    (bytes front stated : List ℕ)
     → short_touch_extent bytes ≡ n → n ≤ length bytes → front ≡ take n bytes
-    → told ≡ drop n bytes
-    → with_pc before (place + length front) told
+    → stated ≡ drop n bytes
+    → with_pc before (place + length front) stated
     (short_touch_judged kind size harts before.last place front)
     ≡ sited_touch_judged kind size harts before place bytes
 unfolding sited_touch_judged
-sited_by_parts kind size harts place n before bytes front told is le front_is told_is =
+sited_by_parts kind size harts place n before bytes front stated is le front_is stated_is =
     let parts : ℕ → List ℕ → List ℕ → Result (Touch × Option ℕ) TraceFault =
     λ m xs ys. with_pc before (place + m) ys
     (short_touch_judged kind size harts before.last place xs) in
     let size_is : length front ≡ n = ap length front_is ∙ length-take-le n bytes le in
-    (λ i. parts (size_is i) (front_is i) (told_is i))
+    (λ i. parts (size_is i) (front_is i) (stated_is i))
     ∙ ap (λ (m : ℕ). parts m (take m bytes) (drop m bytes)) (sym is)
 
 -- the two parts of an access with a pc, whose bytes are the front of others
@@ -78,11 +78,11 @@ module _ (bytes part : List ℕ) (n m : ℕ) (n_is : n ≡ short_touch_extent by
   enough = omega (arith, long, m_is)
 
 -- a pc whose distance is read
-pub site_is_pc : (before : Before) (place z : ℕ) (told : List ℕ) (touch : Result Touch TraceFault)
-    → are_groups told ≡ true → z ≡ number_in told
-    → with_site before z touch ≡ with_pc before place told touch
-site_is_pc before place z told (Err fault) spelled is = refl
-site_is_pc before place z told (Ok touch) spelled is = rw (spelled, is) refl
+pub site_is_pc : (before : Before) (place z : ℕ) (stated : List ℕ) (touch : Result Touch TraceFault)
+    → are_groups stated ≡ true → z ≡ number_in stated
+    → with_site before z touch ≡ with_pc before place stated touch
+site_is_pc before place z stated (Err fault) spelled is = refl
+site_is_pc before place z stated (Ok touch) spelled is = rw (spelled, is) refl
 
 -- an access with a pc, both of whose distances are read
 pub sited_by_numbers : (kind : Kind) (size harts place n m z : ℕ) (before : Before)
@@ -92,28 +92,28 @@ pub sited_by_numbers : (kind : Kind) (size harts place n m z : ℕ) (before : Be
     ≡ sited_touch_judged kind size harts before place (take m bytes)
 sited_by_numbers kind size harts place n m z before bytes front n_is has front_is =
     let le : n ≤ m = omega (arith, has.extent) in
-    site_is_pc before (place + length front) z (drop n (take m bytes)) _ has.spelled has.told
+    site_is_pc before (place + length front) z (drop n (take m bytes)) _ has.spelled has.stated
     ∙ sited_by_parts kind size harts place n before (take m bytes) front (drop n (take m bytes))
     (front_there bytes (take m bytes) n m n_is has.extent has.there refl)
     (enough bytes (take m bytes) n m n_is has.extent has.there refl)
     (front_is ∙ sym (take-take n m bytes le)) refl
 
 -- a symbol whose name is short
-pub short_symbol : (kind : SymbolKind) (addr size told place : ℕ) (name bytes : List ℕ)
+pub short_symbol : (kind : SymbolKind) (addr size stated place : ℕ) (name bytes : List ℕ)
     → length bytes ≡ symbol_extent bytes
     → Some kind ≡ symbol_kind_of (get_or bytes 1 0)
-    → addr ≡ number_at w32 2 bytes → size ≡ number_at w32 6 bytes → (size ≡ 0 → ⊥) → told
-    ≡ number_at w16 10 bytes → told ≤ 1024
+    → addr ≡ number_at w32 2 bytes → size ≡ number_at w32 6 bytes → (size ≡ 0 → ⊥) → stated
+    ≡ number_at w16 10 bytes → stated ≤ 1024
     → list_any (eqb 0) (drop 12 bytes) ≡ false → name ≡ name_of (drop 12 bytes)
     → Ok (records.Symbol kind addr size name) ≡ symbol_judged place bytes
 unfolding symbol_judged symbol_extent
-short_symbol kind addr size told place name bytes long known is_addr is_size some is_told few clean
+short_symbol kind addr size stated place name bytes long known is_addr is_size some is_reported few clean
     named =
     let sized : eqb (number_at w32 6 bytes) 0 ≡ false = ap (λ (n : ℕ). eqb n 0) (sym is_size)
     ∙ grind (arith, nat_tests) in
-    let fits : ltb 1024 (number_at w16 10 bytes) ≡ false = ap (λ (n : ℕ). ltb 1024 n) (sym is_told)
+    let fits : ltb 1024 (number_at w16 10 bytes) ≡ false = ap (λ (n : ℕ). ltb 1024 n) (sym is_reported)
     ∙ grind (arith, nat_tests) in
-    let whole : length bytes ≤ 12 + told = grind (arith, nat_tests) in
+    let whole : length bytes ≤ 12 + stated = grind (arith, nat_tests) in
     let all : name ≡ drop 12 bytes = named ∙ take_all 1024 (drop 12 bytes)
     (omega (arith, length-drop 12 bytes)) in
     rw (← known, sized, fits, clean, is_addr, is_size, all) refl

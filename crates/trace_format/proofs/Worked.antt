@@ -210,7 +210,7 @@ module _ where
     judged = inl (record { whole = refl; places = omega arith; says = refl });
   }
 
-  -- an end that tells three accesses behind none
+  -- an end that states three accesses behind none
   count_stands : (rest : List ℕ) → HasFault (head 1 8 ++ (6 ∷
       (replicate 8 0 ++ 0 ∷ (replicate 7 0 ++ 3 ∷ replicate 7 0)) ++ rest)) []
       (faults.CountMismatch 3 0)

@@ -7,19 +7,19 @@ use Rattle.trace_format.specs.declared.fault.TraceFault.{TraceFault}
 use Rattle.trace_format.specs.Numbers.{address_at, are_groups, group_count, number_in}
 use Rattle.trace_format.specs.Spelling.{pc_before}
 
--- a number is told at the front of some bytes, in so many of them
+-- a number is stated at the front of some bytes, in so many of them
 pub record HasNumber (bytes : List ℕ) (number size : ℕ) : Type 0 where
   pub extent : size ≡ group_count bytes
   pub there : size ≤ length bytes
   pub spelled : IsTrue (are_groups (take size bytes))
-  pub told : number ≡ number_in (take size bytes)
+  pub stated : number ≡ number_in (take size bytes)
 
--- a number is told from a place on, up to an end
+-- a number is stated from a place on, up to an end
 pub record HasNumberAt (bytes : List ℕ) (place number end : ℕ) : Type 0 where
   pub extent : end ≡ place + group_count (drop place bytes)
   pub there : end ≤ length bytes
   pub spelled : IsTrue (are_groups (drop place (take end bytes)))
-  pub told : number ≡ number_in (drop place (take end bytes))
+  pub stated : number ≡ number_in (drop place (take end bytes))
 
 -- an access, and the pc at a distance from that of its hart's access before
 abbrev pub with_site : Before → ℕ → Result Touch TraceFault → Result (Touch × Option ℕ) TraceFault

@@ -44,7 +44,7 @@ use Rattle.trace_format.specs.Rules.{last_position}
 abbrev pub header_length : ℕ
 header_length = 20
 
--- A symbol's name is as long as it tells. One that is too long is judged without it.
+-- A symbol's name is as long as the symbol states. One that is too long is judged without it.
 unfoldable pub symbol_extent : List ℕ → ℕ
 symbol_extent bytes =
     if nat_lt (length bytes) 12 then 12
@@ -64,7 +64,7 @@ abbrev pub end_extent : Version → ℕ
 end_extent Four = 33
 end_extent _ = 25
 
--- a record of a tag, as far as its bytes tell
+-- a record of a tag, as far as its bytes state it
 abbrev pub extent_of : Version → Tag → List ℕ → ℕ
 extent_of v (tags.Touch kind) bytes = 8
 extent_of v (tags.ShortTouch kind size) bytes = short_touch_extent bytes
@@ -157,10 +157,10 @@ touch_judged kind harts place bytes =
 unfoldable pub short_touch_judged : Kind → ℕ → ℕ → ℕ → ℕ → List ℕ → Result Touch TraceFault
 short_touch_judged kind size harts last place bytes =
     let hart = slice_index bytes 1 in
-    let told = drop 2 bytes in
-    let addr = address_at last (number_in told) in
+    let stated = drop 2 bytes in
+    let addr = address_at last (number_in stated) in
     if nat_le harts hart then Err (faults.BadField (place + 1))
-    else (if are_groups told && (addr % size == 0)
+    else (if are_groups stated && (addr % size == 0)
     then Ok (record { hart = hart; addr = addr; kind = kind; size = size })
     else Err (faults.BadField (place + 2)))
 
@@ -171,10 +171,10 @@ without_pc (Ok touch) = Ok (touch, None)
 -- An access that is good in itself has a pc behind it, whose distance is spelled in the one way.
 abbrev pub with_pc : Before → ℕ → List ℕ → Result Touch TraceFault
     → Result (Touch × Option ℕ) TraceFault
-with_pc before place told (Err fault) = Err fault
-with_pc before place told (Ok touch) = if are_groups told then Ok (
+with_pc before place stated (Err fault) = Err fault
+with_pc before place stated (Ok touch) = if are_groups stated then Ok (
   touch,
-  Some (address_at (pc_before before touch.hart) (number_in told)),
+  Some (address_at (pc_before before touch.hart) (number_in stated)),
 ) else Err (faults.BadField place)
 
 -- versions 3 and 4: an access of version 2, and its pc
@@ -284,7 +284,7 @@ touch_counted p (Err fault) = Err fault
 touch_counted p (Ok sited) = if nat_lt (p.header.first + p.counted) last_position then Ok
     (records.Touch sited.0 sited.1) else Err faults.TooLong
 
--- An end that is good in itself tells how many accesses there were.
+-- An end that is good in itself states how many accesses there were.
 abbrev pub end_counted : ReadSoFar → List ℕ → Result Outcome TraceFault
     → Result TraceRecord TraceFault
 end_counted p bytes (Err fault) = Err fault

@@ -3,9 +3,8 @@
 use Rattle.std.specs.Prelude.{ℕ, zero, suc, ◌+◌, ◌-◌, ◌*◌, ◌/◌, ◌%◌, ◌^◌, ◌==◌, ◌||◌, ◌&&◌, Bool}
 use Rattle.std.specs.Prelude.{nat_lt, nat_le, List, [], ◌∷◌, length, slice_index, if◌then◌else◌}
 
--- Let D be the address minus the one before, modulo 2^32 into -2^31 to 2^31 - 1. It is told as 2D
--- where it is not
--- negative, and as -2D - 1 where it is.
+-- Let D be the address minus the one before, modulo 2^32 into -2^31 to 2^31 - 1. It is recorded as
+-- 2D where it is not negative, and as -2D - 1 where it is.
 abbrev pub distance : ℕ → ℕ → ℕ
 distance last addr =
     let up = (addr + 2 ^ 32 - last) % 2 ^ 32 in
@@ -27,7 +26,7 @@ groups_in (suc more) z = if nat_lt z 128 then z ∷ [] else (z % 128 + 128) ∷ 
 abbrev pub groups : ℕ → List ℕ
 groups z = groups_in 4 z
 
--- the number that groups tell, whose top bits don't count
+-- the number that groups state, whose top bits don't count
 abbrev pub number_in : List ℕ → ℕ
 number_in [] = 0
 number_in (b ∷ bs) = b % 128 + 128 * number_in bs

@@ -93,7 +93,7 @@ pub record ReadsFault (bytes : List ℕ) (first items : List TraceRecord) (f : T
     pub behind : items ≡ first ++ records
     pub fault : HasFault bytes records f
 
--- they tell the same version and header, or neither tells any
+-- they have the same version and header, or neither has any
 pub record SameHead (p q : Option ReadSoFar) : Type 0 where
   pub version : option_map (λ r. r.version) p ≡ option_map (λ r. r.version) q
   pub header : option_map (λ r. r.header) p ≡ option_map (λ r. r.header) q
@@ -103,8 +103,8 @@ pub record HasSameHead (p q : ReadSoFar) : Type 0 where
   pub version : p.version ≡ q.version
   pub header : p.header ≡ q.header
 
--- The version and the header, once told, are told still, and those that are told are those of the
--- bytes.
+-- The version and the header, once known, are known still, and those that are known are those of
+-- the bytes.
 pub record KeepsHead (old : Reading) (bytes : List ℕ) (new : Reading) : Type 0 where
   pub stays : IsSome old.progress → SameHead new.progress old.progress
-  pub told : IsSome new.progress → SameHead new.progress (read_on old bytes).1.progress
+  pub stated : IsSome new.progress → SameHead new.progress (read_on old bytes).1.progress

@@ -116,9 +116,8 @@ longest_trace = 2 ^ 44
 abbrev pub last_position : ℕ
 last_position = 2 ^ 40
 
--- The parts keep the rules: positions are below 2^40, the end tells how many accesses there are,
--- and there are at most
--- 2^44 bytes.
+-- The parts keep the rules: positions are below 2^40, the end states how many accesses there are,
+-- and there are at most 2^44 bytes.
 pub record IsGoodTrace (v : Version) (h : Header) (items : List TraceRecord) (e : TraceEnd) : Type 0
   where
     pub header : IsGoodHeader h

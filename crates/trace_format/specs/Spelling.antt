@@ -55,7 +55,7 @@ abbrev pub pc_or_zero : Option ℕ → ℕ
 pc_or_zero None = 0
 pc_or_zero (Some pc) = pc
 
--- a tag that tells the size, the hart in one byte, and the distance from the address of the access
+-- a tag that states the size, the hart in one byte, and the distance from the address of the access
 -- before
 abbrev pub spell_short_touch : ℕ → Touch → List ℕ
 spell_short_touch last a = number_of (tags.ShortTouch a.kind a.size) ∷ a.hart ∷ groups

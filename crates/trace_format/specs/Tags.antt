@@ -37,7 +37,7 @@ other_tag_of byte =
     else (if byte == 6 then Some tags.End
     else None)))
 
--- the record that a byte begins where that of an access tells its size
+-- the record that a byte begins where that of an access states its size
 abbrev pub sized_tag_of : (Kind → ℕ → Tag) → ℕ → Option Tag
 sized_tag_of touch byte =
     if byte == 17 then Some (touch Read 1)

@@ -102,14 +102,14 @@ fn with_group(byte: u8, above: u64) -> u64
     u64::from(byte % 128) + 128 * above
 }
 
-// The number that groups tell.
+// The number that groups state.
 #[inline(always)]
-fn number_in(told: &[u8]) -> u64
-    requires some { 1 ≤ length told.now }
-    requires few { length told.now ≤ 5 }
-    ensures { result ≡ number_in told.now }
+fn number_in(stated: &[u8]) -> u64
+    requires some { 1 ≤ length stated.now }
+    requires few { length stated.now ≤ 5 }
+    ensures { result ≡ number_in stated.now }
 {
-    match *told {
+    match *stated {
         [a] => with_group(a, 0),
         [a, b] => with_group(a, with_group(b, 0)),
         [a, b, c] => with_group(a, with_group(b, with_group(c, 0))),
@@ -125,12 +125,12 @@ fn number_in(told: &[u8]) -> u64
 // Whether groups are those that a number below 2^32 is spelled in.
 #[tactic(auto, using(std::proofs::lemmas::Bool::Decides::nat_tests))]
 #[inline(always)]
-fn are_groups(told: &[u8]) -> bool
-    requires { 1 ≤ length told.now }
-    ensures { result ≡ are_groups told.now }
+fn are_groups(stated: &[u8]) -> bool
+    requires { 1 ≤ length stated.now }
+    ensures { result ≡ are_groups stated.now }
 {
-    let last = told[told.len() - 1];
-    (told.len() == 1 || last > 0) && (told.len() < 5 || last <= 15)
+    let last = stated[stated.len() - 1];
+    (stated.len() == 1 || last > 0) && (stated.len() < 5 || last <= 15)
 }
 
 // The address at a distance from the one before.
@@ -166,11 +166,11 @@ pub(crate) fn short_touch_of(
     if u16::from(number) >= harts {
         return Err(TraceFault::BadField(place + 1));
     }
-    let told = behind(bytes, 2);
-    if !are_groups(told) {
+    let stated = behind(bytes, 2);
+    if !are_groups(stated) {
         return Err(TraceFault::BadField(place + 2));
     }
-    let addr = address_at(last, number_in(told) as u32);
+    let addr = address_at(last, number_in(stated) as u32);
     match Access::of_size(Hart::of_byte(number), addr, kind, size) {
         Some(access) => Ok(access),
         None => Err(TraceFault::BadField(place + 2)),
@@ -190,22 +190,22 @@ pub(crate) fn without_pc(
     }
 }
 
-// An access, and the pc that the groups behind it tell.
+// An access, and the pc that the groups behind it state.
 #[tactic(auto, using(crate::proofs::Groups::small_number))]
 #[inline(always)]
 fn with_pc(
     before: &Before,
     place: u64,
-    told: &[u8],
+    stated: &[u8],
     access: Access,
 ) -> Result<(Access, Option<u32>), TraceFault>
-    requires long { length told.now ≡ group_count told.now }
-    ensures { result ≡ with_pc before.now place told.now (Ok access) }
+    requires long { length stated.now ≡ group_count stated.now }
+    ensures { result ≡ with_pc before.now place stated.now (Ok access) }
 {
-    if !are_groups(told) {
+    if !are_groups(stated) {
         return Err(TraceFault::BadField(place));
     }
-    let pc = address_at(before.pc(access.hart()), number_in(told) as u32);
+    let pc = address_at(before.pc(access.hart()), number_in(stated) as u32);
     Ok((access, Some(pc)))
 }
 
@@ -213,7 +213,7 @@ fn with_pc(
 #[inline(always)]
 fn sited_touch_in(
     front: &[u8],
-    told: &[u8],
+    stated: &[u8],
     kind: Kind,
     size: u8,
     harts: u16,
@@ -221,16 +221,16 @@ fn sited_touch_in(
     place: u64,
 ) -> Result<(Access, Option<u32>), TraceFault>
     requires front_long { length front.now ≡ short_touch_extent front.now }
-    requires told_long { length told.now ≡ group_count told.now }
+    requires stated_long { length stated.now ≡ group_count stated.now }
     requires sized { IsTrue (is_access_size size) }
     requires few { harts ≤ 256 }
     requires low { place ≤ 2 ^ 44 }
-    ensures { result ≡ with_pc before.now (place + length front.now) told.now
+    ensures { result ≡ with_pc before.now (place + length front.now) stated.now
         (short_touch_judged kind size harts before.now.last place front.now) }
 {
     let behind = place + front.len() as u64;
     match short_touch_of(front, kind, size, harts, before.last, place) {
-        Ok(access) => with_pc(before, behind, told, access),
+        Ok(access) => with_pc(before, behind, stated, access),
         Err(fault) => Err(fault),
     }
 }
@@ -251,6 +251,6 @@ pub(crate) fn sited_touch_of(
     requires low { place ≤ 2 ^ 44 }
     ensures { result ≡ sited_touch_judged kind size harts before.now place bytes.now }
 {
-    let (front, told) = bytes.split_at(short_touch_extent(bytes));
-    sited_touch_in(front, told, kind, size, harts, before, place)
+    let (front, stated) = bytes.split_at(short_touch_extent(bytes));
+    sited_touch_in(front, stated, kind, size, harts, before, place)
 }

@@ -37,7 +37,7 @@ fn touch_bytes(access: &Access) -> [u8; 8]
     ]
 }
 
-// How far an address is from the one before, as version 2 tells it.
+// How far an address is from the one before, as version 2 records it.
 #[tactic(auto, using(std::proofs::lemmas::Bool::Decides::nat_tests))]
 fn distance(last: u32, addr: u32) -> u32
     ensures { result ≡ distance last addr }

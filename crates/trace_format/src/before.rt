@@ -28,7 +28,7 @@ fn no_pcs() -> [u32; 256]
     zeros()
 }
 
-/// The pc that is told where there is one, and 0.
+/// The pc that is stated where there is one, and 0.
 #[inline(always)]
 pub(crate) fn pc_or_zero(pc: Option<u32>) -> u32
     ensures { result ≡ pc_or_zero pc }

@@ -13,7 +13,7 @@ fn cause_number(cause: Cause) -> u8
     cause as u8
 }
 
-// The fields in which an end record tells the outcome.
+// The fields in which an end record states the outcome.
 #[derive(Clone, Copy)]
 struct OutcomeFields {
     which: u8,

@@ -24,11 +24,11 @@ pub enum TraceFault {
     /// The input ended, at this length, before the end record was whole.
     #[error("Truncated")]
     Truncated(u64),
-    /// The end record tells another number of accesses than were counted.
+    /// The end record states another number of accesses than were counted.
     #[error("CountMismatch")]
     CountMismatch {
-        /// What the end record tells.
-        told: u64,
+        /// What the end record states.
+        stated: u64,
         /// How many there are.
         counted: u64,
     },

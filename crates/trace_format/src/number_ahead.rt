@@ -7,7 +7,7 @@ use base::behind;
 
 // A number, and where it ends.
 #[derive(Clone, Copy, Drop)]
-pub(crate) struct Told {
+pub(crate) struct Known {
     pub(crate) number: u32,
     pub(crate) end: usize,
 }
@@ -23,22 +23,22 @@ fn with_group(byte: u8, above: u32) -> u32
 
 // A number of more groups than one, unless its last group is 0.
 #[inline(always)]
-fn ending_in(last: u8, number: u32, end: usize) -> Option<Told>
-    ensures { IfSome result (λ told. (1 ≤ last) × (told.number ≡ number) × (told.end ≡ end)) }
+fn ending_in(last: u8, number: u32, end: usize) -> Option<Known>
+    ensures { IfSome result (λ stated. (1 ≤ last) × (stated.number ≡ number) × (stated.end ≡ end)) }
 {
     if last == 0 {
         return None;
     }
-    Some(Told { number, end })
+    Some(Known { number, end })
 }
 
 // The number at the front of some bytes, if all of it is there and it is spelled in the one way.
 #[inline(always)]
-fn number_ahead(bytes: &[u8]) -> Option<Told>
-    ensures { IfSome result (λ told. HasNumber bytes.now told.number told.end) }
+fn number_ahead(bytes: &[u8]) -> Option<Known>
+    ensures { IfSome result (λ stated. HasNumber bytes.now stated.number stated.end) }
 {
     match *bytes {
-        [a, ..] if a < 128 => Some(Told {
+        [a, ..] if a < 128 => Some(Known {
             number: u32::from(a),
             end: 1,
         }),
@@ -61,13 +61,13 @@ fn number_ahead(bytes: &[u8]) -> Option<Told>
 
 /// The number from a place on, if all of it is there and it is spelled in the one way.
 #[inline(always)]
-pub(crate) fn number_at(bytes: &[u8], place: usize) -> Option<Told>
+pub(crate) fn number_at(bytes: &[u8], place: usize) -> Option<Known>
     requires { place ≤ length bytes.now }
-    ensures told { IfSome result (λ told. HasNumberAt bytes.now place told.number told.end) }
-    ensures there { IfSome result (λ told. told.end ≤ length bytes.now) }
+    ensures stated { IfSome result (λ stated. HasNumberAt bytes.now place stated.number stated.end) }
+    ensures there { IfSome result (λ stated. stated.end ≤ length bytes.now) }
 {
     match number_ahead(behind(bytes, place)) {
-        Some(Told { number, end }) => Some(Told {
+        Some(Known { number, end }) => Some(Known {
             number,
             end: place + end,
         }),

@@ -56,7 +56,7 @@ fn joined(alloc: Global, front: &[u8], back: &[u8]) -> Result<Vec<u8>, AllocErro
     Ok(bytes)
 }
 
-// The bytes to keep: none at a fault. At want of memory the state tells it.
+// The bytes to keep: none at a fault. At want of memory the state has that fault.
 fn kept_of(alloc: Global, state: &mut State, rest: &[u8]) -> Vec<u8>
     ensures kept { state.new.fault ≡ None → result.items ≡ rest.now }
     ensures fault { IsSome state.new.fault → result.items ≡ [] }
@@ -276,8 +276,8 @@ impl TraceReader {
     ///
     /// At a fault the records before it are appended, and each later call answers the same fault.
     /// At `NoMemory` some of the records that became whole are appended, the first of them first,
-    /// and each later call answers `NoMemory`. What `version` and `header` told before they tell
-    /// then too, and they tell nothing that the bytes don't have.
+    /// and each later call answers `NoMemory`. What `version` and `header` returned before they
+    /// return then too, and they return nothing that the bytes don't have.
     pub fn feed(&mut self, piece: &[u8], into: &mut Vec<TraceRecord>) -> Result<(), TraceFault>
         // However the bytes are cut, the records and the fault are those that the bytes so far
         // have.
@@ -291,8 +291,8 @@ impl TraceReader {
         ensures no_memory { result ≡ Err TraceFault.NoMemory →
             AddsSome self.old piece.now into.old.items into.new.items }
 
-        // The version and the header, once told, are told still, and what is told is what the bytes
-        // have, also after want of memory.
+        // The version and the header, once known, are known still, and what is known is what the
+        // bytes have, also after want of memory.
         ensures head { KeepsHead self.old piece.now self.new }
 
         // A fault stays.

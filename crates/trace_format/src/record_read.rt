@@ -99,7 +99,7 @@ fn counted(
     }
 }
 
-// How many accesses the list had before it was filtered, where the version tells.
+// How many accesses the list had before it was filtered, where the version states it.
 fn whole_at(version: Version, bytes: &[u8]) -> Option<u64>
     requires { end_extent version ≤ length bytes.now }
     ensures { result ≡ whole_at version bytes.now }
@@ -132,21 +132,21 @@ fn end_of(progress: &ReadSoFar, bytes: &[u8]) -> Result<TraceRecord, TraceFault>
         Ok(outcome) => outcome,
         Err(fault) => return Err(fault),
     };
-    let (steps, told) = (u64_at(bytes, 9), u64_at(bytes, 17));
-    if told != progress.counted {
+    let (steps, stated) = (u64_at(bytes, 9), u64_at(bytes, 17));
+    if stated != progress.counted {
         return Err(TraceFault::CountMismatch {
-            told,
+            stated,
             counted: progress.counted,
         });
     }
     let whole = whole_at(progress.version, bytes);
-    if !is_whole(told, whole) {
+    if !is_whole(stated, whole) {
         return Err(TraceFault::BadField(progress.place + 25));
     }
     Ok(TraceRecord::End(TraceEnd {
         outcome,
         steps,
-        accesses: told,
+        accesses: stated,
         whole,
     }))
 }

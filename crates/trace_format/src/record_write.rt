@@ -26,7 +26,7 @@ fn site_bytes(sites: &[u32; 4]) -> [u8; 16]
     ]
 }
 
-/// Appends the 25 bytes that tell that a block is made. At `NoMemory` nothing is appended.
+/// Appends the 25 bytes that record that a block is made. At `NoMemory` nothing is appended.
 #[tactic(auto, unfolding(crate::specs::Spelling::spell_alloc))]
 pub fn alloc_bytes(
     addr: u32,

@@ -70,7 +70,7 @@ fn touch_ahead(progress: &ReadSoFar, kind: Kind, bytes: &[u8]) -> Option<Ahead>
 // The access in the bytes of a record of version 2, whose distance is read.
 #[tactic(auto, using(std::proofs::lemmas::Bool::Decides::nat_tests), unfolding(crate::specs::Judging::short_touch_judged))]
 #[inline(always)]
-fn short_touch_told(
+fn short_touch_stated(
     bytes: &[u8],
     z: u32,
     kind: Kind,
@@ -81,7 +81,7 @@ fn short_touch_told(
 ) -> Result<Access, TraceFault>
     requires long { 2 ≤ length bytes.now }
     requires spelled { IsTrue (are_groups (drop 2 bytes.now)) }
-    requires told { z ≡ number_in (drop 2 bytes.now) }
+    requires stated { z ≡ number_in (drop 2 bytes.now) }
     requires sized { IsTrue (is_access_size size) }
     requires few { harts ≤ 256 }
     requires low { place ≤ 2 ^ 44 }
@@ -131,7 +131,7 @@ fn short_touch_ahead(progress: &ReadSoFar, kind: Kind, width: u8, bytes: &[u8]) 
     };
     let (part, _) = bytes.split_at(near.end);
     let (harts, last, place) = (progress.header.harts, progress.before.last, progress.place);
-    let access = short_touch_told(part, near.number, kind, width, harts, last, place);
+    let access = short_touch_stated(part, near.number, kind, width, harts, last, place);
     placed(progress, without_pc(access), near.end)
 }
 
@@ -157,7 +157,7 @@ fn sited_touch_ahead(progress: &ReadSoFar, kind: Kind, width: u8, bytes: &[u8]) 
     };
     let (front, _) = bytes.split_at(near.end);
     let (harts, before, place) = (progress.header.harts, &progress.before, progress.place);
-    let access = short_touch_told(front, near.number, kind, width, harts, before.last, place);
+    let access = short_touch_stated(front, near.number, kind, width, harts, before.last, place);
     placed(progress, with_site(before, site.number, access), site.end)
 }
 

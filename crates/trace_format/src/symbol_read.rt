@@ -30,8 +30,8 @@ fn has_zero(name: &[u8]) -> bool
     name.iter().any(|byte| 0 == *byte)
 }
 
-/// How many bytes the symbol has that begins here, as far as they tell: 12, and those of its name
-/// once its length is there and at most 1024.
+/// How many bytes the symbol has that begins here, as far as they state it: 12, and those of its
+/// name once its length is there and at most 1024.
 #[tactic(auto, using(std::proofs::lemmas::Bool::Decides::nat_tests), unfolding(crate::specs::Judging::symbol_extent))]
 pub fn symbol_extent(bytes: &[u8]) -> usize
     ensures { result ≡ symbol_extent bytes.now }
@@ -39,11 +39,11 @@ pub fn symbol_extent(bytes: &[u8]) -> usize
     if bytes.len() < NAME_PLACE {
         return NAME_PLACE;
     }
-    let told = u16_at(bytes, 10);
-    if told > LONGEST_NAME {
+    let stated = u16_at(bytes, 10);
+    if stated > LONGEST_NAME {
         NAME_PLACE
     } else {
-        NAME_PLACE + usize::from(told)
+        NAME_PLACE + usize::from(stated)
     }
 }
 

@@ -1,7 +1,7 @@
 -- What is said once no more bytes are there.
 use Rattle.std.proofs.Common.{◌≡◌, ℕ, List, Option, Some, None, Ok, sym, ap, subst, ◌∙◌}
-use Rattle.shelf.specs.Shelf.{Files, Told, content}
-use Rattle.shelf.specs.Laws.Told.{told_map}
+use Rattle.shelf.specs.Shelf.{Files, Known, content}
+use Rattle.shelf.specs.Laws.Known.{known_map}
 use Rattle.trace_format.specs.declared.read_so_far.ReadSoFar.{ReadSoFar}
 use Rattle.trace_format.specs.declared.record.TraceRecord.{TraceRecord}
 use Rattle.trace_format.specs.Reading.{Reading, ending_of, reading_of}
@@ -32,7 +32,7 @@ refused_bytes w now bytes read x e =
 
 module _ (held : Option Files) (name : List ℕ) (w : Wanted) (now : Reading) (bytes : List ℕ)
     (read : IsRead w bytes now)
-    (whole : Told held (λ files. bytes ≡ content files name))
+    (whole : Known held (λ files. bytes ≡ content files name))
   where
     unrefused : header_refusal w (head_of (reading_of bytes).1.progress) ≡ None
     unrefused = ap (λ (r : Reading). header_refusal w (head_of r.progress)) (sym read.reading)
@@ -74,9 +74,9 @@ module _ (held : Option Files) (name : List ℕ) (w : Wanted) (now : Reading) (b
 
     -- what the bytes end with is why the file is refused
     pub refused_end : (x : Refusal) → trace_refusal (ending_of now) ≡ Some x
-        → Told held (λ files. refusal_of w (content files name) ≡ Some x)
+        → Known held (λ files. refusal_of w (content files name) ≡ Some x)
     refused_end x e =
-        told_map held (λ files same. ap (refusal_of w) (sym same)
+        known_map held (λ files same. ap (refusal_of w) (sym same)
         ∙ refused_bytes w now bytes read x e) whole
 
 -- the observer was given all records of the trace
@@ -96,10 +96,10 @@ has_passed held name w bytes passed given ended saw =
 
 pub accepted_then : (held : Option Files) (name : List ℕ) (w : Wanted) (bytes : List ℕ)
     (passed : Passed)
-    → HasEnded held name w bytes passed → Told held (λ files. refusal_of w (content files name)
+    → HasEnded held name w bytes passed → Known held (λ files. refusal_of w (content files name)
     ≡ None)
 accepted_then held name w bytes passed ended =
-    told_map held (λ files same. ap (refusal_of w) (sym same) ∙ ended.accepted) ended.whole
+    known_map held (λ files same. ap (refusal_of w) (sym same) ∙ ended.accepted) ended.whole
 
 -- the reads have shown that the name's file is such a trace
 pub shown_trace : (held : Option Files) (name : List ℕ) (w : Wanted) (bytes : List ℕ)

@@ -16,8 +16,8 @@ head_there r bytes e is end =
     let whole = whole_at_end bytes e (sym (ap ending_of is) ∙ end) in
     record { now = whole.now; known = ap (λ (x : Reading). x.progress) is ∙ whole.known }
 
-pub no_head : {A : Type 0} (f : ReadSoFar → A) (r : Reading) (told : Option A) → HasHead r → told
-    ≡ option_map f r.progress → told ≡ None → ⊥
-no_head f r told head is none =
+pub no_head : {A : Type 0} (f : ReadSoFar → A) (r : Reading) (stated : Option A) → HasHead r → stated
+    ≡ option_map f r.progress → stated ≡ None → ⊥
+no_head f r stated head is none =
     let some : option_map f r.progress ≡ Some (f head.now) = ap (option_map f) head.known in
     cc

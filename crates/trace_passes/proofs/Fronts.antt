@@ -5,9 +5,9 @@ use Rattle.std.proofs.Common.{◌∙◌, arith}
 use Rattle.std.proofs.Math.Seq.{take-add}
 use Rattle.std.proofs.lemmas.List.{append-nil, drop_all, length-append, length-take-le}
 use Rattle.std.proofs.lemmas.List.{take-append-drop, take_all}
-use Rattle.shelf.specs.Shelf.{Files, Narrows, Reads, Told, content}
+use Rattle.shelf.specs.Shelf.{Files, Narrows, Reads, Known, content}
 use Rattle.shelf.specs.Fetch.{IsFront}
-use Rattle.shelf.specs.Laws.Told.{told, told_both, told_map, told_still}
+use Rattle.shelf.specs.Laws.Known.{if_known, known_both, known_map, known_still}
 use Rattle.trace_format.specs.declared.record.TraceRecord.{TraceRecord}
 use Rattle.trace_format.specs.Reading.{Reading, begin, read_on, reading_of}
 use Rattle.trace_format.specs.Rules.{longest_trace}
@@ -16,7 +16,7 @@ use Rattle.trace_passes.specs.Passes.{version_refusal}
 use Rattle.trace_format.specs.Laws.Counts.{few_bytes}
 use Rattle.trace_passes.specs.declared.wanted.Refusal.{Refusal}
 use Rattle.trace_passes.specs.declared.wanted.Wanted.{Wanted}
-use Rattle.trace_passes.specs.Cursors.{HasCome, IsRead, Reached, StopsAtMagic, magic_length}
+use Rattle.trace_passes.specs.Cursors.{HasCome, IsRead, Reached, StopsAtMagic, magic_length, longest_piece}
 
 -- no more bytes are read than a trace may have
 pub at_most : (held : Option Files) (name : List ℕ) (w : Wanted) (bytes : List ℕ) (now : Reached)
@@ -38,14 +38,15 @@ no_magic true = refl
 -- before the first byte
 pub first_come : (held : Option Files) (name : List ℕ) (w : Wanted) (now : Reached) → now.reading
     ≡ begin → now.count ≡ 0
-    → 0 < now.piece → HasCome held name w [] now
-first_come held name w now is at room =
+    → 0 < now.piece → now.piece ≤ longest_piece → HasCome held name w [] now
+first_come held name w now is at room few =
     let reading : now.reading ≡ (reading_of []).1 = is
     ∙ sym (ap (λ (x : List TraceRecord × Reading). x.1) nothing_read) in
     record {
       size = sym at;
       room = room;
-      front = told held (λ files. record { within = omega arith; same = refl });
+      few = few;
+      front = if_known held (λ files. record { within = omega arith; same = refl });
       read = record {
         reading = reading;
         clean = ap (λ (r : Reading). r.fault) is;
@@ -112,14 +113,15 @@ stops_there w bytes buffer at n size fits sited stops =
           omega (arith, size, few, length-take-le n buffer fits);
     }
 
--- what was read stands as long as its file is told
+-- what was read stands as long as its file is known
 pub come_still : (o n : Option Files) (name : List ℕ) (w : Wanted) (bytes : List ℕ) (now : Reached)
     → Narrows o n → HasCome o name w bytes now
     → HasCome n name w bytes now
 come_still o n name w bytes now narrow come = record {
   size = come.size;
   room = come.room;
-  front = told_still (λ files. IsFront (content files name) bytes) o n narrow come.front;
+  few = come.few;
+  front = known_still (λ files. IsFront (content files name) bytes) o n narrow come.front;
   read = come.read;
 }
 
@@ -127,26 +129,28 @@ come_still o n name w bytes now narrow come = record {
 pub next_come : (held : Option Files) (name : List ℕ) (w : Wanted) (bytes buffer : List ℕ)
     (at n : ℕ) (now : Reached)
     → length bytes ≡ at → n ≤ length buffer
-    → Told held (λ files. IsFront (content files name) bytes)
-    → Told held (λ files. Reads (content files name) at n buffer)
+    → Known held (λ files. IsFront (content files name) bytes)
+    → Known held (λ files. Reads (content files name) at n buffer)
     → IsRead w (bytes ++ take n buffer) now.reading
-    → now.count ≡ at + n → 0 < now.piece → HasCome held name w (bytes ++ take n buffer) now
-next_come held name w bytes buffer at n now size fits front reads read is room =
+    → now.count ≡ at + n → 0 < now.piece → now.piece ≤ longest_piece
+    → HasCome held name w (bytes ++ take n buffer) now
+next_come held name w bytes buffer at n now size fits front reads read is room few =
     record {
       size = longer bytes buffer at n size fits ∙ sym is;
       room = room;
-      front = told_both held (λ files. longer_front (content files name) bytes buffer at n size
+      few = few;
+      front = known_both held (λ files. longer_front (content files name) bytes buffer at n size
           fits) front reads;
       read = read;
     }
 
 -- a front that is refused, with what is behind it
 pub refused_file : (held : Option Files) (name bytes : List ℕ) (w : Wanted) (refusal : Refusal)
-    → Told held (λ files. IsFront (content files name) bytes)
+    → Known held (λ files. IsFront (content files name) bytes)
     → ((more : List ℕ) → refusal_of w (bytes ++ more) ≡ Some refusal)
-    → Told held (λ files. refusal_of w (content files name) ≡ Some refusal)
+    → Known held (λ files. refusal_of w (content files name) ≡ Some refusal)
 refused_file held name bytes w refusal front refused =
-    told_map held (λ files is. ap (refusal_of w) (sym (behind_front (content files name) bytes is))
+    known_map held (λ files is. ap (refusal_of w) (sym (behind_front (content files name) bytes is))
     ∙ refused _) front
 
 -- how many bytes a trace may have more falls with each piece

@@ -52,7 +52,7 @@ is_memory faults.BadHarts = inr (λ e. cc)
 is_memory (faults.BadTag place) = inr (λ e. cc)
 is_memory (faults.BadField place) = inr (λ e. cc)
 is_memory (faults.Truncated size) = inr (λ e. cc)
-is_memory (faults.CountMismatch told counted) = inr (λ e. cc)
+is_memory (faults.CountMismatch stated counted) = inr (λ e. cc)
 is_memory (faults.AfterEnd place) = inr (λ e. cc)
 is_memory faults.TooLong = inr (λ e. cc)
 is_memory faults.NoMemory = inl refl
@@ -105,9 +105,9 @@ header_not w (Some h) fault e =
     (refusals.Trace fault) (harts_not w.harts h.harts fault)
     (first_not w.first h.first fault)) e
 
-pub first_not_memory : (w : Wanted) (h : Option Header) (told : Option Refusal) (fault : TraceFault)
-    → told ≡ header_refusal w h
-    → fault ≢ faults.NoMemory → unwrap_or told (refusals.Trace fault) ≢ refusals.Trace
+pub first_not_memory : (w : Wanted) (h : Option Header) (stated : Option Refusal) (fault : TraceFault)
+    → stated ≡ header_refusal w h
+    → fault ≢ faults.NoMemory → unwrap_or stated (refusals.Trace fault) ≢ refusals.Trace
     faults.NoMemory
 first_not_memory w h None fault is other = λ e. other cc
 first_not_memory w h (Some x) fault is other = λ e. header_not w h faults.NoMemory
@@ -189,8 +189,8 @@ no_trace_front w v h fault e =
     either_no_trace (version_refusal w.pcs v) (header_refusal w h) fault
     (version_no_trace w.pcs v fault) (header_no_trace w h fault) e
 
-pub trace_alone : (w : Wanted) (h : Option Header) (told : Option Refusal) (fault wrong : TraceFault)
-    → told ≡ header_refusal w h → unwrap_or told (refusals.Trace fault) ≡ refusals.Trace wrong
+pub trace_alone : (w : Wanted) (h : Option Header) (stated : Option Refusal) (fault wrong : TraceFault)
+    → stated ≡ header_refusal w h → unwrap_or stated (refusals.Trace fault) ≡ refusals.Trace wrong
     → fault ≡ wrong
 trace_alone w h None fault wrong is e = cc
 trace_alone w h (Some x) fault wrong is e =
@@ -256,9 +256,9 @@ module _ (old new : Reading) (piece : List ℕ) (after : List TraceRecord)
         ]
 
     -- for the header before any fault
-    pub refused_first : (w : Wanted) (more : List ℕ) (fault : TraceFault) (told : Option Refusal)
-        → StopsAtMagic w bytes piece → told ≡ header_refusal w (head_of new.progress) → new.fault ≡ Some fault
-        → refusal_of w ((bytes ++ piece) ++ more) ≡ Some (unwrap_or told (refusals.Trace fault))
+    pub refused_first : (w : Wanted) (more : List ℕ) (fault : TraceFault) (stated : Option Refusal)
+        → StopsAtMagic w bytes piece → stated ≡ header_refusal w (head_of new.progress) → new.fault ≡ Some fault
+        → refusal_of w ((bytes ++ piece) ++ more) ≡ Some (unwrap_or stated (refusals.Trace fault))
     refused_first w more fault None stops is e =
         refused_for_fault w (bytes ++ piece) more fault (sited_at_fault w fault stops e)
         (ap (λ (r : Reading). header_refusal w (head_of r.progress)) (sym now_read) ∙ sym is)

@@ -2,7 +2,7 @@
 use Rattle.std.proofs.Common.{◌≡◌, ℕ, List, [], ◌++◌, drop, length, Option, Some, None, refl, sym, ap, ◌∙◌}
 use Rattle.std.proofs.Common.{append_assoc, subst}
 use Rattle.std.proofs.lemmas.List.{append-nil}
-use Rattle.shelf.specs.Shelf.{Files, Told, content}
+use Rattle.shelf.specs.Shelf.{Files, Known, content}
 use Rattle.shelf.specs.Fetch.{IsFront}
 use Rattle.trace_format.specs.declared.fault.TraceFault.{TraceFault}
 use Rattle.trace_format.specs.declared.record.TraceRecord.{TraceRecord}
@@ -51,7 +51,7 @@ behind_both bytes piece rest front is =
 -- within a piece
 pub stopped_piece : (held : Option Files) (name bytes front piece : List ℕ) (w : Wanted)
     (fault : TraceFault) (now : Reached) → front ≡ bytes ++ piece
-    → Told held (λ files. IsFront (content files name) front)
+    → Known held (λ files. IsFront (content files name) front)
     → StopsIn front bytes fault now.reading now.items
     → ((more : List ℕ) → refusal_of w (front ++ more) ≡ Some (refusals.Trace fault))
     → HasStopped held name w bytes (refusals.Trace fault) now
@@ -80,7 +80,7 @@ stopped_piece (Some files) name bytes front piece w fault now two is stops refus
 
 -- at the end of the bytes
 pub stopped_end : (held : Option Files) (name bytes : List ℕ) (w : Wanted) (x : Refusal)
-    (now : Reached) → Told held (λ files. bytes ≡ content files name)
+    (now : Reached) → Known held (λ files. bytes ≡ content files name)
     → IsRead w bytes now.reading → now.items ≡ []
     → trace_refusal (ending_of now.reading) ≡ Some x
     → HasStopped held name w bytes x now

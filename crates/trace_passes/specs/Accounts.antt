@@ -1,4 +1,4 @@
--- What an observer tells of the accesses so far, and how records bring it on.
+-- What an observer reports of the accesses so far, and how records bring it on.
 use Rattle.std.specs.Prelude.{◌≡◌, ℕ, ◌+◌, List, ◌++◌, length, Option}
 use Rattle.std.specs.List.{filter_map}
 use Rattle.trace_format.specs.Rules.{touches_in}

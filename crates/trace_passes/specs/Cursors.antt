@@ -2,7 +2,7 @@
 use Rattle.std.specs.Prelude.{◌≡◌, ℕ, ◌+◌, ◌-◌, ◌<◌, ◌≤◌, List, ◌++◌, length, Option, Some}
 use Rattle.std.specs.Prelude.{None, option_map, true}
 use Rattle.shelf.specs.Agreeing.{HasReadFront}
-use Rattle.shelf.specs.Shelf.{Files, Given, Outside, Told, content}
+use Rattle.shelf.specs.Shelf.{Files, Given, Outside, Known, content}
 use Rattle.shelf.specs.Fetch.{IsFront}
 use Rattle.trace_format.specs.declared.read_so_far.ReadSoFar.{ReadSoFar}
 use Rattle.trace_format.specs.declared.record.TraceRecord.{TraceRecord}
@@ -26,6 +26,10 @@ pub record IsRead (w : Wanted) (bytes : List ℕ) (now : Reading) : Type 0 where
 
 abbrev pub magic_length : ℕ
 magic_length = 8
+
+-- the most bytes of a trace that are asked for at once: 16 KiB
+abbrev pub longest_piece : ℕ
+longest_piece = 16384
 
 -- The bytes so far aren't refused for having no pcs, and where pcs are wanted, a piece behind them
 -- doesn't go beyond the magic before that is whole.
@@ -68,13 +72,14 @@ pub record Reached : Type 0 where
 abbrev pub bytes_left : Reached → ℕ
 bytes_left now = longest_trace - now.count
 
--- The cursor has read these bytes, which the name's begin with where these are told. It has room
--- for more.
+-- The cursor has read these bytes, which the name's begin with where these are known. It has room
+-- for more, and asks for few at once.
 pub record HasCome (held : Option Files) (name : List ℕ) (w : Wanted) (bytes : List ℕ)
     (now : Reached) : Type 0 where
   pub size : length bytes ≡ now.count
   pub room : 0 < now.piece
-  pub front : Told held (λ files. IsFront (content files name) bytes)
+  pub few : now.piece ≤ longest_piece
+  pub front : Known held (λ files. IsFront (content files name) bytes)
   pub read : IsRead w bytes now.reading
 
 -- It has read more bytes than these, and holds the records that became whole in them. Where reads
@@ -87,11 +92,11 @@ pub record GoesOn (old new : Outside) (name : List ℕ) (w : Wanted) (bytes : Li
   pub front : (before : List Given) → HasReadFront name bytes before old.given
       → HasReadFront name (bytes ++ more) before new.given
 
--- These bytes are all of the name's, where these are told, and they are a trace of these parts, as
+-- These bytes are all of the name's, where these are known, and they are a trace of these parts, as
 -- wanted.
 pub record HasEnded (held : Option Files) (name : List ℕ) (w : Wanted) (bytes : List ℕ)
     (passed : Passed) : Type 0 where
-  pub whole : Told held (λ files. bytes ≡ content files name)
+  pub whole : Known held (λ files. bytes ≡ content files name)
   pub items : List TraceRecord
   pub is : trace_of bytes ≡ Some (trace_with passed items)
   pub header : IsGoodHeader passed.header
@@ -100,13 +105,13 @@ pub record HasEnded (held : Option Files) (name : List ℕ) (w : Wanted) (bytes 
   pub near : near_refusal w.lines passed.header.near ≡ None
   pub accepted : refusal_of w bytes ≡ None
 
--- These bytes are all of the name's, where these are told, and are refused so. The cursor holds the
--- records that became whole in them behind those before, and knows their header.
+-- These bytes are all of the name's, where these are known, and are refused so. The cursor holds
+-- the records that became whole in them behind those before, and knows their header.
 pub record HasStopped (held : Option Files) (name : List ℕ) (w : Wanted) (bytes : List ℕ)
     (refusal : Refusal) (now : Reached) : Type 0 where
   pub all : List ℕ
   pub behind : (more : List ℕ) × (all ≡ bytes ++ more)
-  pub whole : Told held (λ files. all ≡ content files name)
+  pub whole : Known held (λ files. all ≡ content files name)
   pub refused : refusal_of w all ≡ Some refusal
   pub reading : now.reading ≡ (reading_of all).1
   pub records : (reading_of all).0 ≡ (reading_of bytes).0 ++ now.items

@@ -4,7 +4,7 @@ use Rattle.std.specs.Prelude.{Some, None, Result, Ok, Err, IsErrOf, if◌then◌
 use Rattle.std.specs.Prelude.{Bool, true}
 use Rattle.std.specs.Option.{ForSome, option_or}
 use Rattle.trace_format.specs.declared.record.TraceEnd.{TraceEnd}
-use Rattle.shelf.specs.Shelf.{Files, Outside, Rose, Told, content}
+use Rattle.shelf.specs.Shelf.{Files, Outside, Rose, Known, content}
 use Rattle.trace_format.specs.declared.fault.TraceFault.{TraceFault}
 use Rattle.trace_format.specs.declared.record.Header.{Header}
 use Rattle.trace_format.specs.declared.record.Version.{Version}
@@ -136,13 +136,13 @@ abbrev pub HasParts : Passed → List ℕ → Type 0
 HasParts passed bytes =
     (items : List TraceRecord) × (trace_of bytes ≡ Some (trace_with passed items))
 
--- There are bytes, the held ones of the name where these are told, that are such a trace, whose
+-- There are bytes, the held ones of the name where these are known, that are such a trace, whose
 -- records were given.
 pub record HasPassed (held : Option Files) (name : List ℕ) (passed : Passed)
     (given : List TraceRecord → Type 0) :
     Type 0 where
   pub bytes : List ℕ
-  pub whole : Told held (λ files. bytes ≡ content files name)
+  pub whole : Known held (λ files. bytes ≡ content files name)
   pub items : List TraceRecord
   pub is : trace_of bytes ≡ Some (trace_with passed items)
   pub saw : given (all_records (trace_with passed items))

@@ -3,7 +3,7 @@ ghost use Rattle.std.specs.Prelude.{◌≡◌, ◌≢◌, ◌++◌, ◌∷◌, �
 ghost use Rattle.std.specs.Prelude.{true, None, Some, unwrap_or, Ok, Err, IfOk, OnOk};
 ghost use Rattle.std.specs.Io.{ReadsAtMost};
 ghost use Rattle.shelf.specs.Agreeing.{HasReadFront, HasShown};
-ghost use Rattle.shelf.specs.Shelf.{content, Given, HasCauseAt, OnlyReads, Reads, Told, read_of};
+ghost use Rattle.shelf.specs.Shelf.{content, Given, HasCauseAt, OnlyReads, Reads, Known, read_of};
 ghost use Rattle.trace_format.specs.declared.fault.TraceFault.{TraceFault as Fault};
 ghost use Rattle.trace_format.specs.declared.fault.TraceFault.TheVariants as trace_faults;
 ghost use Rattle.trace_format.specs.Reading.{ending_of, reading_of};
@@ -85,7 +85,7 @@ fn fetch<S: Shelf>(
 ) -> Result<usize, ShelfError>
     requires { 0 < length piece.old }
     ensures bound { ReadsAtMost result piece.new }
-    ensures bytes { IfOk result (λ n. Told (S.outside shelf.new).held
+    ensures bytes { IfOk result (λ n. Known (S.outside shelf.new).held
         (λ files. Reads (content files name.now) at n piece.new)) }
     ensures magic { IfOk result (λ n. pcs ≡ true → at < magic_length → at + n ≤ magic_length) }
     ensures given { IfOk result (λ n. (room : ℕ) × (0 < room) × ((S.outside shelf.new).given
@@ -221,16 +221,16 @@ impl Cursor {
         ensures ended { (passed : Parts) → result ≡ Ok (Some passed) → (bytes : List ℕ)
             → HasCome (S.outside shelf.old).held name.now wanted.now bytes self.old
             → HasEnded (S.outside shelf.new).held name.now wanted.now bytes passed }
-        // What reads have given shows that, also where none are told.
+        // What reads have given shows that, also where none are known.
         ensures shown { (passed : Parts) → result ≡ Ok (Some passed) → (bytes : List ℕ)
             → HasCome (S.outside shelf.old).held name.now wanted.now bytes self.old
             → (before : List Given)
             → HasReadFront name.now bytes before (S.outside shelf.old).given
             → HasShown name.now (λ file. bytes ≡ file) before (S.outside shelf.new).given }
         ensures refused { (refusal : Refused) → result ≡ Err (PassFault.Refused refusal)
-            → Told (S.outside shelf.new).held
+            → Known (S.outside shelf.new).held
             (λ files. refusal_of wanted.now (content files name.now) ≡ Some refusal) }
-        // It is that of some bytes, also where none are told.
+        // It is that of some bytes, also where none are known.
         ensures found { (refusal : Refused) → result ≡ Err (PassFault.Refused refusal)
             → (bytes : List ℕ) × (refusal_of wanted.now bytes ≡ Some refusal) }
         // What reads have given shows it.

@@ -3,7 +3,7 @@ ghost use Rattle.std.specs.Prelude.{◌≡◌, ◌≢◌, ◌++◌, ◌<◌, Lis
 ghost use Rattle.std.specs.Prelude.{None, Some, Err, IfOk, OnOk, true};
 ghost use Rattle.std.specs.List.{All};
 ghost use Rattle.shelf.specs.Agreeing.{HasShown};
-ghost use Rattle.shelf.specs.Shelf.{content, OnlyReads, Told};
+ghost use Rattle.shelf.specs.Shelf.{content, OnlyReads, Known};
 ghost use Rattle.trace_format.specs.declared.record.Header.{Header as Head};
 ghost use Rattle.trace_format.specs.declared.record.TraceRecord.{TraceRecord as Record};
 ghost use Rattle.trace_format.specs.declared.fault.TraceFault.TheVariants as trace_faults;
@@ -118,12 +118,12 @@ pub fn pass<S: Shelf, O: Observer>(
     // A filtered trace passes only where its regions are as large as is wanted.
     ensures near { IfOk result (λ passed. near_refusal wanted.now.lines passed.header.near
         ≡ None) }
-    ensures accepted { OnOk result (Told (S.outside shelf.new).held
+    ensures accepted { OnOk result (Known (S.outside shelf.new).held
         (λ files. refusal_of wanted.now (content files name.now) ≡ None)) }
     ensures refused { (refusal : Refused) → result ≡ Err (PassFault.Refused refusal)
-        → Told (S.outside shelf.new).held
+        → Known (S.outside shelf.new).held
         (λ files. refusal_of wanted.now (content files name.now) ≡ Some refusal) }
-    // What the reads of this call have given shows so much, also where none are told.
+    // What the reads of this call have given shows so much, also where none are known.
     ensures shown { IfOk result (λ passed. HasShown name.now (HasParts passed)
         (S.outside shelf.old).given (S.outside shelf.new).given) }
     ensures shown_refused { (refusal : Refused) → result ≡ Err (PassFault.Refused refusal)

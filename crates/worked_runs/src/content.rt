@@ -31,7 +31,7 @@ const HEADER: [u8; 20] = [
     0x50, 0x52, 0x44, 0x54, 0x52, 0x43, 0x30, 0x31, 0, 0, 0, 0, 0, 0, 0, 0, 8, 0, 0, 0,
 ];
 
-// An access, as its record tells it.
+// An access, as its record states it.
 #[derive(Clone, Copy)]
 struct Touch {
     tag: u8,

@@ -42,7 +42,7 @@ fn play<R: Files + Print + AllocGlobal>(
 }
 
 // Plays a case, says how it went, and answers whether each of its calls ended as it says.
-fn tell<R: Files + Print + AllocGlobal>(
+fn report<R: Files + Print + AllocGlobal>(
     rt: &R,
     name: &str,
     case: &mut Case,
@@ -62,7 +62,7 @@ fn tell<R: Files + Print + AllocGlobal>(
 fn pass<R: Files + Print + AllocGlobal>(rt: &R, name: &str) -> Result<bool, Trouble> {
     let text = fs::read_to_string(rt, name)?;
     let mut case = Case::new(rt.alloc());
-    tell(rt, name, &mut case, &text)
+    report(rt, name, &mut case, &text)
 }
 
 fn pass_all<R: Files + Print + AllocGlobal>(rt: &R) -> Result<bool, Trouble> {

@@ -4,7 +4,7 @@ use Rattle.std.proofs.Common.{◌≡◌, ℕ, List, [], ◌∷◌, ◌++◌, Opt
 use Rattle.std.proofs.Common.{sym, subst, ◌∙◌}
 use Rattle.std.proofs.lemmas.Option.{none-some}
 use Rattle.std.specs.Option.{option_or}
-use Rattle.shelf.specs.Shelf.{Files, HasRead, Outside, Told, OnlyReads, Rose}
+use Rattle.shelf.specs.Shelf.{Files, HasRead, Outside, Known, OnlyReads, Rose}
 use Rattle.command_io.specs.Statuses.{Kind, kind_of, done, refusal, read_fault, write_fault}
 use Rattle.command_io.specs.Statuses.{no_memory}
 use Rattle.command_io.specs.Readings.{FailsInOrder, IsAccepted, IsRefusal, IsStopped}
@@ -12,8 +12,8 @@ use Rattle.command_io.specs.Readings.{Reading, RoseAt, StopsBy}
 use Rattle.command_io.specs.Readings.{first_refusal, named_before, names_of, reading, unread}
 use Rattle.command_io.specs.declared.status.Status.{Status}
 use Rattle.command_io.specs.declared.status.Status.TheVariants as status
-use Rattle.shelf.specs.Laws.Told.{only_both, only_none, read_both, read_none, told, told_both}
-use Rattle.shelf.specs.Laws.Told.{told_map, told_still}
+use Rattle.shelf.specs.Laws.Known.{only_both, only_none, read_both, read_none, if_known, known_both}
+use Rattle.shelf.specs.Laws.Known.{known_map, known_still}
 
 -- ---- two lists of files
 
@@ -101,10 +101,10 @@ why_first : (s1 s2 : List Reading) (a b : Outside) (k : Kind) (s : Status) → S
     → StopsBy (s1 ++ s2) a b k s
 why_first s1 s2 a b done s why = why
 why_first s1 s2 a b refusal s why =
-    (told_map b.held (λ files is. refused_first s1 s2 files s is) why.0, why.1)
+    (known_map b.held (λ files is. refused_first s1 s2 files s is) why.0, why.1)
 why_first s1 s2 a b read_fault s why = (
   rose_first s1 s2 a.read_faults b.read_faults why.0,
-  told_map b.held
+  known_map b.held
       (λ files fails. fails_first s1 s2 files a.read_faults b.read_faults fails) why.1,
 )
 why_first s1 s2 a b write_fault s why = why
@@ -113,17 +113,17 @@ why_first s1 s2 a b no_memory s why = why
 -- the numbers of faults of reading before a call are those before the calls that failed nowhere
 -- ahead of it
 why_later : (s1 s2 : List Reading) (a b d : Outside) (k : Kind) (s : Status)
-    → Told d.held (λ files. first_refusal s1 files ≡ None) → b.read_faults ≡ a.read_faults
+    → Known d.held (λ files. first_refusal s1 files ≡ None) → b.read_faults ≡ a.read_faults
     → StopsBy s2 b d k s → StopsBy (s1 ++ s2) a d k s
 why_later s1 s2 a b d done s accepts same why = why
 why_later s1 s2 a b d refusal s accepts same why = (
-  told_both d.held (λ files none is. passed s1 s2 files none ∙ is) accepts why.0,
+  known_both d.held (λ files none is. passed s1 s2 files none ∙ is) accepts why.0,
   why.1 ∙ same,
 )
 why_later s1 s2 a b d read_fault s accepts same why = (
   rose_later s1 s2 a.read_faults d.read_faults
       (subst (λ (f : List ℕ → ℕ). RoseAt (names_of s2) f d.read_faults) same why.0),
-  told_both d.held
+  known_both d.held
       (λ files none fails. fails_later s1 s2 files a.read_faults d.read_faults none
       (subst (λ (f : List ℕ → ℕ). FailsInOrder s2 files f d.read_faults) same fails)) accepts
       why.1,
@@ -143,11 +143,11 @@ stopped_first s1 s2 a b s stopped = record {
 }
 
 pub accepted_both : (s1 s2 : List Reading) (o : Option Files)
-    → Told o (λ files. first_refusal s1 files ≡ None)
-    → Told o (λ files. first_refusal s2 files ≡ None)
-    → Told o (λ files. first_refusal (s1 ++ s2) files ≡ None)
+    → Known o (λ files. first_refusal s1 files ≡ None)
+    → Known o (λ files. first_refusal s2 files ≡ None)
+    → Known o (λ files. first_refusal (s1 ++ s2) files ≡ None)
 accepted_both s1 s2 o first later =
-    told_both o (λ files none is. passed s1 s2 files none ∙ is) first later
+    known_both o (λ files none is. passed s1 s2 files none ∙ is) first later
 
 -- ---- one file
 
@@ -159,9 +159,9 @@ none_alone x is = rw is refl
 
 -- a file is accepted
 pub accepted_alone : (name : List ℕ) (refuses : Files → Option Status) (o : Option Files)
-    → Told o (λ files. refuses files ≡ None)
-    → Told o (λ files. first_refusal (reading name refuses ∷ []) files ≡ None)
-accepted_alone name refuses o none = told_map o (λ files is. none_alone (refuses files) is) none
+    → Known o (λ files. refuses files ≡ None)
+    → Known o (λ files. first_refusal (reading name refuses ∷ []) files ≡ None)
+accepted_alone name refuses o none = known_map o (λ files is. none_alone (refuses files) is) none
 
 -- memory ran out
 pub memory_stopped : (readings : List Reading) (a b : Outside) → b.read_faults ≡ a.read_faults
@@ -174,7 +174,7 @@ pub fault_stopped : (name : List ℕ) (refuses : Files → Option Status) (a b :
     → Rose (a.read_faults name) (b.read_faults name)
     → OnlyReads a b → IsStopped (reading name refuses ∷ []) a b status.ReadFault
 fault_stopped name refuses a b rose only = record {
-  why = (inl rose, told b.held (λ files. inl rose));
+  why = (inl rose, if_known b.held (λ files. inl rose));
   words = λ e. cc;
   memory = refl;
   only = only;
@@ -183,11 +183,11 @@ fault_stopped name refuses a b rose only = record {
 -- a file is refused
 pub refused_stopped : (name : List ℕ) (refuses : Files → Option Status) (a b : Outside) (s : Status)
     → IsRefusal s
-    → Told b.held (λ files. refuses files ≡ Some s) → b.read_faults ≡ a.read_faults → OnlyReads a b
+    → Known b.held (λ files. refuses files ≡ Some s) → b.read_faults ≡ a.read_faults → OnlyReads a b
     → IsStopped (reading name refuses ∷ []) a b s
 refused_stopped name refuses a b s is_refusal is peace only =
     let why : StopsBy (reading name refuses ∷ []) a b refusal s =
-    (told_map b.held (λ files same. or_none (refuses files) s same) is, peace)
+    (known_map b.held (λ files same. or_none (refuses files) s same) is, peace)
     in
     record {
       why = rw is_refusal.kind why;
@@ -202,7 +202,7 @@ pub unread_stopped : (refused : Option Status) (a : Outside) (s : Status) → Is
     → refused ≡ Some s → IsStopped (unread refused ∷ []) a a s
 unread_stopped refused a s is_refusal is =
     let why : StopsBy (unread refused ∷ []) a a refusal s =
-    (told a.held (λ files. or_none refused s is), refl)
+    (if_known a.held (λ files. or_none refused s is), refl)
     in
     record {
       why = rw is_refusal.kind why;
@@ -214,7 +214,7 @@ unread_stopped refused a s is_refusal is =
 pub unread_accepted : (refused : Option Status) (a : Outside) → refused ≡ None
     → IsAccepted (unread refused ∷ []) a a
 unread_accepted refused a none =
-    record { accepts = told a.held (λ files. none_alone refused none); read = read_none a }
+    record { accepts = if_known a.held (λ files. none_alone refused none); read = read_none a }
 
 -- ---- a file that is refused alike
 
@@ -226,21 +226,21 @@ alone_fails name r1 r2 files before now (inl rose) = inl rose
 alone_fails name r1 r2 files before now (inr later) = absurd later.1
 
 alike_why : (name : List ℕ) (r1 r2 : Files → Option Status) (a b : Outside) (k : Kind) (s : Status)
-    → Told b.held (λ files. r2 files ≡ r1 files) → StopsBy (reading name r1 ∷ []) a b k s
+    → Known b.held (λ files. r2 files ≡ r1 files) → StopsBy (reading name r1 ∷ []) a b k s
     → StopsBy (reading name r2 ∷ []) a b k s
 alike_why name r1 r2 a b done s alike why = why
 alike_why name r1 r2 a b refusal s alike why =
-    (told_both b.held (λ files same is. ap (λ x. option_or x None) same ∙ is) alike why.0, why.1)
+    (known_both b.held (λ files same is. ap (λ x. option_or x None) same ∙ is) alike why.0, why.1)
 alike_why name r1 r2 a b read_fault s alike why = (
   why.0,
-  told_map b.held
+  known_map b.held
       (λ files fails. alone_fails name r1 r2 files a.read_faults b.read_faults fails) why.1,
 )
 alike_why name r1 r2 a b write_fault s alike why = why
 alike_why name r1 r2 a b no_memory s alike why = why
 
 pub alike_stopped : (name : List ℕ) (r1 r2 : Files → Option Status) (a b : Outside) (s : Status)
-    → Told b.held (λ files. r2 files ≡ r1 files) → IsStopped (reading name r1 ∷ []) a b s
+    → Known b.held (λ files. r2 files ≡ r1 files) → IsStopped (reading name r1 ∷ []) a b s
     → IsStopped (reading name r2 ∷ []) a b s
 alike_stopped name r1 r2 a b s alike stopped = record {
   why = alike_why name r1 r2 a b (kind_of s) s alike stopped.why;
@@ -251,11 +251,11 @@ alike_stopped name r1 r2 a b s alike stopped = record {
 }
 
 pub alike_accepted : (name : List ℕ) (r1 r2 : Files → Option Status) (a b : Outside)
-    → Told b.held (λ files. r2 files ≡ r1 files)
+    → Known b.held (λ files. r2 files ≡ r1 files)
     → IsAccepted (reading name r1 ∷ []) a b → IsAccepted (reading name r2 ∷ []) a b
 alike_accepted name r1 r2 a b alike accepted =
     record {
-      accepts = told_both b.held
+      accepts = known_both b.held
           (λ files same is. ap (λ x. option_or x None) same ∙ is) alike accepted.accepts;
       read = accepted.read;
     }
@@ -267,7 +267,7 @@ pub stopped_behind : (s1 s2 : List Reading) (a b d : Outside) (s : Status) → I
     → IsStopped s2 b d s
     → IsStopped (s1 ++ s2) a d s
 stopped_behind s1 s2 a b d s accepted stopped =
-    let accepts = told_still (λ files. first_refusal s1 files ≡ None) b.held d.held
+    let accepts = known_still (λ files. first_refusal s1 files ≡ None) b.held d.held
     stopped.only.held accepted.accepts in
     record {
       why = why_later s1 s2 a b d (kind_of s) s accepts accepted.read.faults stopped.why;
@@ -279,13 +279,13 @@ stopped_behind s1 s2 a b d s accepted stopped =
 pub accepted_behind : (s1 s2 : List Reading) (a b d : Outside) → IsAccepted s1 a b
     → IsAccepted s2 b d → IsAccepted (s1 ++ s2) a d
 accepted_behind s1 s2 a b d first later =
-    let accepts = told_still (λ files. first_refusal s1 files ≡ None) b.held d.held
+    let accepts = known_still (λ files. first_refusal s1 files ≡ None) b.held d.held
     later.read.only.held first.accepts in
     record {
       accepts = accepted_both s1 s2 d.held accepts later.accepts;
       read = read_both a b d first.read later.read;
     }
 
--- what is told holds of what is told still, once more was read
-pub told_again : (P : Files → Type 0) (a b : Outside) → HasRead a b → Told a.held P → Told b.held P
-told_again P a b read is = told_still P a.held b.held read.only.held is
+-- what holds of the known files holds of those still known, once more was read
+pub known_again : (P : Files → Type 0) (a b : Outside) → HasRead a b → Known a.held P → Known b.held P
+known_again P a b read is = known_still P a.held b.held read.only.held is

@@ -16,7 +16,7 @@ use Rattle.finite_cache.specs.CacheState.{cell_of}
 use Rattle.base.specs.Shapes.{CacheShape}
 use Rattle.finite_cache.specs.Sweeps.{is_cell_of_another}
 
--- a product with a rest tells both
+-- a product with a rest determines both numbers
 same-hart : (n g h s u : ℕ) → s < n → u < n → g * n + s ≡ h * n + u → g ≡ h
 same-hart n g h s u s_in u_in e =
     sym (div-mul-add g n s s_in) ∙ ap (λ c. c / n) e ∙ div-mul-add h n u u_in

@@ -10,22 +10,22 @@ use Rattle.finite_cache.specs.CacheState.{totals_kept}
 use Rattle.finite_cache.specs.Laws.Stands.{rows-stand, stands-none, totals-stand}
 use Rattle.finite_cache.specs.Rows.{rows_of}
 use Rattle.finite_cache.specs.Seen.{HasSeen, caches_of_records}
-use Rattle.finite_cache.specs.Texts.{caches_text, lines_of_caches, told_rows}
+use Rattle.finite_cache.specs.Texts.{caches_text, lines_of_caches, reported_rows}
 use Rattle.finite_cache.specs.declared.rows.Totals.{Totals}
 
 -- the text of what is kept is that of a list for which it stands
 pub text-stands : (v : CacheState) (t : AccessList) (total : Totals) → StandsFor t v
     → total ≡ totals_kept v
     → text_of (lines_of_caches v.shape v.position
-    (told_rows (map (row_kept v.shape v.parts.lines) v.parts.rows)) total)
+    (reported_rows (map (row_kept v.shape v.parts.lines) v.parts.rows)) total)
     ≡ caches_text v.shape t
 unfolding caches_text
 text-stands v t total stands sums =
     ap (λ p. text_of (lines_of_caches v.shape p
-    (told_rows (map (row_kept v.shape v.parts.lines) v.parts.rows)) total)) stands.position
-    ∙ ap (λ rs. text_of (lines_of_caches v.shape (length t) (told_rows rs) total))
+    (reported_rows (map (row_kept v.shape v.parts.lines) v.parts.rows)) total)) stands.position
+    ∙ ap (λ rs. text_of (lines_of_caches v.shape (length t) (reported_rows rs) total))
     (rows-stand v t stands)
-    ∙ ap (λ x. text_of (lines_of_caches v.shape (length t) (told_rows (rows_of v.shape t)) x))
+    ∙ ap (λ x. text_of (lines_of_caches v.shape (length t) (reported_rows (rows_of v.shape t)) x))
     (sums ∙ totals-stand v t stands)
 
 -- and that of records that were seen from the beginning

@@ -93,7 +93,7 @@ stands-empty k sets lines rows e f g =
     (subst (λ y. StandsFor [] (kept [] y rows)) (sym f)
     (subst (λ z. StandsFor [] (kept [] [] z)) (sym g) (stands-none k)))
 
--- ---- what is told
+-- ---- what is reported
 
 mapped-at : {X Y : Type 0} (f : X → Y) (xs : List X) (i : ℕ)
     → option_map f (slice_get xs i) ≡ slice_get (map f xs) i

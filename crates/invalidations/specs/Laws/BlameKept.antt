@@ -124,7 +124,7 @@ all-push : (g : Grid) (u : List Sited) (s : Sited)
 all-push g u s =
     let r = line_of g s in
     let old = taken_in_list g u r in
-    let told = invalidation-two (grid_line g r) 0 u s (eq-eqb r r refl) in
+    let stated = invalidation-two (grid_line g r) 0 u s (eq-eqb r r refl) in
     let b = is_some (invalidation_by (two_of (grid_line g r) u) 0 (length u) s) in
     let grown = sum-inserted nat_eq (λ (l : LineTaken). l.invalidations) untouched refl (lines_made g u) r
     (note_line old s b) in
@@ -133,7 +133,7 @@ all-push g u s =
     let inserted = ap total_in (lines_made-push g u s) in
     let own = ap (λ (l : LineTaken). l.invalidations) (taken_of-made g u r) in
     let more = one-more old s b in
-    rw told (omega (arith, grown, before, after, inserted, own, more))
+    rw stated (omega (arith, grown, before, after, inserted, own, more))
 
 pub all-shorter : (g : Grid) (u : List Sited) → all_invalidations g u ≤ length u
 all-shorter g u =
@@ -175,11 +175,11 @@ pub noted-by : (k : Blamed) (s : Sited) (line n : ℕ) (taken : Bool) (p : Parts
     → n ≡ (if taken then 1 else 0) → p ≡ note_parts k.parts line k.position s
     → record { grid = k.grid; position = k.position + 1; total = k.total + n; parts = p }
     ≡ note_access k s
-noted-by k s line n taken p own told counted noted =
+noted-by k s line n taken p own stated counted noted =
     let more : k.total + n ≡ (if is_some (invalidation_in k.parts (line_of k.grid s) k.position s)
     then k.total + 1 else k.total) =
     ap (λ m. k.total + m) (counted
-    ∙ ap (λ (b : Bool). if b then 1 else 0) (told
+    ∙ ap (λ (b : Bool). if b then 1 else 0) (stated
     ∙ ap (λ (r : ℕ). is_some (invalidation_in k.parts r k.position s)) own))
     ∙ sym (count-if (is_some (invalidation_in k.parts (line_of k.grid s) k.position s)) k.total) in
     ap (λ (m : ℕ). record { grid = k.grid; position = k.position + 1; total = m; parts = p }) more

@@ -68,14 +68,14 @@ tally-accesses u =
     ])
     u
 
-abbrev pub word_told : List Sited → Rattle.sharing_rules.specs.declared.word.Word.Word
-word_told v = tally (accesses_of v)
+abbrev pub reported_word : List Sited → Rattle.sharing_rules.specs.declared.word.Word.Word
+reported_word v = tally (accesses_of v)
 
 pub sites-at : (l : Line) (start : ℕ) (u : List Sited) (pc : ℕ)
     → word_at (sites l start u) pc
-    ≡ word_told (group_of nat_eq (λ s. s.pc) (visits l start u) pc)
+    ≡ reported_word (group_of nat_eq (λ s. s.pc) (visits l start u) pc)
 sites-at l start u pc =
-    looked-up nat_eq nat_eq-exact (λ (s : Sited). s.pc) word_told (visits l start u) pc
+    looked-up nat_eq nat_eq-exact (λ (s : Sited). s.pc) reported_word (visits l start u) pc
 
 site-few : (l : Line) (start : ℕ) (u : List Sited) (pc : ℕ)
     → accesses (word_at (sites l start u) pc) ≤ length u

@@ -171,27 +171,27 @@ no-group eq exact key (x ∷ xs) k none =
     rw parts.0 (no-group eq exact key xs k
     (sym (any-without eq exact k (key x) (keys_once eq (map key xs)) parts.0) ∙ parts.1))
 
--- what is kept under a key: what is told of its group
+-- what is kept under a key: what is stated of its group
 pub looked-up : {K X V : Type 0} (eq : K → K → Bool) → IsExact K eq → (key : X → K)
-    (told : List X → V) (xs : List X) (k : K)
-    → option_map_or (λ v. v) (lookup (eq k) (groups eq key told xs)) (told [])
-    ≡ told (group_of eq key xs k)
-looked-up eq exact key told xs k =
-    rw (lookup-entries eq exact (λ j. told (group_of eq key xs j)) (keys_once eq (map key xs)) k)
+    (stated : List X → V) (xs : List X) (k : K)
+    → option_map_or (λ v. v) (lookup (eq k) (groups eq key stated xs)) (stated [])
+    ≡ stated (group_of eq key xs k)
+looked-up eq exact key stated xs k =
+    rw (lookup-entries eq exact (λ j. stated (group_of eq key xs j)) (keys_once eq (map key xs)) k)
     (elim (cases_Bool (list_any (eq k) (keys_once eq (map key xs)))) [
       | inl there ↦ rw there refl
-      | inr none ↦ rw none (ap told (sym (no-group eq exact key xs k none)))
+      | inr none ↦ rw none (ap stated (sym (no-group eq exact key xs k none)))
     ])
 
--- an element more: its key's group is told anew
+-- an element more: its key's group is stated anew
 pub groups-push : {K X V : Type 0} (eq : K → K → Bool) → IsExact K eq → (key : X → K)
-    (told : List X → V) (xs : List X) (x : X)
-    → groups eq key told (xs ++ x ∷ [])
-    ≡ insert_entry eq (groups eq key told xs) (key x)
-    (told (group_of eq key xs (key x) ++ x ∷ []))
-groups-push {K} {X} {V} eq exact key told xs x =
-    let f : K → V = λ k. told (group_of eq key xs k) in
-    let g : K → V = λ k. told (group_of eq key (xs ++ x ∷ []) k) in
+    (stated : List X → V) (xs : List X) (x : X)
+    → groups eq key stated (xs ++ x ∷ [])
+    ≡ insert_entry eq (groups eq key stated xs) (key x)
+    (stated (group_of eq key xs (key x) ++ x ∷ []))
+groups-push {K} {X} {V} eq exact key stated xs x =
+    let f : K → V = λ k. stated (group_of eq key xs k) in
+    let g : K → V = λ k. stated (group_of eq key (xs ++ x ∷ []) k) in
     let grown : (k : K) → group_of eq key (xs ++ x ∷ []) k
     ≡ group_of eq key xs k ++ (if eq k (key x) then x ∷ [] else []) =
     λ k. filter-append (λ y. eq k (key y)) xs (x ∷ []) in
@@ -199,9 +199,9 @@ groups-push {K} {X} {V} eq exact key told xs x =
     (let no : eq k (key x) ≡ false = elim (cases_Bool (eq k (key x))) [
       | inl u ↦ absurd (false≢true (sym other ∙ rw (exact.same k (key x) u) (exact.own (key x))))
       | inr u ↦ u
-    ] in ap told (grown k ∙ rw no (append-nil (group_of eq key xs k)))) in
-    let own : g (key x) ≡ told (group_of eq key xs (key x) ++ x ∷ []) =
-    ap told (grown (key x) ∙ rw (exact.own (key x)) refl) in
+    ] in ap stated (grown k ∙ rw no (append-nil (group_of eq key xs k)))) in
+    let own : g (key x) ≡ stated (group_of eq key xs (key x) ++ x ∷ []) =
+    ap stated (grown (key x) ∙ rw (exact.own (key x)) refl) in
     ap (λ ks. entries g (keys_once eq ks)) (map-append key xs (x ∷ []))
     ∙ ap (entries g) (keys_once-push eq exact (map key xs) (key x))
     ∙ sym (insert-entries eq exact f g (keys_once eq (map key xs)) (key x)

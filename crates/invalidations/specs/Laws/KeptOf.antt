@@ -18,7 +18,7 @@ use Rattle.invalidations.specs.Groups.{group_of}
 use Rattle.invalidations.specs.LineInvalidations.{LineInvalidations, StandsFor, kept_of}
 use Rattle.invalidations.specs.LineInvalidations.{note_access, note_since, note_visit}
 use Rattle.invalidations.specs.Latest.{accesses_of, latest, latest_place}
-use Rattle.invalidations.specs.Laws.Bounds.{sites-at, word_told}
+use Rattle.invalidations.specs.Laws.Bounds.{sites-at, reported_word}
 use Rattle.invalidations.specs.Laws.Groups.{groups-push, nat_eq-exact}
 use Rattle.invalidations.specs.Laws.Latest.{accesses_of-push}
 use Rattle.invalidations.specs.Laws.Sums.{table, table-more}
@@ -30,7 +30,7 @@ use Rattle.invalidations.specs.Invalidations.{harts_of, is_in, pairs, pcs_of, si
 use Rattle.invalidations.specs.Invalidations.{invalidation_of, invalidations, visits}
 
 word-push : (v : List Sited) (s : Sited)
-    → word_told (v ++ s ∷ []) ≡ Rattle.sharing_rules.specs.Words.note_word (word_told v) s.access
+    → reported_word (v ++ s ∷ []) ≡ Rattle.sharing_rules.specs.Words.note_word (reported_word v) s.access
 word-push v s = ap tally (accesses_of-push v s) ∙ tally-push (accesses_of v) s.access
 
 sites-push : (l : Line) (start : ℕ) (u : List Sited) (s : Sited) → is_in l s ≡ true
@@ -42,7 +42,7 @@ sites-push l start u s i =
     (elim (cases_Bool (nat_le start (length u))) [
       | inr early ↦ rw early refl
       | inl since ↦ rw since
-          (groups-push nat_eq nat_eq-exact (λ (x : Sited). x.pc) word_told v s
+          (groups-push nat_eq nat_eq-exact (λ (x : Sited). x.pc) reported_word v s
           ∙ rw (
             word-push (group_of nat_eq (λ (x : Sited). x.pc) v s.pc) s,
             sites-at l start u s.pc,

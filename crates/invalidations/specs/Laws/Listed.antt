@@ -1,4 +1,4 @@
--- The count that is told of a listed line is the one that is listed.
+-- The count that is reported of a listed line is the one that is listed.
 use Rattle.std.proofs.Common.{◌≡◌, Bool, leb, List, None, Some, refl, subst, inl, inr}
 use Rattle.std.proofs.lemmas.Option.{none-some, same_Some}
 use Rattle.std.specs.Prelude.{filter}

@@ -59,7 +59,7 @@ pub table-more : (by : Invalidation → Sides) (ks : List Invalidation) (o : Opt
 table-more by ks None = ap (table by) (append-nil ks)
 table-more by ks (Some k) = table-push by ks k
 
--- how many invalidations a table tells
+-- how many invalidations a table has
 abbrev pub taken_in : List (Sides × Taken) → ℕ
 taken_in es = sum_by (λ e. e.1.taken) es
 

@@ -1,5 +1,5 @@
 -- Two accesses are enough: the latest access of a line, and the latest one by another hart than
--- that, tell every victim and whether the line is held.
+-- that, determine every victim and whether the line is held.
 use Rattle.std.proofs.Common.{◌≡◌, ℕ, Bool, true, false, eqb, not, ◌&&◌, List, [], ◌∷◌, ◌++◌}
 use Rattle.std.proofs.Common.{Some, None, length, refl, sym, ap, ◌∙◌, inl, inr}
 use Rattle.std.proofs.lemmas.Bool.{cases_Bool, eq-eqb, eqb-true}
@@ -157,7 +157,7 @@ same_test true true held = refl
 same_test true false held = refl
 same_test false writes held = refl
 
--- so what an access takes is told by the two
+-- so the two determine what an access takes
 pub invalidation-two : (l : Line) (start : ℕ) (u : List Sited) (s : Sited) → is_in l s ≡ true
     → invalidation_of l start u s ≡ invalidation_by (two_of l u) start (length u) s
 invalidation-two l start u s i =

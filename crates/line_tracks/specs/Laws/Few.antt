@@ -28,7 +28,8 @@ use Rattle.sharing_rules.specs.Laws.Arrivals.{each_once-distinct}
 use Rattle.sharing_rules.specs.Laws.Bases.{base_number, native-good, next_line}
 use Rattle.sharing_rules.specs.Laws.Kinds.{opened_doubled-is, opened_observed-is, opened_shifted-is}
 use Rattle.sharing_rules.specs.Laws.Lists.{filter-distinct, slice_cases}
-use Rattle.sharing_rules.specs.Laws.Opened.{even_lower-is, line_number-positive, other_pair}
+use Rattle.sharing_rules.specs.Laws.Opened.{line_number-positive}
+use Rattle.sharing_rules.specs.Laws.OpenedDoubled.{even_lower-is, other_pair}
 use Rattle.line_tracks.specs.Laws.WordLines.{held-inside, layout-sized}
 
 -- whether a kept line holds an address

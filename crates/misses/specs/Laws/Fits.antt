@@ -73,31 +73,31 @@ known-noted-as result es new r q i n p place at a same placed index value found 
     placed (known-noted result es new q i n p at a index value found noted))
 
 -- and what it costs
-known-told : {E : Type 0} (result : Result Cost E) (es : List (ℕ × LineEntry)) (r i n place : ℕ)
+known-stated : {E : Type 0} (result : Result Cost E) (es : List (ℕ × LineEntry)) (r i n place : ℕ)
     (a : Touch) → slice_get (values_of es) i ≡ lookup (eqb r) es
     → true ≡ is_some (lookup (eqb r) es)
     → IfOk result (λ cost. IfSome (slice_get (values_of es) i)
     (λ l. cost ≡ cost_of l place a.hart))
     → IfOk result (λ cost. cost ≡ cost_of (entry_of es r n) place a.hart)
-known-told (Err e) es r i n place a value found told = tt
-known-told (Ok cost) es r i n place a value found told =
+known-stated (Err e) es r i n place a value found stated = tt
+known-stated (Ok cost) es r i n place a value found stated =
     elim (slice_cases (lookup (eqb r) es)) [
       | inl none ↦ let k : true ≡ false = rw none at found in absurd (false≢true (sym k))
       | inr some ↦
           let there : slice_get (values_of es) i ≡ Some some.0 = value ∙ some.1 in
-          let at : cost ≡ cost_of some.0 place a.hart = rw there at told in
+          let at : cost ≡ cost_of some.0 place a.hart = rw there at stated in
           rw some.1 at
     ]
 
-pub known-told-as : {E : Type 0} (result : Result Cost E) (es : List (ℕ × LineEntry))
+pub known-stated-as : {E : Type 0} (result : Result Cost E) (es : List (ℕ × LineEntry))
     (r q i n place at : ℕ) (a : Touch) → q ≡ r → at ≡ place
     → slice_get (values_of es) i ≡ lookup (eqb q) es → true ≡ is_some (lookup (eqb q) es)
     → IfOk result (λ cost. IfSome (slice_get (values_of es) i) (λ l. cost ≡ cost_of l at a.hart))
     → IfOk result (λ cost. cost ≡ cost_of (entry_of es r n) place a.hart)
-known-told-as result es r q i n place at a same placed value found told =
+known-stated-as result es r q i n place at a same placed value found stated =
     subst (λ z. IfOk result (λ cost. cost ≡ cost_of (entry_of es z n) place a.hart)) same
     (subst (λ z. IfOk result (λ cost. cost ≡ cost_of (entry_of es q n) z a.hart)) placed
-    (known-told result es q i n at a value found told))
+    (known-stated result es q i n at a value found stated))
 
 -- the counts of an entry that is kept
 pub fit-at : (n p : ℕ) (es : List (ℕ × LineEntry)) (i : ℕ) (l : LineEntry) → AreFit n p es

@@ -317,15 +317,15 @@ same_cost x y e f g =
     ∙ ap (λ k. record { cold = y.cold; missed = k; needed = x.needed }) f
     ∙ ap (λ k. record { cold = y.cold; missed = y.missed; needed = k }) g
 
-abbrev told_cost : Visits → ℕ → Bool → Cost
-told_cost v written needed =
+abbrev reported_cost : Visits → ℕ → Bool → Cost
+reported_cost v written needed =
     record { cold = eqb v.accessed 0; missed = misses_now v written; needed = needed }
 
-cost-told : (g : Grid) (t : List Touch) (a : Touch)
-    → told_cost (visits_in g (lines_of g a.addr) t a.hart)
+cost-stated : (g : Grid) (t : List Touch) (a : Touch)
+    → reported_cost (visits_in g (lines_of g a.addr) t a.hart)
     (behind (writes_in (lines_of g) (lines_of g a.addr)) t) (wants (lines_of g) t a.hart a.addr)
     ≡ cost_by g t a
-cost-told g t a =
+cost-stated g t a =
     same_cost _ _ (sym (cold-own g t a)) (sym (miss-own g t a)) (sym (needed-here g t a))
 
 pub cost-own : (g : Grid) (t : List Touch) (a : Touch) → is_layout g.size g.offset ≡ true
@@ -338,7 +338,7 @@ cost-own g t a good within =
       word-in g r t (word_index_of g a.addr) within,
       needs-wants g t a.hart a.addr good,
     )
-    (cost-told g t a)
+    (cost-stated g t a)
 
 counted-own : (g : Grid) (t : List Touch) (a : Touch)
     → counted g (lines_of g a.addr) (t ++ a ∷ [])
@@ -377,4 +377,4 @@ kept_line-own g t a good within =
     (rw (behind-push (writes_in (lines_of g) r) t a, own, and-true (is_write a.kind)) refl)
     (words-own g t a within)
     (harts-own g t a)
-    (counted-own g t a ∙ ap (counts_after (counted g r t)) (sym (cost-told g t a))))
+    (counted-own g t a ∙ ap (counts_after (counted g r t)) (sym (cost-stated g t a))))

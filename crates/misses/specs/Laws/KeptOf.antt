@@ -132,8 +132,8 @@ pub stands-noted : (t : List Touch) (g : Grid) (p : ℕ) (c d : Counts)
     → is_layout g.size g.offset ≡ true → l ≡ line_at g a.addr → cost ≡ cost_in es l a
     → d ≡ counts_after c cost → fs ≡ note_in es l p a → StandsFor t (same_at g p c es)
     → same_at g (p + 1) d fs ≡ kept_of g (t ++ a ∷ [])
-stands-noted t g p c d es fs l a cost good line told counted noted stands =
+stands-noted t g p c d es fs l a cost good line stated counted noted stands =
     same_kept g _ _ _ _ _ _ refl
-    (counted ∙ ap (counts_after c) (told ∙ ap (λ m. cost_in es m a) line))
+    (counted ∙ ap (counts_after c) (stated ∙ ap (λ m. cost_in es m a) line))
     (noted ∙ ap (λ m. note_in es m p a) line)
     ∙ stands-push t (same_at g p c es) a good stands

@@ -1,5 +1,5 @@
 -- One entry serves: of a line its latest write, of a word its latest write and that write's hart,
--- and of a hart in a line its latest access and its latest load tell each miss and each needed
+-- and of a hart in a line its latest access and its latest load determine each miss and each needed
 -- load.
 use Rattle.std.proofs.Common.{◌≡◌, ℕ, ◌+◌, ◌≤◌, Bool, true, false, eqb, not, ◌&&◌}
 use Rattle.std.proofs.Common.{◌||◌, List, length, drop, refl, sym, ap, ◌∙◌}

@@ -1,4 +1,4 @@
--- What is told of the lines is what the definitions say, and the totals are the sums.
+-- What is reported of the lines is what the definitions say, and the totals are the sums.
 use Rattle.std.proofs.Common.{◌≡◌, ℕ, zero, suc, ◌-◌, ◌≤◌}
 use Rattle.std.proofs.Common.{true, false, eqb, List, [], ◌∷◌, ◌++◌, refl, sym, ap}
 use Rattle.std.proofs.Common.{◌∙◌, arith, map}
@@ -34,7 +34,7 @@ rows-mapped : (g : Grid) (t : List Touch) (ks : List ℕ)
 rows-mapped g t [] = refl
 rows-mapped g t (k ∷ ks) = ap (λ rs. row_of g (k, kept_line g t k) ∷ rs) (rows-mapped g t ks)
 
--- what is told of all lines, and of one
+-- what is reported of all lines, and of one
 pub rows-stand : (k : MissCounts) (t : List Touch) → StandsFor t k
     → map (row_of k.grid) k.lines ≡ rows_of k.grid t
 rows-stand k t stands =

@@ -63,7 +63,7 @@ layout-keeps n o h x y same =
 pub word_lines-part : PartsWords (line_number 4 0)
 word_lines-part x y same = omega (arith, same)
 
--- A word's number is told by its line and its place there.
+-- A word's number is determined by its line and its place there.
 quarter : (n k x : ℕ) → n ≡ 4 * k → x / 4 ≡ k * (x / n) + x % n / 4
 quarter n k x e =
     let whole : n * (x / n) + x % n ≡ x = div-add-mod x n in
@@ -71,9 +71,9 @@ quarter n k x e =
     ap (λ z. z * (x / n)) e ∙ mul_assoc 4 k (x / n) in
     omega (arith, whole, product)
 
-told : (n o x : ℕ) → IsEven n o → x / 4 + (n / 4 - o / 4)
+stated : (n o x : ℕ) → IsEven n o → x / 4 + (n / 4 - o / 4)
     ≡ n / 4 * line_number n o x + (x + n - o) % n / 4
-told n o x even =
+stated n o x even =
     let sized : n ≡ 4 * (n / 4) = omega (arith, even.size) in
     let in_words : (x + n - o) / 4 ≡ x / 4 + (n / 4 - o / 4) =
     omega (arith, even.size, even.offset, even.below) in
@@ -87,8 +87,8 @@ pub same_word : (g : Grid) (r x y : ℕ) → is_layout g.size g.offset ≡ true
     ≡ eqb (word_of y) (word_of x)
 same_word g r x y h here =
     let even = layout-even g.size g.offset h in
-    let tx = told g.size g.offset x even in
-    let ty = told g.size g.offset y even in
+    let tx = stated g.size g.offset x even in
+    let ty = stated g.size g.offset y even in
     same_bool _ _
     (λ e.
     let parts = and_parts (eqb (line_number g.size g.offset y) r)

@@ -129,10 +129,10 @@ apart-missed line_of r t =
     (words_in line_of r t)
 
 -- an access in a line that its word's own line needs is needed in the line, or its word came along
-told_apart : (line_of : ℕ → ℕ) (r : ℕ) (t : List Touch) (a : Touch) → KeepsWords line_of
+words_distinct : (line_of : ℕ → ℕ) (r : ℕ) (t : List Touch) (a : Touch) → KeepsWords line_of
     → one (is_in line_of r a && is_needed own_line (own_line a.addr) t a)
     ≡ one (is_needed line_of r t a) + one (comes_along line_of r t a)
-told_apart line_of r t a keeps =
+words_distinct line_of r t a keeps =
     elim (cases_Bool (is_needed line_of r t a)) [
       | inl needed ↦
           let here : is_in line_of r a ≡ true = (and_parts _ _ needed).0 in
@@ -160,7 +160,7 @@ needed-apart line_of r t keeps =
       count_places-push (is_needed line_of r) t a,
       count_places-push (comes_along line_of r) t a,
       count_places-push asked t a,
-      told_apart line_of r t a keeps,
+      words_distinct line_of r t a keeps,
     ))
     t
     ∙ needed-sum line_of r t keeps

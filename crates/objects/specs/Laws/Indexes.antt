@@ -142,7 +142,7 @@ module _ {X : Type 0} (lives : ℕ → X → Bool) (f g : ℕ → Option ℕ) (x
           elim (cases_Bool (lives q x)) [
             | inl here ↦
                 let there : g q ≡ Some (length xs) = rw here at (is q) in
-                let told : Some (length xs) ≡ Some i = sym there ∙ e in
+                let stated : Some (length xs) ≡ Some i = sym there ∙ e in
                 let last : length xs ≡ i = cc in
                 rw (← last) (last_passes (lives q) xs x here)
             | inr away ↦ let old : g q ≡ f q = rw away at (is q) in early_passes (lives q) xs x i

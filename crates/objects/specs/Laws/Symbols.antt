@@ -28,7 +28,7 @@ same_kinds Function Function h = refl
 same_kinds Object Function h = absurd (true≢false (sym h))
 same_kinds Function Object h = absurd (true≢false (sym h))
 
--- two symbols of one place are told apart from a third alike
+-- two symbols of one place are distinguished from a third alike
 alike : (a b : Symbol) → is_in_place_of a b ≡ true → (t : Symbol)
     → is_in_place_of a t ≡ is_in_place_of b t
 alike a b h t =

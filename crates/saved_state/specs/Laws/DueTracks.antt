@@ -25,7 +25,7 @@ use Rattle.sharing_rules.specs.Laws.Kinds.{IsPredictedOf, opened_doubled-is, ope
 use Rattle.sharing_rules.specs.Laws.Kinds.{predicted_ones-member}
 use Rattle.sharing_rules.specs.Laws.Lists.{Member-filter, Member-permutation, filter-Member}
 use Rattle.sharing_rules.specs.Laws.Lists.{slice_cases}
-use Rattle.sharing_rules.specs.Laws.Opened.{observed-some, some_is}
+use Rattle.sharing_rules.specs.Laws.OpenedObserved.{observed-some, some_is}
 use Rattle.sharing_rules.specs.Laws.Orders.{in_order-from_members, in_order-permutes}
 use Rattle.sharing_rules.specs.Laws.Orders.{in_order-rises}
 use Rattle.sharing_rules.specs.Laws.Starts.{observed_start-is_some}

@@ -34,7 +34,7 @@ use Rattle.sharing_rules.specs.declared.line_kind.LineKind.TheVariants.{Observed
 use Rattle.sharing_rules.specs.Laws.Kinds.{Member-append, opened_doubled-is, opened_shifted-is}
 use Rattle.sharing_rules.specs.Laws.Lists.{slice_cases}
 use Rattle.sharing_rules.specs.Laws.Observed.{observed_written}
-use Rattle.sharing_rules.specs.Laws.Opened.{some_is}
+use Rattle.sharing_rules.specs.Laws.OpenedObserved.{some_is}
 use Rattle.sharing_rules.specs.Laws.Orders.{in_order-permutes}
 use Rattle.sharing_rules.specs.Laws.Starts.{observed_start-first_write}
 use Rattle.sharing_rules.specs.Tracks.{track_since}

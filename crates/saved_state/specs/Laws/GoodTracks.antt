@@ -1,4 +1,4 @@
--- A track of a list is such as a state may tell, and so are the list's written lines.
+-- A track of a list is such as a state may hold, and so are the list's written lines.
 use Rattle.std.proofs.Common.{◌≡◌, ℕ, zero, suc, ◌+◌, ◌-◌, ◌*◌, ◌/◌, ◌%◌, ◌^◌, ◌<◌, ◌≤◌, Bool, true}
 use Rattle.std.proofs.Common.{◌&&◌, eqb, ltb, [], ◌∷◌, length, take, refl, sym, ap, ◌∙◌, subst}
 use Rattle.std.proofs.Common.{arith, inl, inr}

@@ -1,4 +1,4 @@
--- The words, the entries and the count of a line of a list are such as a state may tell.
+-- The words, the entries and the count of a line of a list are such as a state may hold.
 use Rattle.std.proofs.Common.{◌≡◌, ℕ, zero, suc, ◌+◌, ◌-◌, ◌/◌, ◌<◌, ◌≤◌, Bool, true, false, not}
 use Rattle.std.proofs.Common.{◌&&◌, eqb, ltb, leb, List, [], ◌∷◌, length, map, take, drop, refl}
 use Rattle.std.proofs.Common.{sym, ap, ◌∙◌, subst, arith, inl, inr}
@@ -48,7 +48,7 @@ each_once-Member (x ∷ xs) h m = elim m [
 
 -- ---- words
 
--- a word has as many accesses as were told of it
+-- a word has as many accesses as were counted of it
 counted_either : (w : Bool) → (if not w then 1 else 0) + (if w then 1 else 0) ≡ 1
 counted_either true = refl
 counted_either false = refl
@@ -87,7 +87,7 @@ hart_of harts [] each = refl
 hart_of harts (h ∷ []) each = lt-ltb h harts (each h (inl refl))
 hart_of harts (h ∷ (g ∷ hs)) each = refl
 
--- what is told of some accesses
+-- what is counted of some accesses
 pub tally-good : (harts : ℕ) (u : List Touch) → ((a : Touch) → Member a u → a.hart < harts)
     → is_good_word harts (tally u) ≡ true
 tally-good harts u each =

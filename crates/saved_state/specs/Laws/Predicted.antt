@@ -26,8 +26,10 @@ use Rattle.sharing_rules.specs.declared.line_kind.LineKind.{LineKind}
 use Rattle.sharing_rules.specs.declared.line_kind.LineKind.TheVariants.{Doubled, Shifted}
 use Rattle.sharing_rules.specs.Laws.Bases.{base_number, native-good, quarter}
 use Rattle.sharing_rules.specs.Laws.Kinds.{Member-append, opened_doubled-is, opened_shifted-is}
-use Rattle.sharing_rules.specs.Laws.Opened.{AreObserved, doubled_opening-observed, doubled-some}
-use Rattle.sharing_rules.specs.Laws.Opened.{opened_shifted-has, shifted_opening-observed}
+use Rattle.sharing_rules.specs.Laws.OpenedDoubled.{doubled-some}
+use Rattle.sharing_rules.specs.Laws.OpenedObserved.{AreObserved, doubled_opening-observed}
+use Rattle.sharing_rules.specs.Laws.OpenedObserved.{shifted_opening-observed}
+use Rattle.sharing_rules.specs.Laws.OpenedShifted.{opened_shifted-has}
 use Rattle.sharing_rules.specs.Laws.Orders.{lt_irreflexive}
 use Rattle.line_tracks.specs.Laws.WordLines.{layout-sized}
 use Rattle.line_tracks.specs.TrackValue.{TrackValue}

@@ -65,9 +65,9 @@ unit_is spell good x y bytes is =
     ]
 
 -- and it is what the fields say
-pub unit_told : {X : Type 0} (spell : X → List ℕ) (good : Bool) (x y : X) (bytes : List ℕ)
+pub unit_stated : {X : Type 0} (spell : X → List ℕ) (good : Bool) (x y : X) (bytes : List ℕ)
     → if_spelled spell good x bytes ≡ Some y → x ≡ y
-unit_told spell good x y bytes is =
+unit_stated spell good x y bytes is =
     elim (cases_Bool (good && starts_with nat_eq bytes (spell x))) [
       | inl passes ↦ same_Some x y (rw passes at is)
       | inr fails ↦ let never : None ≡ Some y = rw fails at is in absurd (none-some y never)

@@ -18,10 +18,12 @@ use Rattle.sharing_rules.specs.Predicted.{is_native_size}
 use Rattle.sharing_rules.specs.Laws.Arrivals.{each_once-distinct}
 use Rattle.sharing_rules.specs.Laws.Kinds.{opened_doubled-is}
 use Rattle.sharing_rules.specs.Laws.Lists.{filter-distinct, slice_cases}
-use Rattle.sharing_rules.specs.Laws.Opened.{AreObserved, doubled_opening-observed}
-use Rattle.sharing_rules.specs.Laws.Opened.{opened_doubled-is_some, opened_observed-written}
-use Rattle.sharing_rules.specs.Laws.Opened.{opened_shifted-is_some, shifted_opening-observed}
-use Rattle.sharing_rules.specs.Laws.Opened.{some_is}
+use Rattle.sharing_rules.specs.Laws.OpenedObserved.{AreObserved, doubled_opening-observed}
+use Rattle.sharing_rules.specs.Laws.Opened.{opened_doubled-is_some}
+use Rattle.sharing_rules.specs.Laws.OpenedObserved.{opened_observed-written}
+use Rattle.sharing_rules.specs.Laws.Opened.{opened_shifted-is_some}
+use Rattle.sharing_rules.specs.Laws.OpenedObserved.{shifted_opening-observed}
+use Rattle.sharing_rules.specs.Laws.OpenedObserved.{some_is}
 
 -- the keys that give something
 abbrev pub keys : (ℕ → Option Opened) → List ℕ → List ℕ

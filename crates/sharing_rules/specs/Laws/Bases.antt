@@ -241,7 +241,7 @@ any_some p (b ∷ t) e = elim (or_cases (p b) (list_any p t) e) [
       any_some p t later
 ]
 
--- A base tells the line in which it lies.
+-- A base determines the line in which it lies.
 pub split_base : (n k b : ℕ) → 0 < k → n * (k - 1) ≤ b → b + n ≡ k * n + (b - n * (k - 1))
 split_base n k b some above = let e : k ≡ k - 1 + 1 = omega (arith, some) in let m : (k - 1 + 1) * n
     ≡ n * (k - 1) + n = omega arith in omega (arith, ap (λ z. z * n) e, m, above)

@@ -1,4 +1,5 @@
--- The arrivals of a line are the harts that hold it, and tell whether a write finds another hart.
+-- The arrivals of a line are the harts that hold it, and determine whether a write finds another
+-- hart.
 use Rattle.std.proofs.Common.{◌≡◌, ℕ, Bool, true, false, eqb, not, ◌&&◌, ◌||◌, List, [], ◌∷◌, map}
 use Rattle.std.proofs.Common.{refl, sym, ap, ◌∙◌, subst, inl, inr}
 use Rattle.std.proofs.lemmas.List.Folds.{list_any-append}

@@ -27,10 +27,11 @@ use Rattle.sharing_rules.specs.Laws.Bases.{shifted_base-between, doubled_line-la
 use Rattle.sharing_rules.specs.Laws.Lists.{slice_cases, Member-filter_map, filter_map-Member}
 use Rattle.sharing_rules.specs.Laws.Lists.{Member-from_any}
 use Rattle.sharing_rules.specs.Laws.Observed.{observed_written}
-use Rattle.sharing_rules.specs.Laws.Opened.{AreObserved, opened_observed-written}
-use Rattle.sharing_rules.specs.Laws.Opened.{opened_shifted-has, opened_shifted-written}
-use Rattle.sharing_rules.specs.Laws.Opened.{opened_doubled-written, observed-some, doubled-some}
-use Rattle.sharing_rules.specs.Laws.Opened.{shifted_opening-observed, doubled_opening-observed}
+use Rattle.sharing_rules.specs.Laws.OpenedObserved.{AreObserved, opened_observed-written}
+use Rattle.sharing_rules.specs.Laws.OpenedShifted.{opened_shifted-has, opened_shifted-written}
+use Rattle.sharing_rules.specs.Laws.OpenedDoubled.{opened_doubled-written, doubled-some}
+use Rattle.sharing_rules.specs.Laws.OpenedObserved.{observed-some}
+use Rattle.sharing_rules.specs.Laws.OpenedObserved.{shifted_opening-observed, doubled_opening-observed}
 use Rattle.sharing_rules.specs.Laws.Opened.{line_number-positive}
 use Rattle.sharing_rules.specs.Laws.Openings.{doubled_opening-even}
 use Rattle.sharing_rules.specs.Laws.Places.{first_place-within}

@@ -46,7 +46,7 @@ first_two-note (x ∷ (y ∷ (z ∷ hs))) h =
 both : (x y h : ℕ) → eqb x y ≡ false → x ≡ h → y ≡ h → ⊥
 both x y h apart e d = eqb-false x y apart (e ∙ sym d)
 
--- two entries tell whether another hart came
+-- two entries determine whether another hart came
 pub first_two-another : (hs : List ℕ) (h : ℕ) → IsDistinct eqb hs
     → list_any (λ g. not (eqb g h)) (take 2 hs) ≡ list_any (λ g. not (eqb g h)) hs
 unfolding IsDistinct

@@ -9,16 +9,16 @@ use Rattle.std.proofs.Math.Seq.{take-append_seam, take-length}
 use Rattle.std.proofs.lemmas.Slice.Eq.{bytes_eq-Decides}
 use Rattle.std.specs.Option.{option_or}
 use Rattle.std.specs.Str.{bytes_eq}
-use Rattle.shelf.specs.Shelf.{Outside, Files, Told, Goes, HasRead}
+use Rattle.shelf.specs.Shelf.{Outside, Files, Known, Goes, HasRead}
 use Rattle.shelf.specs.declared.shelf.ShelfError.{ShelfError}
 use Rattle.shelf.specs.declared.shelf.ShelfError.TheVariants.{Failed}
 use Rattle.shelf.specs.Files.{Output, bytes_for, IsFrontOf, BegunInOrder, AreWhole, GoOn}
 use Rattle.shelf.specs.Files.{HasCauseAmong, RoseAmong, AreCut, AreWritten}
 use Rattle.shelf.specs.OneFile.{Waiting, AddsUp, IsBegun, Sunk, Holds, HoldsFront}
 use Rattle.shelf.specs.OnTheirWay.{names_of, IsNew, AreBegun, AreSunk, IsOutputs, outputs_with}
-use Rattle.shelf.specs.Laws.Told.{goes_map, reads_alone, writes_both}
+use Rattle.shelf.specs.Laws.Known.{goes_map, reads_alone, writes_both}
 
--- ---- meanings that a shelf may leave untold
+-- ---- meanings that may be unknown
 
 pub goes_then : {A : Type 0} (P Q R : A → A → Type 0) (a b c : Option A)
     → ((x y z : A) → P x y → Q y z → R x z) → Goes a b P
@@ -45,28 +45,28 @@ goes_at {A = A} P a b x y i j goes =
     (subst (λ (o : Option A). Goes o b P) i goes) in
     so
 
-pub told_at : {A : Type 0} (P : A → Type 0) (a : Option A) (x : A) → a ≡ Some x → Told a P → P x
-told_at {A = A} P a x i told = let so : Told (Some x) P = subst (λ (o : Option A). Told o P) i told
+pub stated_at : {A : Type 0} (P : A → Type 0) (a : Option A) (x : A) → a ≡ Some x → Known a P → P x
+stated_at {A = A} P a x i stated = let so : Known (Some x) P = subst (λ (o : Option A). Known o P) i stated
     in so
 
 -- ---- one file
 
-begun_where_told : (sink : Waiting) (pushed : List ℕ) (written : Option Files)
-    → Told written (AddsUp sink pushed)
+begun_where_known : (sink : Waiting) (pushed : List ℕ) (written : Option Files)
+    → Known written (AddsUp sink pushed)
     → (files : Files) → written ≡ Some files → IsSome (files sink.name)
-begun_where_told sink pushed None sunk files told = cc
-begun_where_told sink pushed (Some before) sunk files told = cc (told, sunk.1)
+begun_where_known sink pushed None sunk files stated = cc
+begun_where_known sink pushed (Some before) sunk files stated = cc (stated, sunk.1)
 
 -- the name of a sink is begun
 pub Sunk-begun : (sink : Waiting) (pushed : List ℕ) (outside : Outside) → Sunk sink pushed outside
     → IsBegun sink.name outside
-Sunk-begun sink pushed outside sunk = begun_where_told sink pushed outside.written sunk
+Sunk-begun sink pushed outside sunk = begun_where_known sink pushed outside.written sunk
 
-front_where_told : (sink : Waiting) (pushed : List ℕ) (written : Option Files)
-    → Told written (AddsUp sink pushed)
-    → Told written (λ files. (k : ℕ) × (files sink.name ≡ Some (take k pushed)))
-front_where_told sink pushed None sunk = tt
-front_where_told sink pushed (Some files) sunk =
+front_where_known : (sink : Waiting) (pushed : List ℕ) (written : Option Files)
+    → Known written (AddsUp sink pushed)
+    → Known written (λ files. (k : ℕ) × (files sink.name ≡ Some (take k pushed)))
+front_where_known sink pushed None sunk = tt
+front_where_known sink pushed (Some files) sunk =
     let front : take (length sunk.0) pushed ≡ sunk.0 =
     ap (take (length sunk.0)) (sym sunk.2) ∙ take-append_seam sunk.0 sink.kept in
     (length sunk.0, sunk.1 ∙ ap (λ x. Some x) (sym front))
@@ -74,7 +74,7 @@ front_where_told sink pushed (Some files) sunk =
 -- the file of the name is a front of what was put
 pub Sunk-front : (sink : Waiting) (pushed : List ℕ) (outside : Outside) → Sunk sink pushed outside
     → HoldsFront sink.name pushed outside
-Sunk-front sink pushed outside sunk = front_where_told sink pushed outside.written sunk
+Sunk-front sink pushed outside sunk = front_where_known sink pushed outside.written sunk
 
 -- ---- files by their names
 
@@ -119,13 +119,13 @@ whole_name : (outputs : List Output) (now : Outside) (name : List ℕ) (b n : Fi
     → now.written ≡ Some n → AreHeld outputs now
     → (IsNew name (output_names outputs) → n name ≡ b name)
     → n name ≡ option_or (bytes_for outputs name) (b name)
-whole_name [] now name b n told held others = others tt
-whole_name (o ∷ outputs) now name b n told held others =
+whole_name [] now name b n stated held others = others tt
+whole_name (o ∷ outputs) now name b n stated held others =
     at_name (λ (x : Option (List ℕ)). n name ≡ option_or x (b name)) o outputs name
-    (λ is. let holds : n o.name ≡ Some o.bytes = told_at (λ (f : Files). f o.name ≡ Some o.bytes)
-    now.written n told held.0 in subst
+    (λ is. let holds : n o.name ≡ Some o.bytes = stated_at (λ (f : Files). f o.name ≡ Some o.bytes)
+    now.written n stated held.0 in subst
     (λ (x : List ℕ). n x ≡ Some o.bytes) is holds)
-    (λ other. whole_name outputs now name b n told held.1 (λ new. others (other, new)))
+    (λ other. whole_name outputs now name b n stated held.1 (λ new. others (other, new)))
 
 pub held_whole : (outputs : List Output) (before now : Outside)
     → Goes before.written now.written (Others (output_names outputs))
@@ -293,18 +293,18 @@ IsOutputs-begun files outputs before now on = sunk_begun files outputs now on.su
 
 pub front_at : (name bytes : List ℕ) (now : Outside) (n : Files) → now.written ≡ Some n
     → HoldsFront name bytes now → (k : ℕ) × (n name ≡ Some (take k bytes))
-front_at name bytes now n told front =
-    told_at (λ (f : Files). (k : ℕ) × (f name ≡ Some (take k bytes))) now.written n told front
+front_at name bytes now n stated front =
+    stated_at (λ (f : Files). (k : ℕ) × (f name ≡ Some (take k bytes))) now.written n stated front
 
 pub sunk_fronts : (files : List Waiting) (outputs : List Output) (now : Outside) (n : Files)
     → now.written ≡ Some n → AreSunk files outputs now → HaveFronts outputs n
-sunk_fronts files [] now n told sunk = tt
-sunk_fronts [] (o ∷ outputs) now n told sunk = absurd sunk
-sunk_fronts (f ∷ files) (o ∷ outputs) now n told sunk = (
-  front_at o.name o.bytes now n told
+sunk_fronts files [] now n stated sunk = tt
+sunk_fronts [] (o ∷ outputs) now n stated sunk = absurd sunk
+sunk_fronts (f ∷ files) (o ∷ outputs) now n stated sunk = (
+  front_at o.name o.bytes now n stated
       (subst (λ (m : List ℕ). HoldsFront m o.bytes now) sunk.0
       (Sunk-front f o.bytes now sunk.1)),
-  sunk_fronts files outputs now n told sunk.2,
+  sunk_fronts files outputs now n stated sunk.2,
 )
 
 -- where another call gives up, what was put stands but for what waits
@@ -337,7 +337,7 @@ sunk_still [] (o ∷ outputs) a b same sunk = absurd sunk
 sunk_still (f ∷ files) [] a b same sunk = absurd sunk
 sunk_still (f ∷ files) (o ∷ outputs) a b same sunk = (
   sunk.0,
-  subst (λ (w : Option Files). Told w (AddsUp f o.bytes)) (sym same) sunk.1,
+  subst (λ (w : Option Files). Known w (AddsUp f o.bytes)) (sym same) sunk.1,
   sunk_still files outputs a b same sunk.2,
 )
 

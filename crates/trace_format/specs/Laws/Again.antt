@@ -48,7 +48,7 @@ use Rattle.trace_format.specs.Judging.{symbol_judged, symbol_kind_of, touch_judg
 use Rattle.trace_format.specs.Laws.Ends.{whole_fits, whole_of}
 use Rattle.trace_format.specs.Laws.Spelling.{address_again, distance_small, filtered_touch_tag}
 use Rattle.trace_format.specs.Laws.Spelling.{groups_good}
-use Rattle.trace_format.specs.Laws.Spelling.{number_again, numbers_told, short_touch_tag}
+use Rattle.trace_format.specs.Laws.Spelling.{number_again, numbers_stated, short_touch_tag}
 use Rattle.trace_format.specs.Laws.Spelling.{sited_touch_tag, touch_tag}
 use Rattle.trace_format.specs.Laws.Before.{pc_before_low}
 
@@ -124,21 +124,21 @@ short_touch_again harts last place a low good =
     rw (inside, groups_good z small, number_again z small, there, aligned) refl
 
 -- an access in two parts, the front and the pc
-sited_parts : (kind : Kind) (size harts place : ℕ) (before : Before) (front told : List ℕ)
-    → short_touch_extent (front ++ told) ≡ length front
-    → sited_touch_judged kind size harts before place (front ++ told)
-    ≡ with_pc before (place + length front) told
+sited_parts : (kind : Kind) (size harts place : ℕ) (before : Before) (front stated : List ℕ)
+    → short_touch_extent (front ++ stated) ≡ length front
+    → sited_touch_judged kind size harts before place (front ++ stated)
+    ≡ with_pc before (place + length front) stated
     (short_touch_judged kind size harts before.last place front)
 unfolding sited_touch_judged
-sited_parts kind size harts place before front told is =
-    let bytes = front ++ told in
+sited_parts kind size harts place before front stated is =
+    let bytes = front ++ stated in
     ap (λ (n : ℕ). with_pc before (place + n) (drop n bytes)
     (short_touch_judged kind size harts before.last place (take n bytes))) is
     ∙ ap (λ (xs : List ℕ). with_pc before (place + length front) xs
     (short_touch_judged kind size harts before.last place (take (length front) bytes)))
-    (drop-append_seam front told)
-    ∙ ap (λ (xs : List ℕ). with_pc before (place + length front) told
-    (short_touch_judged kind size harts before.last place xs)) (take-append_seam front told)
+    (drop-append_seam front stated)
+    ∙ ap (λ (xs : List ℕ). with_pc before (place + length front) stated
+    (short_touch_judged kind size harts before.last place xs)) (take-append_seam front stated)
 
 pc_again : (before : Before) (place pc : ℕ) (a : Touch) → IsGoodBefore before → pc < 2 ^ 32
     → with_pc before place (groups (distance (pc_before before a.hart) pc)) (Ok a)
@@ -163,7 +163,7 @@ unfolding spell_touch
 sited_touch_again harts place pc before a low good small =
     let front = spell_short_touch before.last a in
     let y = distance (pc_before before a.hart) pc in
-    let are = numbers_told (16 * half_of a.kind + a.size) a.hart (distance before.last a.addr) y
+    let are = numbers_stated (16 * half_of a.kind + a.size) a.hart (distance before.last a.addr) y
     (distance_small before.last a.addr) (distance_small (pc_before before a.hart) pc) in
     sited_parts a.kind a.size harts place before front (groups y) are.first
     ∙ ap (with_pc before (place + length front) (groups y))
@@ -226,7 +226,7 @@ symbol_again : (place : ℕ) (kind : SymbolKind) (addr size : ℕ) (name : List 
     name)
 unfolding symbol_judged spell_symbol
 symbol_again place kind addr size name good =
-    let told = from_le_bytes-to_le_bytes_2 (length name) (omega (arith, good.short)) in
+    let stated = from_le_bytes-to_le_bytes_2 (length name) (omega (arith, good.short)) in
     let sized : eqb size 0 ≡ false = grind (arith, nat_tests, good.some) in
     let fits : ltb 1024 (length name) ≡ false = grind (arith, nat_tests, good.short) in
     rw (
@@ -234,7 +234,7 @@ symbol_again place kind addr size name good =
       from_le_bytes-to_le_bytes_4 addr good.addr_in_range,
       from_le_bytes-to_le_bytes_4 size good.size_in_range,
       sized,
-      told,
+      stated,
       fits,
       no_zero name
           good.no_zero,
@@ -341,7 +341,7 @@ first_of_symbol : (kind : SymbolKind) (addr size : ℕ) (name : List ℕ)
 unfolding spell_symbol
 first_of_symbol kind addr size name = refl
 
--- what a record needs of the records before it: an access has a position, and an end tells how
+-- what a record needs of the records before it: an access has a position, and an end states how
 -- many accesses there were
 abbrev pub ComesAt : ReadSoFar → TraceRecord → Type 0
 ComesAt p (records.Touch a pc) = p.header.first + p.counted < last_position
@@ -406,12 +406,12 @@ module _ (header : Header) (counted : ℕ) (before : Before) (place : ℕ) (few 
       ≡ Ok (records.End (an_end o steps accesses whole))
   unfolding at
   end_counted_again v o steps accesses whole good same =
-      let told : eqb accesses counted ≡ true = eq-eqb accesses counted same in
+      let stated : eqb accesses counted ≡ true = eq-eqb accesses counted same in
       rw (
         steps_of v o steps accesses whole good.steps,
         accesses_of v o steps accesses whole good.accesses,
         whole_of v o steps accesses whole good.whole,
-        told,
+        stated,
         whole_fits v accesses whole good.whole,
       ) refl
 

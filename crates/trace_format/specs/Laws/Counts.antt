@@ -59,11 +59,11 @@ pub record IsCounted (p : ReadSoFar) (items : List TraceRecord) : Type 0 where
   pub counted : p.counted ≡ length (touches_in items)
   pub positions : p.header.first + p.counted ≤ last_position
 
--- this end is the last record and the only one of its kind, and tells how many accesses there are
+-- this end is the last record and the only one of its kind, and states how many accesses there are
 pub record EndsWith (items : List TraceRecord) (e : TraceEnd) : Type 0 where
   pub before : List TraceRecord
   pub inner : All IsInner before
-  pub told : e.accesses ≡ length (touches_in before)
+  pub stated : e.accesses ≡ length (touches_in before)
   pub is : items ≡ before ++ records.End e ∷ []
 
 abbrev pub IsSoFar : Option ReadSoFar → Option TraceEnd → List TraceRecord → Type 0
@@ -187,7 +187,7 @@ one_more p items (records.Free addr) size is counted there inner =
 one_more p items (records.Symbol kind addr n name) size is counted there inner =
     (is, All-push IsInner items (records.Symbol kind addr n name) inner tt)
 one_more p items (records.End e) size is counted there inner =
-    (is, record { before = items; inner = inner; told = there ∙ counted; is = refl })
+    (is, record { before = items; inner = inner; stated = there ∙ counted; is = refl })
 
 -- ---- one byte more
 

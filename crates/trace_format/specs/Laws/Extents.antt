@@ -100,9 +100,9 @@ module _ (k : ℕ) (bytes : List ℕ) (some : 1 ≤ k) (le : k ≤ length bytes)
             (drop n (take k bytes)))) again (groups_front whole)
       ]
 
-  -- the length that a symbol tells, where it is there
-  told_again : 12 ≤ k → number_at w16 10 (take k bytes) ≡ number_at w16 10 bytes
-  told_again enough =
+  -- the length that a symbol states, where it is there
+  stated_again : 12 ≤ k → number_at w16 10 (take k bytes) ≡ number_at w16 10 bytes
+  stated_again enough =
       let cut : drop 10 (take (10 + (k - 10)) bytes) ≡ take (k - 10) (drop 10 bytes) =
       drop-take 10 (k - 10) bytes in
       let whole : 10 + (k - 10) ≡ k = omega arith in
@@ -123,7 +123,7 @@ module _ (k : ℕ) (bytes : List ℕ) (some : 1 ≤ k) (le : k ≤ length bytes)
         | inr enough ↦
             let many : ltb (length bytes) 12 ≡ false = grind (arith, nat_tests) in
             let still : ltb (length (take k bytes)) 12 ≡ false = grind (arith, nat_tests) in
-            rw (many, still, told_again enough) (record { short = λ lt. lt; same = λ is. refl })
+            rw (many, still, stated_again enough) (record { short = λ lt. lt; same = λ is. refl })
       ]
 
   tag_front : (v : Version) (tag : Tag)

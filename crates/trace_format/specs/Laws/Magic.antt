@@ -218,7 +218,7 @@ magic_of_bytes bytes clean =
     let r = (reading_of bytes).1 in
     magic_known r.progress r.fault r.pending bytes (knows_all bytes) clean
 
--- what an accepted header tells of the bytes
+-- what an accepted header states of the bytes
 pub record HasVersion (bytes : List ℕ) (p : ReadSoFar) : Type 0 where
   pub long : 20 ≤ length bytes
   pub version : version_at bytes ≡ Some p.version

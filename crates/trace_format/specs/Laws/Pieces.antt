@@ -1,4 +1,4 @@
--- What follows for any bytes: a header that is told stays told, and accesses are few.
+-- What follows for any bytes: a header that is known stays known, and accesses are few.
 use Rattle.std.proofs.Common.{◌≡◌, ℕ, ◌+◌, ◌≤◌, ◌<◌, Bool, true, false, cond, ◌&&◌, eqb, ltb, List, []}
 use Rattle.std.proofs.Common.{◌∷◌, ◌++◌, length, drop, Option, Some, None, IsSome, Result, Ok, Err}
 use Rattle.std.proofs.Common.{refl, sym, ap, subst, ◌∙◌, append_assoc, arith}
@@ -113,23 +113,23 @@ module _ (Q : List TraceRecord → Option ReadSoFar → Type 0)
 pub same_head : (p : Option ReadSoFar) → SameHead p p
 same_head p = record { version = refl; header = refl }
 
-none_told : (p : Option ReadSoFar) → IsSome p → SameHead None p → ⊥
-none_told None some same = cc
-none_told (Some p) some same = let version = same.version in cc
+none_stated : (p : Option ReadSoFar) → IsSome p → SameHead None p → ⊥
+none_stated None some same = cc
+none_stated (Some p) some same = let version = same.version in cc
 
-module _ (told : Option ReadSoFar) (some : IsSome told) where
-  header_same : (items : List TraceRecord) (bytes : List ℕ) (p : ReadSoFar) → SameHead None told
+module _ (stated : Option ReadSoFar) (some : IsSome stated) where
+  header_same : (items : List TraceRecord) (bytes : List ℕ) (p : ReadSoFar) → SameHead None stated
       → header_judged bytes ≡ Ok p
-      → SameHead (Some p) told
-  header_same items bytes p none is = absurd (none_told told some none)
+      → SameHead (Some p) stated
+  header_same items bytes p none is = absurd (none_stated stated some none)
 
   record_same : (items : List TraceRecord) (p : ReadSoFar) (bytes : List ℕ) (item : TraceRecord)
-      → SameHead (Some p) told
+      → SameHead (Some p) stated
       → record_judged p bytes ≡ Ok item
-      → SameHead (Some (progress_after p item (length bytes))) told
+      → SameHead (Some (progress_after p item (length bytes))) stated
   record_same items p bytes item same is = record { version = same.version; header = same.header }
 
--- Once told, a header stays with each part that is read, and whatever bytes follow.
+-- Once known, a header stays with each part that is read, and whatever bytes follow.
 pub part_at-head : (r : Reading) (bytes : List ℕ) → IsSome r.progress
     → SameHead (part_at r r.progress r.ending bytes).1.progress r.progress
 part_at-head r bytes some =

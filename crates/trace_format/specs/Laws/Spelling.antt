@@ -64,13 +64,13 @@ count_before (a ∷ b ∷ c ∷ d ∷ e ∷ []) ys is = is
 count_before (a ∷ b ∷ c ∷ d ∷ e ∷ f ∷ rest) ys is = absurd (grind (arith, nat_tests))
 
 -- two numbers one after the other
-pub record AreNumbers (front told : List ℕ) (y : ℕ) : Type 0 where
-  pub first : short_touch_extent (front ++ told) ≡ length front
-  pub second : group_count told ≡ length told
+pub record AreNumbers (front stated : List ℕ) (y : ℕ) : Type 0 where
+  pub first : short_touch_extent (front ++ stated) ≡ length front
+  pub second : group_count stated ≡ length stated
 
-pub numbers_told : (tag hart z y : ℕ) → z < 2 ^ 32 → y < 2 ^ 32
+pub numbers_stated : (tag hart z y : ℕ) → z < 2 ^ 32 → y < 2 ^ 32
     → AreNumbers (tag ∷ hart ∷ groups z) (groups y) y
-numbers_told tag hart z y low small = record {
+numbers_stated tag hart z y low small = record {
   first = ap (λ (n : ℕ). 2 + n) (count_before (groups z) (groups y) (groups_whole z low))
       ∙ omega arith;
   second = groups_whole y small;
@@ -98,14 +98,14 @@ ending_extent Two o steps accesses whole = refl
 ending_extent Three o steps accesses whole = refl
 ending_extent Four o steps accesses whole = refl
 
-sited_extent : (front told : List ℕ) (y : ℕ) → AreNumbers front told y
-    → sited_touch_extent (front ++ told) ≡ length (front ++ told)
-sited_extent front told y are =
-    let bytes = front ++ told in
+sited_extent : (front stated : List ℕ) (y : ℕ) → AreNumbers front stated y
+    → sited_touch_extent (front ++ stated) ≡ length (front ++ stated)
+sited_extent front stated y are =
+    let bytes = front ++ stated in
     ap (λ (n : ℕ). n + group_count (drop n bytes)) are.first
-    ∙ ap (λ (xs : List ℕ). length front + group_count xs) (drop-append_seam front told)
+    ∙ ap (λ (xs : List ℕ). length front + group_count xs) (drop-append_seam front stated)
     ∙ ap (λ (n : ℕ). length front + n) are.second
-    ∙ sym (length-append front told)
+    ∙ sym (length-append front stated)
 
 touch_whole : (v : Version) (before : Before) (a : Touch) (pc : Option ℕ)
     → is_access_size a.size ≡ true
@@ -120,13 +120,13 @@ touch_whole Three before a pc sized =
     let z = distance before.last a.addr in
     let y = distance (pc_before before a.hart) (pc_or_zero pc) in
     rw (sited_touch_tag a.kind a.size sized) (sited_extent _ _ y
-    (numbers_told _ a.hart z y (distance_small before.last a.addr)
+    (numbers_stated _ a.hart z y (distance_small before.last a.addr)
     (distance_small (pc_before before a.hart) (pc_or_zero pc))))
 touch_whole Four before a pc sized =
     let z = distance before.last a.addr in
     let y = distance (pc_before before a.hart) (pc_or_zero pc) in
     rw (filtered_touch_tag a.kind a.size sized) (sited_extent _ _ y
-    (numbers_told _ a.hart z y (distance_small before.last a.addr)
+    (numbers_stated _ a.hart z y (distance_small before.last a.addr)
     (distance_small (pc_before before a.hart) (pc_or_zero pc))))
 
 alloc_whole : (v : Version) (addr size : ℕ) (sites : List ℕ) → length sites ≡ 4
@@ -145,23 +145,23 @@ free_whole Two addr = refl
 free_whole Three addr = refl
 free_whole Four addr = refl
 
-symbol_told : (kind : SymbolKind) (addr size : ℕ) (name : List ℕ) → length name ≤ 1024
+symbol_stated : (kind : SymbolKind) (addr size : ℕ) (name : List ℕ) → length name ≤ 1024
     → symbol_extent (spell_symbol kind addr size name) ≡ 12 + length name
 unfolding symbol_extent spell_symbol
-symbol_told kind addr size name short =
-    let told = from_le_bytes-to_le_bytes_2 (length name) (omega arith) in
+symbol_stated kind addr size name short =
+    let stated = from_le_bytes-to_le_bytes_2 (length name) (omega arith) in
     let fits : ltb 1024 (length name) ≡ false = grind (arith, nat_tests) in
-    rw (told, fits) (grind (arith, nat_tests))
+    rw (stated, fits) (grind (arith, nat_tests))
 
 symbol_whole : (v : Version) (kind : SymbolKind) (addr size : ℕ) (name : List ℕ)
     → length name ≤ 1024
     → record_extent v (spell_symbol kind addr size name) ≡ length (spell_symbol kind addr size
     name)
 unfolding record_extent spell_symbol
-symbol_whole One kind addr size name short = symbol_told kind addr size name short ∙ omega arith
-symbol_whole Two kind addr size name short = symbol_told kind addr size name short ∙ omega arith
-symbol_whole Three kind addr size name short = symbol_told kind addr size name short ∙ omega arith
-symbol_whole Four kind addr size name short = symbol_told kind addr size name short ∙ omega arith
+symbol_whole One kind addr size name short = symbol_stated kind addr size name short ∙ omega arith
+symbol_whole Two kind addr size name short = symbol_stated kind addr size name short ∙ omega arith
+symbol_whole Three kind addr size name short = symbol_stated kind addr size name short ∙ omega arith
+symbol_whole Four kind addr size name short = symbol_stated kind addr size name short ∙ omega arith
 
 -- The bytes of a good record are all that it has.
 pub record_whole : (v : Version) (harts : ℕ) (before : Before) (item : TraceRecord)

@@ -36,9 +36,9 @@ by_test : {A : Type 0} (P : A → Type 0) (b : Bool) (x y : A) → P x → P y �
 by_test P true x y px py = px
 by_test P false x y px py = py
 
--- ---- the header, once told, is told still
+-- ---- the header, once known, is known still
 
--- the version and the header, once told, are told still
+-- the version and the header, once known, are known still
 abbrev pub HeadStays : Option ReadSoFar → Option ReadSoFar → Type 0
 HeadStays None now = Unit {0}
 HeadStays (Some p) now =
@@ -93,7 +93,7 @@ head_stays (b ∷ bytes) r =
     later_head r.progress now.progress (read_on now bytes).1.progress
     (head_after_byte r.fault r.progress r.ending r.pending b) (head_stays bytes now)
 
--- More bytes leave the version and the header that some bytes tell.
+-- More bytes leave the version and the header that some bytes state.
 pub head_of_front : (bytes more : List ℕ) → HeadStays (reading_of bytes).1.progress
     (reading_of (bytes ++ more)).1.progress
 head_of_front bytes more =
@@ -385,7 +385,7 @@ trace-records bytes t is =
     whole.ends.is ∙ ap (λ (xs : List TraceRecord). xs ++ records.End t.ending ∷ []) (sym items)
 
 -- The header is good, each record may be written, no other is an end, positions are those of a
--- trace, and the end tells how many accesses there are.
+-- trace, and the end states how many accesses there are.
 pub record HasParts (t : Trace) : Type 0 where
   pub header : IsGoodHeader t.header
   pub writable : All IsWritable (all_records t)
@@ -430,7 +430,7 @@ trace-parts bytes t is =
         size,
         size_items,
       );
-      counted = ends.told ∙ sym size_items;
+      counted = ends.stated ∙ sym size_items;
     }
 
 -- what bytes that end well are a trace of

@@ -42,12 +42,12 @@ header_alone bytes p len judged =
     ∙ ap (λ (xs : List ℕ). then_read (header_read begin (header_judged bytes)) xs) none)
     ∙ rw judged refl
 
-same_head : (p : ReadSoFar) (now : Option ReadSoFar) (told : ReadSoFar) → HeadStays (Some p) now
-    → now ≡ Some told
-    → (told.version ≡ p.version) × (told.header ≡ p.header)
-same_head p None told stays is = absurd cc
-same_head p (Some q) told stays is =
-    let same : q ≡ told = cc in
+same_head : (p : ReadSoFar) (now : Option ReadSoFar) (stated : ReadSoFar) → HeadStays (Some p) now
+    → now ≡ Some stated
+    → (stated.version ≡ p.version) × (stated.header ≡ p.header)
+same_head p None stated stays is = absurd cc
+same_head p (Some q) stated stays is =
+    let same : q ≡ stated = cc in
     let version = stays.0 in
     let header = stays.1 in
     subst (λ (x : ReadSoFar). (x.version ≡ p.version) × (x.header ≡ p.header)) same (cc, cc)

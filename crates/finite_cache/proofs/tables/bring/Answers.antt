@@ -1,6 +1,6 @@
 use Rattle.std.specs.NonZero.{non_zero_usize_get}
-use Rattle.finite_cache.specs.Laws.Told.{kept-known, kept-new, known-known, known-new, left-known}
-use Rattle.finite_cache.specs.Laws.Told.{left-new, used-known, used-new}
+use Rattle.finite_cache.specs.Laws.Stated.{kept-known, kept-new, known-known, known-new, left-known}
+use Rattle.finite_cache.specs.Laws.Stated.{left-new, used-known, used-new}
 use Rattle.finite_cache.proofs.tables.bring.Goals as goal
 
 pub returns-in-Some-clause-left : goal.returns-in-Some-clause-left

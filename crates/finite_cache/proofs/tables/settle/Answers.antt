@@ -1,6 +1,6 @@
 use Rattle.std.proofs.Common.{[], ◌∷◌, rules}
 use Rattle.finite_cache.specs.CacheState.{LineUse}
-use Rattle.finite_cache.specs.Laws.Told.{use-written}
+use Rattle.finite_cache.specs.Laws.Stated.{use-written}
 use Rattle.finite_cache.proofs.tables.settle.Goals as goal
 
 pub returns : goal.returns

@@ -1,4 +1,4 @@
-use Rattle.finite_cache.specs.Laws.Told.{found-none, found-out, out-none, taken-out, ways-out}
+use Rattle.finite_cache.specs.Laws.Stated.{found-none, found-out, out-none, taken-out, ways-out}
 use Rattle.finite_cache.proofs.tables.take_out.Goals as goal
 
 pub returns-in-Some-clause-found : goal.returns-in-Some-clause-found

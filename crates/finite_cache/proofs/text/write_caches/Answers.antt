@@ -3,7 +3,7 @@ use Rattle.base.specs.TextLines.{text_of}
 use Rattle.std.specs.Prelude.{IfOk}
 use Rattle.finite_cache.specs.CacheState.{row_kept}
 use Rattle.finite_cache.specs.Laws.Seen.{text-seen, text-stands}
-use Rattle.finite_cache.specs.Texts.{lines_of_caches, told_rows}
+use Rattle.finite_cache.specs.Texts.{lines_of_caches, reported_rows}
 use Rattle.finite_cache.proofs.text.write_caches.Goals as goal
 
 pub returns-clause-of_list : goal.returns-clause-of_list
@@ -17,6 +17,6 @@ returns-clause-of_records c = λ k items seen.
     let v = c.args.caches.now in
     subst (λ (x : List ℕ). IfOk c.write_kept.result (λ text. text.items ≡ x))
     (text-seen k v items (text_of (lines_of_caches v.shape v.position
-    (told_rows (map (row_kept v.shape v.parts.lines) v.parts.rows)) c.totals.result)) seen
+    (reported_rows (map (row_kept v.shape v.parts.lines) v.parts.rows)) c.totals.result)) seen
     (λ t stands. text-stands v t c.totals.result stands c.totals.ensures.kept))
     c.write_kept.ensures

@@ -1,4 +1,4 @@
--- Two accesses tell every victim.
+-- Two accesses determine every victim.
 use Rattle.invalidations.specs.Laws.Two.{held-two, victim-two}
 use Rattle.invalidations.proofs.laws.two_accesses_are_enough.Goals as goal
 

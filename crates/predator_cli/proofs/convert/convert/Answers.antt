@@ -13,13 +13,13 @@ returns-in-Ok g c =
     let a = g.S.Shelf.outside c.args.shelf.now in
     let b = g.S.Shelf.outside c.convert_trace.new.shelf in
     let copied = c.in-Ok.ensures.copied in
-    let version = c.version_number-version.ensures ∙ ap version_number copied.told.0 in
+    let version = c.version_number-version.ensures ∙ ap version_number copied.stated.0 in
     c.print_copies.ensures (convert d) a
     (copy_worked (convert d) d.trace convert_text (conversion d.file) (is_convert d) a b _ copied
     (λ t says. says.2)
     (ap (λ v. copy_text (codes "convert") v c.in-Ok.made.accesses) version
     ∙ ap (copy_text (codes "convert") (version_number (other_version copied.trace.version)))
-    copied.told.1))
+    copied.stated.1))
 
 pub returns-in-Err : goal.returns-in-Err
 returns-in-Err g c =

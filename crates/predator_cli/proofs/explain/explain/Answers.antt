@@ -1,5 +1,5 @@
 use Rattle.std.proofs.Common.{◌≡◌, Ok, subst}
-use Rattle.shelf.specs.Shelf.{Told, content}
+use Rattle.shelf.specs.Shelf.{Known, content}
 use Rattle.command_line.specs.Explain.{explain_meaning}
 use Rattle.command_line.specs.Run.{RunDemand}
 use Rattle.command_line.specs.Words.{explain}
@@ -30,9 +30,9 @@ returns-in-Ok g c =
     c.explain_loaded.ensures a
     (to_explain d s symbols r a b
     (subst (λ (x : RunDemand). IsAccepted (run_readings x) a b) same c.in-Ok.ensures.accepted)
-    (subst (λ (x : RunDemand). Told b.held (λ files. settings_in x.settings files ≡ Ok s)) same
+    (subst (λ (x : RunDemand). Known b.held (λ files. settings_in x.settings files ≡ Ok s)) same
     c.in-Ok.ensures.settings)
-    (subst (λ (x : RunDemand). Told b.held (λ files. r ≡ run_for_demand x s files)) same
+    (subst (λ (x : RunDemand). Known b.held (λ files. r ≡ run_for_demand x s files)) same
     c.in-Ok.ensures.run)
-    (subst (λ (x : RunDemand). Told b.held
+    (subst (λ (x : RunDemand). Known b.held
     (λ files. symbols ≡ symbol_records (content files x.program))) same c.in-Ok.ensures.symbols))

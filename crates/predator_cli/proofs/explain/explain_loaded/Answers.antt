@@ -5,7 +5,7 @@ use Rattle.command_line.specs.Words.{explain}
 use Rattle.guest.specs.Runs.{rest_of}
 use Rattle.predator_cli.specs.Explain.{explained}
 use Rattle.predator_cli.specs.Run.{status_for}
-use Rattle.predator_cli.proofs.Ends.{finish_untold}
+use Rattle.predator_cli.proofs.Ends.{finish_unknown}
 use Rattle.predator_cli.proofs.ExplainEnds.{explain_worked}
 use Rattle.predator_cli.proofs.explain.explain_loaded.Goals as goal
 
@@ -26,6 +26,6 @@ returns-in-Err g c = λ old ready.
     let r = rest_of c.args.loaded.guest in
     let w = explained d c.args.loaded.symbols.items r in
     c.refuse.ensures (Some (explain d)) old
-    (finish_untold (explain d) old (g.S.Shelf.outside c.args.shelf.now) w.status w.text
+    (finish_unknown (explain d) old (g.S.Shelf.outside c.args.shelf.now) w.status w.text
     (explain_worked d c.args.loaded.symbols.items r old (g.S.Shelf.outside c.args.shelf.now)
     c.is_allowed.ensures ready))

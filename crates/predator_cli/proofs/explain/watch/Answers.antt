@@ -13,9 +13,9 @@ returns-clause-text c =
     let start = c.args.options.now.start in
     let symbols = c.in_ok-table.ensures
     ∙ ap (λ items. symbols_of (symbols_in items)) c.deref.ensures.value in
-    subst (λ (l : Line). IfOk c.explain_run.result (λ told. told.text.items
+    subst (λ (l : Line). IfOk c.explain_run.result (λ stated. stated.text.items
     ≡ explain_text r.ending (symbols_of (symbols_in c.args.loaded.symbols.items)) l start
     (sited_run r))) c.at-line.ensures
-    (subst (λ (named : List Symbol). IfOk c.explain_run.result (λ told. told.text.items
+    (subst (λ (named : List Symbol). IfOk c.explain_run.result (λ stated. stated.text.items
     ≡ explain_text r.ending named c.at-line.result start (sited_run r))) symbols
     c.explain_run.ensures.text)

@@ -32,7 +32,7 @@ returns-in-Ok g c =
     let copied = c.in-Ok.ensures.filtered in
     c.print_copies.ensures (asks d) a
     (filter_worked d laws a b c.in-Ok.made _ copied
-    (λ i. copy_text (codes "filter") (copied.told.whole i) (copied.told.kept i)))
+    (λ i. copy_text (codes "filter") (copied.stated.whole i) (copied.stated.kept i)))
 
 pub returns-in-Err : goal.returns-in-Err
 returns-in-Err g c =

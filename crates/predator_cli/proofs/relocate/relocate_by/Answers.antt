@@ -1,7 +1,7 @@
 use Rattle.std.proofs.Common.{◌≡◌, Err, Ok, Some, ap, codes}
 use Rattle.command_line.specs.Relocate.{move_meaning}
 use Rattle.command_line.specs.Words.{relocate as asks}
-use Rattle.shelf.specs.Laws.Told.{told_still}
+use Rattle.shelf.specs.Laws.Known.{known_still}
 use Rattle.shelf.specs.Shelf.{content}
 use Rattle.trace_files.specs.Tables.{table_of}
 use Rattle.predator_cli.specs.Copies.{copy_text}
@@ -27,9 +27,9 @@ returns-in-Ok g c = λ old accepted holds is_table.
     let copied = c.in-Ok.ensures.moved in
     c.print_copies.ensures (asks d) old
     (moved_worked d table moves old m b accepted
-    (told_still (λ files. table_of (content files d.table) ≡ Ok table) m.held b.held
+    (known_still (λ files. table_of (content files d.table) ≡ Ok table) m.held b.held
     copied.written.only.held holds) c.in-Ok.made _ copied
-    (λ i. copy_text (codes "move") (copied.told.accesses i) (copied.told.moved i)))
+    (λ i. copy_text (codes "move") (copied.stated.accesses i) (copied.stated.moved i)))
 
 pub returns-in-Err : goal.returns-in-Err
 returns-in-Err g c = λ old accepted holds is_table.
@@ -51,7 +51,7 @@ returns-in-Err g c = λ old accepted holds is_table.
     c.refuse.ensures (Some (asks d)) old
     (rw c.status_of_move.ensures
     (move_faulty d table moves old m b accepted
-    (told_still (λ files. table_of (content files d.table) ≡ Ok table) m.held b.held
+    (known_still (λ files. table_of (content files d.table) ≡ Ok table) m.held b.held
     failed.given_up.held_stay holds) c.in-Err.fault
     (λ r is. failed.refused r (ap Err is)) (λ addr is. failed.occupied addr (ap Err is))
     (λ addr is. failed.far addr (ap Err is)) (λ is. failed.memory (ap Err is)) failed.given_up))

@@ -3,8 +3,8 @@ use Rattle.command_line.specs.Run.{run_meaning}
 use Rattle.command_line.specs.Words.{run}
 use Rattle.guest.specs.Runs.{rest_of}
 use Rattle.run_recorder.specs.Recorded.{trace_for}
-use Rattle.shelf.specs.Laws.Told.{told_both}
-use Rattle.shelf.specs.Shelf.{Told, content}
+use Rattle.shelf.specs.Laws.Known.{known_both}
+use Rattle.shelf.specs.Shelf.{Known, content}
 use Rattle.predator_cli.specs.Run.{symbol_records, trace_for_demand, version_with}
 use Rattle.predator_cli.proofs.run.run.Goals as goal
 
@@ -21,8 +21,8 @@ returns-in-Ok g c =
     let r = rest_of c.in-Ok.loaded.guest in
     let symbols = c.in-Ok.loaded.symbols.items in
     let v = version_with d.pcs in
-    let traced : Told m.held (λ files. trace_for v s.harts symbols r ≡ trace_for_demand d s files) =
-    told_both m.held (λ files runs named. ap (λ x. trace_for v s.harts x r) named
+    let traced : Known m.held (λ files. trace_for v s.harts symbols r ≡ trace_for_demand d s files) =
+    known_both m.held (λ files runs named. ap (λ x. trace_for v s.harts x r) named
     ∙ ap (trace_for v s.harts (symbol_records (content files d.program))) runs)
     c.in-Ok.ensures.run c.in-Ok.ensures.symbols in
     c.run_loaded.ensures a (record {

@@ -17,8 +17,8 @@ show_run-requires-clause-apart g c =
     (take c.files_of-count.result.1 c.files_of-count.result.0) c.files_of-count.ensures.files
     c.requires.apart
 
--- what is told of the version that is chosen, by the guest's number of harts and its symbols, is
--- told of the version that is asked for, by those that are loaded
+-- what is stated of the version that is chosen, by the guest's number of harts and its symbols, is
+-- stated of the version that is asked for, by those that are loaded
 as_loaded : (P : Version → ℕ → List TraceRecord → Type 0) (x v : Version) (h harts : ℕ)
     (l symbols : List TraceRecord)
     → x ≡ v → h ≡ harts → l ≡ symbols → P x h l → P v harts symbols

@@ -22,8 +22,8 @@ returns-in-Ok g c =
     (copy_worked (split d) d.trace (split_text d.at) (halves d.at d.first d.second)
     (is_split d (c.a_trace_counts_in_parts.ensures d)) a b _ copied
     (λ t says. says.2)
-    (ap (copy_text (codes "split") c.in-Ok.made.cut) copied.told.1
-    ∙ ap (λ (cut : ℕ). copy_text (codes "split") cut (all - cut)) copied.told.0))
+    (ap (copy_text (codes "split") c.in-Ok.made.cut) copied.stated.1
+    ∙ ap (λ (cut : ℕ). copy_text (codes "split") cut (all - cut)) copied.stated.0))
 
 pub returns-in-Err : goal.returns-in-Err
 returns-in-Err g c =

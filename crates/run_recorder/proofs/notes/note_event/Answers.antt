@@ -9,12 +9,12 @@ use Rattle.trace_format.specs.declared.record.Version.{Version}
 use Rattle.trace_format.specs.Writing.{Writing}
 use Rattle.trace_format.specs.declared.record.TraceRecord.TheVariants as records
 use Rattle.run_recorder.specs.Recorded.{pc_for}
-use Rattle.run_recorder.specs.Recording.{AreCutAfter, AreNoted, bytes_told, records_told}
+use Rattle.run_recorder.specs.Recording.{AreCutAfter, AreNoted, event_bytes, event_records}
 use Rattle.run_recorder.proofs.Events.{cut_silent, noted_silent}
 use Rattle.run_recorder.proofs.notes.note_event.Goals as goal
 
 pub returns-in-Touch-clause-noted : goal.returns-in-Touch-clause-noted
-unfolding records_told bytes_told
+unfolding event_records event_bytes
 returns-in-Touch-clause-noted g c =
     let files = c.args.files.now in
     let new = g.S.Shelf.outside c.note_record.new.shelf in
@@ -28,13 +28,13 @@ returns-in-Touch-clause-noted g c =
     c.note_record.ensures.noted)
 
 pub returns-in-Touch-clause-cut : goal.returns-in-Touch-clause-cut
-unfolding records_told bytes_told
+unfolding event_records event_bytes
 returns-in-Touch-clause-cut g c =
     let files = c.args.files.now in
     let old = g.S.Shelf.outside c.args.shelf.now in
     let new = g.S.Shelf.outside c.note_record.new.shelf in
     let item : TraceRecord = c.touch_record.result in
-    let told : TraceRecord = records.Touch c.in-Touch.access (pc_for c.args.version c.in-Touch.pc)
+    let stated : TraceRecord = records.Touch c.in-Touch.access (pc_for c.args.version c.in-Touch.pc)
     in
     rw c.in-Touch.is
     (IfErr-weaker c.note_record.result (λ e. (v : Version) (harts : ℕ)
@@ -44,15 +44,15 @@ returns-in-Touch-clause-cut g c =
     (λ e. (harts : ℕ) (items : List TraceRecord) (put : List ℕ) (before : Outside)
     → AreNoted c.args.version harts items put files c.args.outputs.now
     c.args.speller.now.writer before old
-    → AreCutAfter c.args.version harts (items ++ told ∷ []) (put ++ []) files before new e)
-    (λ e cut harts items put before on. cut_silent c.args.version harts items item told put files
+    → AreCutAfter c.args.version harts (items ++ stated ∷ []) (put ++ []) files before new e)
+    (λ e cut harts items put before on. cut_silent c.args.version harts items item stated put files
     before new e
     c.touch_record.ensures.value
     (cut c.args.version harts items put before on))
     c.note_record.ensures.cut)
 
 pub returns-in-Alloc-clause-good : goal.returns-in-Alloc-clause-good
-unfolding records_told bytes_told
+unfolding event_records event_bytes
 returns-in-Alloc-clause-good g c =
     let P : TraceRecord → Type 0 = IsGoodRecord c.args.version c.args.guest.now.setup.harts in
     let item : TraceRecord = records.Alloc c.in-Alloc.addr c.in-Alloc.size c.in-Alloc.sites in
@@ -61,7 +61,7 @@ returns-in-Alloc-clause-good g c =
     rw c.in-Alloc.is (All-cons P item [] good (All-nil P))
 
 pub returns-in-Alloc-clause-noted : goal.returns-in-Alloc-clause-noted
-unfolding records_told bytes_told
+unfolding event_records event_bytes
 returns-in-Alloc-clause-noted g c =
     let files = c.args.files.now in
     let new = g.S.Shelf.outside c.note_record-in-Alloc.new.shelf in
@@ -75,13 +75,13 @@ returns-in-Alloc-clause-noted g c =
     c.note_record-in-Alloc.ensures.noted)
 
 pub returns-in-Alloc-clause-cut : goal.returns-in-Alloc-clause-cut
-unfolding records_told bytes_told
+unfolding event_records event_bytes
 returns-in-Alloc-clause-cut g c =
     let files = c.args.files.now in
     let old = g.S.Shelf.outside c.args.shelf.now in
     let new = g.S.Shelf.outside c.note_record-in-Alloc.new.shelf in
     let item : TraceRecord = c.alloc_record.result in
-    let told : TraceRecord = records.Alloc c.in-Alloc.addr c.in-Alloc.size c.in-Alloc.sites in
+    let stated : TraceRecord = records.Alloc c.in-Alloc.addr c.in-Alloc.size c.in-Alloc.sites in
     rw c.in-Alloc.is
     (IfErr-weaker c.note_record-in-Alloc.result
     (λ e. (v : Version) (harts : ℕ) (items : List TraceRecord) (put : List ℕ) (before : Outside)
@@ -90,15 +90,15 @@ returns-in-Alloc-clause-cut g c =
     (λ e. (harts : ℕ) (items : List TraceRecord) (put : List ℕ) (before : Outside)
     → AreNoted c.args.version harts items put files c.args.outputs.now
     c.args.speller.now.writer before old
-    → AreCutAfter c.args.version harts (items ++ told ∷ []) (put ++ []) files before new e)
-    (λ e cut harts items put before on. cut_silent c.args.version harts items item told put files
+    → AreCutAfter c.args.version harts (items ++ stated ∷ []) (put ++ []) files before new e)
+    (λ e cut harts items put before on. cut_silent c.args.version harts items item stated put files
     before new e
     c.alloc_record.ensures.value
     (cut c.args.version harts items put before on))
     c.note_record-in-Alloc.ensures.cut)
 
 pub returns-in-Free-clause-noted : goal.returns-in-Free-clause-noted
-unfolding records_told bytes_told
+unfolding event_records event_bytes
 returns-in-Free-clause-noted g c =
     let files = c.args.files.now in
     let new = g.S.Shelf.outside c.note_record-in-Free.new.shelf in
@@ -112,13 +112,13 @@ returns-in-Free-clause-noted g c =
     c.note_record-in-Free.ensures.noted)
 
 pub returns-in-Free-clause-cut : goal.returns-in-Free-clause-cut
-unfolding records_told bytes_told
+unfolding event_records event_bytes
 returns-in-Free-clause-cut g c =
     let files = c.args.files.now in
     let old = g.S.Shelf.outside c.args.shelf.now in
     let new = g.S.Shelf.outside c.note_record-in-Free.new.shelf in
     let item : TraceRecord = c.free_record.result in
-    let told : TraceRecord = records.Free c.in-Free.addr in
+    let stated : TraceRecord = records.Free c.in-Free.addr in
     rw c.in-Free.is
     (IfErr-weaker c.note_record-in-Free.result
     (λ e. (v : Version) (harts : ℕ) (items : List TraceRecord) (put : List ℕ) (before : Outside)
@@ -127,15 +127,15 @@ returns-in-Free-clause-cut g c =
     (λ e. (harts : ℕ) (items : List TraceRecord) (put : List ℕ) (before : Outside)
     → AreNoted c.args.version harts items put files c.args.outputs.now
     c.args.speller.now.writer before old
-    → AreCutAfter c.args.version harts (items ++ told ∷ []) (put ++ []) files before new e)
-    (λ e cut harts items put before on. cut_silent c.args.version harts items item told put files
+    → AreCutAfter c.args.version harts (items ++ stated ∷ []) (put ++ []) files before new e)
+    (λ e cut harts items put before on. cut_silent c.args.version harts items item stated put files
     before new e
     c.free_record.ensures.value
     (cut c.args.version harts items put before on))
     c.note_record-in-Free.ensures.cut)
 
 pub returns-in-Some-clause-noted : goal.returns-in-Some-clause-noted
-unfolding records_told bytes_told
+unfolding event_records event_bytes
 returns-in-Some-clause-noted g c =
     let files = c.args.files.now in
     let bytes = c.in-Some.bytes.now in
@@ -150,7 +150,7 @@ returns-in-Some-clause-noted g c =
     c.note_output.ensures.noted)
 
 pub returns-in-Some-clause-cut : goal.returns-in-Some-clause-cut
-unfolding records_told bytes_told
+unfolding event_records event_bytes
 returns-in-Some-clause-cut g c =
     let files = c.args.files.now in
     let bytes = c.in-Some.bytes.now in

@@ -10,7 +10,7 @@ use Rattle.shelf.specs.declared.shelf.ShelfError.TheVariants.{NoMemory}
 use Rattle.shelf.specs.Laws.Files.{IsOutputs-cut}
 use Rattle.trace_format.specs.Rules.{IsGoodRecord}
 use Rattle.run_recorder.specs.Recorded.{outputs_of, record_in, records_in}
-use Rattle.run_recorder.specs.Recording.{AreNoted, bytes_so_far, bytes_told, records_told}
+use Rattle.run_recorder.specs.Recording.{AreNoted, bytes_so_far, event_bytes, event_records}
 use Rattle.run_recorder.specs.Recording.{touch_records}
 use Rattle.run_recorder.proofs.Following.{IsGivenOn, all_seen, cut_seen}
 use Rattle.run_recorder.proofs.Following.{follows_start, room_more, shown, touches-seen}
@@ -26,7 +26,7 @@ turns-init g c =
     (g.S.Shelf.outside c.show_steps.new.shelf) (rw c.show_steps.ensures c.requires.begun)
 
 pub note_turn-requires-clause-room : goal.note_turn-requires-clause-room
-unfolding records_told bytes_told
+unfolding event_records event_bytes
 note_turn-requires-clause-room g c =
     let after = c.run_on.new.self in
     let ts = c.run_on.new.touches in
@@ -56,7 +56,7 @@ note_turn-requires-clause-room g c =
     )))
 
 pub turns-preserved : goal.turns-preserved
-unfolding records_told bytes_told
+unfolding event_records event_bytes
 turns-preserved g c =
     let after = c.run_on.new.self in
     let ts = c.run_on.new.touches in
@@ -86,7 +86,7 @@ turns-preserved g c =
     c.show_steps-in-Ok.ensures
 
 pub returns-in-Err-note_turn-clause-cut : goal.returns-in-Err-note_turn-clause-cut
-unfolding records_told bytes_told
+unfolding event_records event_bytes
 returns-in-Err-note_turn-clause-cut g c = λ earlier before on.
     let after = c.run_on.new.self in
     let ts = c.run_on.new.touches in

@@ -11,14 +11,14 @@ unfolding spell_objects
 spelled c =
     let table = c.args.table.now in
     let symbols = flat_map spell_saved_symbol table.symbols in
-    let told = c.pair_bytes.ensures
+    let stated = c.pair_bytes.ensures
     ∙ (λ i. spell_counts (c.symbol_count.ensures.value i)
     (length (c.blocks-blocks.ensures.value i))) in
     c.in_ok-put_blocks.ensures
     ∙ (λ i. c.in_ok-put_symbols.ensures i ++ flat_map spell_block (c.blocks-blocks.ensures.value i))
     ∙ (λ i. (c.in_ok-extend_from_slice.ensures.items i ++ symbols)
     ++ flat_map spell_block table.blocks)
-    ∙ (λ i. ((c.new-part.ensures.items i ++ told i) ++ symbols)
+    ∙ (λ i. ((c.new-part.ensures.items i ++ stated i) ++ symbols)
     ++ flat_map spell_block table.blocks)
     ∙ append_assoc (spell_counts (length table.symbols) (length table.blocks)) symbols
     (flat_map spell_block table.blocks)

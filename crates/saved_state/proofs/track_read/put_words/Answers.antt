@@ -60,7 +60,7 @@ loop-i-preserved c =
     let bytes = c.args.bytes.now in
     let n = c.args.shadow.now.range.size / 4 in
     let w = c.in-Some.word in
-    let told : w ≡ word_at (drop (32 + 20 * i) bytes) = c.in-Some.ensures.told
+    let stated : w ≡ word_at (drop (32 + 20 * i) bytes) = c.in-Some.ensures.stated
     ∙ ap word_at c.behind.ensures.value in
     let left : c.loop-i.left ≡ c.args.most - sum_by accesses (words_at i bytes) =
     omega (arith, c.loop-i.invariant.left) in
@@ -69,11 +69,11 @@ loop-i-preserved c =
       words = ap (λ (v : RangeWords). v.words) c.put.ensures
           ∙ ap (λ (ws : List Word). slice_set ws i w) c.loop-i.invariant.words
           ∙ put_next (words_at i bytes) i n w (length-words_at i bytes) (omega (arith, size))
-          ∙ ap (λ ws. then_blank ws (n - (i + 1))) (words_at-more i bytes w told);
+          ∙ ap (λ ws. then_blank ws (n - (i + 1))) (words_at-more i bytes w stated);
       left = omega (
         arith,
         c.loop-i.invariant.left,
-        sum-more i bytes w told,
+        sum-more i bytes w stated,
         c.in-Some.ensures.few,
         c.accesses-left.ensures,
       );

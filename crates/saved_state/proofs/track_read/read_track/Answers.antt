@@ -37,7 +37,7 @@ returns-in-Ok-None-clause-value c =
     let x = head_meant c.in-Some.head in
     let head = c.in-Some.head in
     let is : c.in-Ok-None.field-0 ≡ None = cc in
-    let told = there-is_none c.in-Ok-None.field-0
+    let stated = there-is_none c.in-Ok-None.field-0
     (IsTrue (are_words h.harts c.most_of-most.result (head.range.size / 4) bytes))
     (record { range = head.range; words = words_at (head.range.size / 4) bytes }) is
     c.in-Ok-None.ensures in
@@ -46,7 +46,7 @@ returns-in-Ok-None-clause-value c =
     let words = words_at (size_of h.grid x.kind / 4) bytes in
     elim (cases_Bool (are_words h.harts (most_of h.position x.start)
     (size_of h.grid x.kind / 4) bytes)) [
-      | inl passes ↦ absurd (told ((λ i. are_words h.harts (most i) (size i / 4) bytes) ∙ passes))
+      | inl passes ↦ absurd (stated ((λ i. are_words h.harts (most i) (size i / 4) bytes) ∙ passes))
       | inr fails ↦
           sym (alone-then h bytes ∙ ap (option_and_then (with_words h bytes))
           (sym c.in-Some.ensures.value)
@@ -61,7 +61,7 @@ returns-in-Ok-Some-clause-value c =
     let x = head_meant head in
     let most_read = c.most_of-most.result in
     let is : c.in-Ok-Some.field-0 ≡ Some c.in-Ok-Some.shadow = cc in
-    let told = there-is c.in-Ok-Some.field-0 (IsTrue
+    let stated = there-is c.in-Ok-Some.field-0 (IsTrue
     (are_words h.harts most_read (head.range.size / 4) bytes))
     (record { range = head.range; words = words_at (head.range.size / 4) bytes })
     c.in-Ok-Some.shadow is c.in-Ok-Some.ensures in
@@ -70,12 +70,12 @@ returns-in-Ok-Some-clause-value c =
     let words = words_at (size_of h.grid x.kind / 4) bytes in
     let passes : are_words h.harts (most_of h.position x.start) (size_of h.grid x.kind / 4) bytes
     ≡ true =
-    sym (λ i. are_words h.harts (most i) (size i / 4) bytes) ∙ told.0 in
+    sym (λ i. are_words h.harts (most i) (size i / 4) bytes) ∙ stated.0 in
     let same : record x { words = words } ≡ saved head.kind c.in-Ok-Some.shadow head.start
     head.count =
     ap (λ (n : ℕ). saved head.kind (record { range = head.range; words = words_at (n / 4) bytes })
     head.start head.count) (sym size)
-    ∙ ap (λ (v : RangeWords). saved head.kind v head.start head.count) (sym told.1) in
+    ∙ ap (λ (v : RangeWords). saved head.kind v head.start head.count) (sym stated.1) in
     sym (alone-then h bytes ∙ ap (option_and_then (with_words h bytes))
     (sym c.in-Some.ensures.value)
     ∙ ap (λ b. if b then Some (record x { words = words }) else None) passes ∙ ap Some same)
@@ -88,14 +88,14 @@ returns-in-Ok-Some-clause-in_time c =
     let x = head_meant head in
     let most_read = c.most_of-most.result in
     let is : c.in-Ok-Some.field-0 ≡ Some c.in-Ok-Some.shadow = cc in
-    let told = there-is c.in-Ok-Some.field-0 (IsTrue
+    let stated = there-is c.in-Ok-Some.field-0 (IsTrue
     (are_words h.harts most_read (head.range.size / 4) bytes))
     (record { range = head.range; words = words_at (head.range.size / 4) bytes })
     c.in-Ok-Some.shadow is c.in-Ok-Some.ensures in
     let since = (head-is h bytes x (sym c.in-Some.ensures.value)).0 in
-    let words = words-are h.harts c.most_of-most.result (head.range.size / 4) bytes told.0 in
+    let words = words-are h.harts c.most_of-most.result (head.range.size / 4) bytes stated.0 in
     subst (λ (v : RangeWords). IsInTime (saved head.kind v head.start head.count) h.position)
-    (sym told.1)
+    (sym stated.1)
     (in_time-from h x (words_at (head.range.size / 4) bytes) x.start since
     (omega (arith, words.1, c.most_of-most.ensures.value)))
 
@@ -107,13 +107,13 @@ returns-in-Ok-Some-clause-blank c = λ none.
     let x = head_meant head in
     let most_read = c.most_of-most.result in
     let is : c.in-Ok-Some.field-0 ≡ Some c.in-Ok-Some.shadow = cc in
-    let told = there-is c.in-Ok-Some.field-0 (IsTrue
+    let stated = there-is c.in-Ok-Some.field-0 (IsTrue
     (are_words h.harts most_read (head.range.size / 4) bytes))
     (record { range = head.range; words = words_at (head.range.size / 4) bytes })
     c.in-Ok-Some.shadow is c.in-Ok-Some.ensures in
     let since = (head-is h bytes x (sym c.in-Some.ensures.value)).0 in
-    let words = words-are h.harts c.most_of-most.result (head.range.size / 4) bytes told.0 in
-    subst (λ (v : RangeWords). IsBlank (saved head.kind v head.start head.count)) (sym told.1)
+    let words = words-are h.harts c.most_of-most.result (head.range.size / 4) bytes stated.0 in
+    subst (λ (v : RangeWords). IsBlank (saved head.kind v head.start head.count)) (sym stated.1)
     (blank-from h x (words_at (head.range.size / 4) bytes) x.start since
     (ap (λ o. option_map (λ (s : ℕ × List ℕ). s.0) o) none) words.0
     (omega (arith, words.1, c.most_of-most.ensures.value))

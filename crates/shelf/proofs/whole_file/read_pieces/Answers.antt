@@ -1,6 +1,6 @@
 use Rattle.std.proofs.Common.{arith, ◌∙◌}
 use Rattle.std.proofs.lemmas.Grind.{common_steps}
-use Rattle.shelf.specs.Laws.Told.{only_both}
+use Rattle.shelf.specs.Laws.Known.{only_both}
 use Rattle.shelf.proofs.whole_file.read_pieces.Goals as goal
 
 pub loop-bytes-preserved : goal.loop-bytes-preserved

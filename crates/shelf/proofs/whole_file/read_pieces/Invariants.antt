@@ -1,5 +1,5 @@
 use Rattle.std.proofs.Common.{◌≡◌, ◌<◌, ◌≤◌, length, ◌+◌, ◌-◌}
-use Rattle.shelf.specs.Shelf.{content, Told, OnlyReads}
+use Rattle.shelf.specs.Shelf.{content, Known, OnlyReads}
 use Rattle.shelf.specs.Fetch.{IsFront}
 use Rattle.shelf.proofs.whole_file.read_pieces.Given as goal
 
@@ -7,7 +7,7 @@ abbrev pub invariant-loop-bytes : goal.invariant-loop-bytes
 invariant-loop-bytes g l = record {
   room : 0 < length l.piece;
   capped : length l.bytes.items ≤ l.limit + 1;
-  front : Told (g.S.Shelf.outside l.shelf).held
+  front : Known (g.S.Shelf.outside l.shelf).held
       (λ files. IsFront (content files l.name) l.bytes.items);
   only : OnlyReads (g.S.Shelf.outside l.fn.shelf) (g.S.Shelf.outside l.shelf);
   quiet : (g.S.Shelf.outside l.shelf).read_faults ≡ (g.S.Shelf.outside l.fn.shelf).read_faults;

@@ -2,7 +2,7 @@ use Rattle.std.proofs.Common.{[], List, subst}
 use Rattle.shelf.specs.Files.{AreCut}
 use Rattle.shelf.specs.Shelf.{Given}
 use Rattle.shelf.specs.Laws.Files.{IsOutputs-begun}
-use Rattle.shelf.specs.Laws.Told.{narrows_by, narrows_then}
+use Rattle.shelf.specs.Laws.Known.{narrows_by, narrows_then}
 use Rattle.trace_format.specs.declared.record.Version.{Version}
 use Rattle.trace_passes.specs.Passes.{trace_with}
 use Rattle.trace_passes.specs.Laws.Passes.{trace-parts}
@@ -78,7 +78,7 @@ returns-in-Ok-finish-clause-copied g c =
     let later = c.copy_again.new.target in
     let copied = c.in-Ok-copy_again.ensures.copied old
     (begun_as c.in-Ok.ensures.files c.in-Ok.ensures.outputs) in
-    let narrow = narrows_by mid.held now.held c.finish.ensures.tells in
+    let narrow = narrows_by mid.held now.held c.finish.ensures.keeps_held in
     copied_whole now.held a.name.now a.output.now a.first.now
     (accepted_still old.held now.held a.name.now a.first.now
     (narrows_then old.held mid.held now.held copied.outputs.only.held narrow) c.requires)
@@ -97,7 +97,7 @@ returns-clause-stopped g c =
     let later = c.copy_again.new.target in
     let copied = c.in-Ok-copy_again.ensures.copied old
     (begun_as c.in-Ok.ensures.files c.in-Ok.ensures.outputs) in
-    let narrow = narrows_by mid.held now.held c.finish.ensures.tells in
+    let narrow = narrows_by mid.held now.held c.finish.ensures.keeps_held in
     rw c.write_fault-in-Err-finish.ensures
     (stopped_ending now.held a.name.now a.output.now a.first.now
     (accepted_still old.held now.held a.name.now a.first.now

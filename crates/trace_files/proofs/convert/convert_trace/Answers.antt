@@ -5,7 +5,7 @@ use Rattle.trace_format.specs.Rules.{touches_in}
 use Rattle.trace_passes.specs.declared.wanted.Refusal.TheVariants as refusals
 use Rattle.trace_files.specs.Copies.{IsUnfiltered, HasStopped, conversion, other_version}
 use Rattle.trace_files.proofs.Stopped.{accepted_still, copied_since, refused_first, refused_never}
-use Rattle.trace_files.proofs.Stopped.{stopped_since, told_accepted}
+use Rattle.trace_files.proofs.Stopped.{stopped_since, known_accepted}
 use Rattle.trace_files.proofs.convert.convert_trace.Goals as goal
 
 pub returns-in-Ok-clause-copied : goal.returns-in-Ok-clause-copied
@@ -47,7 +47,7 @@ returns-in-Ok-clause-accepted g c = λ same.
     let stopped = IfErr-at_err (λ fault. HasStopped new.held c.args.name.now
     (c.args.output.now ∷ []) (conversion c.args.output.now) mid new fault) same
     c.convert_accepted.ensures.stopped in
-    told_accepted new.held c.args.name.now c.in-Ok.first
+    known_accepted new.held c.args.name.now c.in-Ok.first
     (accepted_still mid.held new.held c.args.name.now c.in-Ok.first stopped.held_stay
     c.in-Ok.ensures.accepted)
 

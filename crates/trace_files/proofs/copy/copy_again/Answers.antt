@@ -1,7 +1,7 @@
 use Rattle.std.proofs.Common.{◌≡◌}
 use Rattle.trace_passes.specs.Passes.{all_records, trace_with}
 use Rattle.trace_files.proofs.Stopped.{accepted_still, first_all, never_refused, same_parts}
-use Rattle.trace_files.proofs.Stopped.{short_other, untold}
+use Rattle.trace_files.proofs.Stopped.{short_other, unknown}
 use Rattle.trace_files.proofs.Differing.{no_trace_again, other_again}
 use Rattle.trace_files.specs.Laws.Copies.{plain_zero}
 use Rattle.trace_files.proofs.copy.copy_again.Goals as goal
@@ -11,7 +11,7 @@ returns-in-Err-clause-changed g c = λ refusal same.
     let held = (g.S.Shelf.outside c.copy_records.new.shelf).held in
     never_refused held c.args.name.now c.args.first.now
     (accepted_still (g.S.Shelf.outside c.args.shelf.now).held held c.args.name.now c.args.first.now
-    c.copy_records.ensures.tells c.requires.accepted) refusal
+    c.copy_records.ensures.keeps_held c.requires.accepted) refusal
     (c.in-Err.ensures.changed refusal (cc))
 
 pub returns-in-Some-clause-short : goal.returns-in-Some-clause-short
@@ -29,10 +29,10 @@ returns-in-Some-clause-changed g c = λ refusal same.
     let copied = c.in-Ok.ensures.copied c.requires.way.0 c.requires.way.1 in
     let some = c.in-Some.is in
     let held = (g.S.Shelf.outside c.copy_records.new.shelf).held in
-    untold held (c.args.first.now ≡ c.in-Ok.passed)
+    unknown held (c.args.first.now ≡ c.in-Ok.passed)
     (same_parts held c.args.name.now c.args.first.now c.in-Ok.passed copied.bytes copied.items
     (accepted_still (g.S.Shelf.outside c.args.shelf.now).held held c.args.name.now c.args.first.now
-    c.copy_records.ensures.tells c.requires.accepted) copied.whole copied.is)
+    c.copy_records.ensures.keeps_held c.requires.accepted) copied.whole copied.is)
     (λ one. let none = c.differs.ensures.other one in absurd cc)
 
 pub returns-in-Err-clause-other : goal.returns-in-Err-clause-other

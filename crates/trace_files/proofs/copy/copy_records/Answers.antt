@@ -5,7 +5,7 @@ use Rattle.trace_passes.specs.declared.wanted.Wanted.{Wanted}
 use Rattle.trace_passes.specs.Passes.{refusal_of}
 use Rattle.shelf.specs.Agreeing.{HasShown}
 use Rattle.shelf.specs.Shelf.{HasRead, Outside}
-use Rattle.shelf.specs.Laws.Told.{narrows_by, narrows_same, narrows_then}
+use Rattle.shelf.specs.Laws.Known.{narrows_by, narrows_same, narrows_then}
 use Rattle.shelf.specs.Files.{AreCut}
 use Rattle.shelf.specs.OnTheirWay.{IsOutputs}
 use Rattle.trace_format.specs.declared.record.TraceRecord.{TraceRecord}
@@ -83,7 +83,7 @@ pieces-preserved g c =
     → IsOutputs (g.T.Target.waiting now) (g.T.Target.files now seen) b read
     → IsOutputs (g.T.Target.waiting later) (g.T.Target.files now (seen ++ items)) b new)
     c.items.ensures c.in-Ok-put_all.ensures.outputs)
-    (narrows_by read.held new.held c.put_all.ensures.tells) c.put_all.ensures.gives
+    (narrows_by read.held new.held c.put_all.ensures.keeps_held) c.put_all.ensures.gives
 
 pub pieces-smaller : goal.pieces-smaller
 pieces-smaller g c = let none = c.in-Ok-None.field-0-is in c.in-Ok-None.ensures.fewer (ap Ok none)
@@ -157,7 +157,7 @@ returns-in-Err-put_all-clause-short g c = λ before began.
     → IsOutputs (g.T.Target.waiting now) (g.T.Target.files now seen) b read
     → AreCut (g.T.Target.files now (seen ++ take k items)) b new error)) c.items.ensures
     c.in-Err-put_all.ensures.cut)
-    (narrows_by read.held new.held c.put_all.ensures.tells) before began)
+    (narrows_by read.held new.held c.put_all.ensures.keeps_held) before began)
 
 pub returns-in-Err-advance-clause-short : goal.returns-in-Err-advance-clause-short
 returns-in-Err-advance-clause-short g c = λ before began.
@@ -191,22 +191,22 @@ returns-in-Err-advance-clause-found g c = λ refusal same.
     c.pieces.target c.pieces.cursor old (g.S.Shelf.outside c.pieces.shelf) x c.unfiltered.result
     c.unfiltered.ensures) old.given x.front)
 
--- ---- no more is told than before
+-- ---- no more is known than before
 
-pub returns-in-Err-clause-tells : goal.returns-in-Err-clause-tells
-returns-in-Err-clause-tells g c = narrows_same (g.S.Shelf.outside c.args.shelf.now).held
+pub returns-in-Err-clause-keeps_held : goal.returns-in-Err-clause-keeps_held
+returns-in-Err-clause-keeps_held g c = narrows_same (g.S.Shelf.outside c.args.shelf.now).held
 
-pub returns-in-Ok-Some-clause-tells : goal.returns-in-Ok-Some-clause-tells
-returns-in-Ok-Some-clause-tells g c =
+pub returns-in-Ok-Some-clause-keeps_held : goal.returns-in-Ok-Some-clause-keeps_held
+returns-in-Ok-Some-clause-keeps_held g c =
     narrows_then _ _ _ c.pieces.invariant.narrow c.in-Ok-Some.ensures.only.held
 
-pub returns-in-Err-put_all-clause-tells : goal.returns-in-Err-put_all-clause-tells
-returns-in-Err-put_all-clause-tells g c =
+pub returns-in-Err-put_all-clause-keeps_held : goal.returns-in-Err-put_all-clause-keeps_held
+returns-in-Err-put_all-clause-keeps_held g c =
     narrows_then _ _ _ c.pieces.invariant.narrow
-    (narrows_then _ _ _ c.in-Ok-None.ensures.only.held (narrows_by _ _ c.put_all.ensures.tells))
+    (narrows_then _ _ _ c.in-Ok-None.ensures.only.held (narrows_by _ _ c.put_all.ensures.keeps_held))
 
-pub returns-in-Err-advance-clause-tells : goal.returns-in-Err-advance-clause-tells
-returns-in-Err-advance-clause-tells g c =
+pub returns-in-Err-advance-clause-keeps_held : goal.returns-in-Err-advance-clause-keeps_held
+returns-in-Err-advance-clause-keeps_held g c =
     narrows_then _ _ _ c.pieces.invariant.narrow c.in-Err-advance.ensures.only.held
 
 pub returns-in-Ok-Some-clause-plain : goal.returns-in-Ok-Some-clause-plain

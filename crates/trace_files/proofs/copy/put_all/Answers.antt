@@ -48,13 +48,13 @@ loop-item-preserved g c =
           subst (λ (l : List TraceRecord). IsOutputs (g.T.Target.waiting c.put.new.self)
           (g.T.Target.files c.args.target.now l) before new)
           (more seen) (then (x.outputs seen before h on));
-      tells = c.put.ensures.tells ∙ x.tells;
+      keeps_held = c.put.ensures.keeps_held ∙ x.keeps_held;
       gives = c.put.ensures.gives ∙ x.gives;
     }
 
-pub returns-in-Err-clause-tells : goal.returns-in-Err-clause-tells
-returns-in-Err-clause-tells g c =
-    c.put.ensures.tells ∙ c.loop-item.invariant.tells
+pub returns-in-Err-clause-keeps_held : goal.returns-in-Err-clause-keeps_held
+returns-in-Err-clause-keeps_held g c =
+    c.put.ensures.keeps_held ∙ c.loop-item.invariant.keeps_held
 
 pub returns-in-Err-clause-gives : goal.returns-in-Err-clause-gives
 returns-in-Err-clause-gives g c =

@@ -1,7 +1,7 @@
 use Rattle.std.proofs.Common.{List, refl, sym, subst, arith}
 use Rattle.shelf.specs.Shelf.{Given}
 use Rattle.shelf.specs.Laws.Files.{IsOutputs-begun}
-use Rattle.shelf.specs.Laws.Told.{narrows_by, narrows_then}
+use Rattle.shelf.specs.Laws.Known.{narrows_by, narrows_then}
 use Rattle.trace_format.specs.declared.record.TraceEnd.{TraceEnd}
 use Rattle.trace_format.specs.Rules.{IsAllowedEnd, IsGoodHeader}
 use Rattle.trace_passes.specs.Passes.{trace_with}
@@ -117,7 +117,7 @@ returns-in-Ok-finish-clause-copied g c =
     let s = c.new-splitter in
     let copied = c.in-Ok-copy_again.ensures.copied old
     (begun_as c.in-Ok.ensures.files c.in-Ok.ensures.outputs) in
-    let narrow = narrows_by mid.held now.held c.finish.ensures.tells in
+    let narrow = narrows_by mid.held now.held c.finish.ensures.keeps_held in
     split_whole c.a_trace_is_cut_in_two.ensures.grows now.held a.name.now a.at a.first.now
     a.second.now a.passed.now
     (accepted_still old.held now.held a.name.now a.passed.now
@@ -139,7 +139,7 @@ returns-clause-stopped g c =
     let s = c.new-splitter in
     let copied = c.in-Ok-copy_again.ensures.copied old
     (begun_as c.in-Ok.ensures.files c.in-Ok.ensures.outputs) in
-    let narrow = narrows_by mid.held now.held c.finish.ensures.tells in
+    let narrow = narrows_by mid.held now.held c.finish.ensures.keeps_held in
     rw c.write_fault-in-Err-finish.ensures
     (stopped_ending c.a_trace_is_cut_in_two.ensures.grows now.held a.name.now a.at a.first.now
     a.second.now a.passed.now

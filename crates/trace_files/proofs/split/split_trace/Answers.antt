@@ -6,7 +6,7 @@ use Rattle.trace_format.specs.Rules.{touches_in}
 use Rattle.trace_passes.specs.declared.wanted.Refusal.TheVariants as refusals
 use Rattle.trace_files.specs.Copies.{HasStopped, IsUnfiltered, halves}
 use Rattle.trace_files.proofs.Stopped.{accepted_still, copied_since, refused_first, refused_never}
-use Rattle.trace_files.proofs.Stopped.{stopped_since, told_accepted}
+use Rattle.trace_files.proofs.Stopped.{stopped_since, known_accepted}
 use Rattle.trace_files.proofs.split.split_trace.Goals as goal
 
 pub returns-in-Ok-clause-copied : goal.returns-in-Ok-clause-copied
@@ -49,7 +49,7 @@ returns-in-Ok-clause-accepted g c = λ same.
     (c.args.first.now ∷ c.args.second.now ∷ [])
     (halves c.args.at c.args.first.now c.args.second.now) mid new fault) same
     c.split_accepted.ensures.stopped in
-    told_accepted new.held c.args.name.now c.in-Ok.passed
+    known_accepted new.held c.args.name.now c.in-Ok.passed
     (accepted_still mid.held new.held c.args.name.now c.in-Ok.passed stopped.held_stay
     c.in-Ok.ensures.accepted)
 

@@ -21,7 +21,7 @@ loop-item-preserved g c =
     c.loop-item.mover (g.S.Shelf.outside c.args.shelf.now) (g.S.Shelf.outside c.loop-item.shelf)
     c.loop-item.invariant c.item-item.result c.loop-item-test.true c.item-item.is
     c.put_one.new.mover (g.S.Shelf.outside c.put_one.new.shelf) c.put_one.ensures.name
-    c.put_one.ensures.tells c.in-Ok.ensures.moved
+    c.put_one.ensures.keeps_held c.in-Ok.ensures.moved
 
 pub returns-clause-moved : goal.returns-clause-moved
 returns-clause-moved g c =

@@ -4,8 +4,8 @@ use Rattle.std.specs.List.{All}
 use Rattle.sharing_rules.specs.Filtered.{filtered}
 use Rattle.shelf.specs.Fetch.{IsFront}
 use Rattle.shelf.specs.Files.{AreWritten, Output}
-use Rattle.shelf.specs.Shelf.{HasRead, Told, content}
-use Rattle.shelf.specs.Laws.Told.{told_same, told_still}
+use Rattle.shelf.specs.Shelf.{HasRead, Known, content}
+use Rattle.shelf.specs.Laws.Known.{known_same, known_still}
 use Rattle.trace_format.specs.declared.record.Header.{Header}
 use Rattle.trace_format.specs.declared.record.TraceRecord.{TraceRecord}
 use Rattle.trace_format.specs.declared.record.Version.{Version}
@@ -98,11 +98,11 @@ returns-in-Ok-finish-clause-filtered g c =
     (subst (λ (h : Option (Version × Header)). IsOnItsWay k file f h seen old read) known way) in
     record {
       bytes = at.bytes;
-      whole = told_same (λ fs. at.bytes ≡ content fs trace) read.held new.held
-          c.finish.ensures.tells ended.whole;
+      whole = known_same (λ fs. at.bytes ≡ content fs trace) read.held new.held
+          c.finish.ensures.keeps_held ended.whole;
       trace = t;
       is = ended.is;
-      told = record {
+      stated = record {
         version = version_three at.bytes t.version t.header known good;
         whole = counts.0 ∙ ap (λ u. length u) touches;
         kept = counts.1 ∙ ap (λ u. length (filtered k u)) touches;
@@ -137,9 +137,9 @@ returns-in-Err-finish-clause-given_up g c =
     let new = g.S.Shelf.outside c.finish.new.shelf in
     let ended = subst (λ (w : Wanted). HasEnded read.held trace w at.bytes passed)
     c.wanted_next.ensures (e.ended passed (ap Ok some) at.bytes come) in
-    let front = told_same (λ fs. IsFront (content fs trace) at.bytes) read.held new.held
-    c.finish.ensures.tells
-    (told_still (λ fs. IsFront (content fs trace) at.bytes) mid.held read.held e.only.held
+    let front = known_same (λ fs. IsFront (content fs trace) at.bytes) read.held new.held
+    c.finish.ensures.keeps_held
+    (known_still (λ fs. IsFront (content fs trace) at.bytes) mid.held read.held e.only.held
     at.come.front) in
     subst (λ (x : FilterFault). HasGivenUp new.held trace file k old new x)
     (sym c.write_fault.ensures)
@@ -230,7 +230,7 @@ pieces-preserved g c =
     let all_come = come_on k file read.held trace at.bytes on.more f next old mid good at.way
     on.come in
     let new = g.S.Shelf.outside c.take.new.shelf in
-    filtering_next k trace file c.take.new.file next old read new all c.take.ensures.tells all_come
+    filtering_next k trace file c.take.new.file next old read new all c.take.ensures.keeps_held all_come
     (at_all k trace file f c.pieces.cursor old mid at read reads all next.items c.items.result.now
     next.reading c.head.result (λ h l b. IsOnItsWay k file c.take.new.file h l b new)
     (on.more, refl) on.records on.come.read.reading c.head.ensures c.items.ensures
@@ -265,8 +265,8 @@ returns-in-Err-take-clause-given_up g c =
     on.come in
     let new = g.S.Shelf.outside c.take.new.shelf in
     let error = c.in-Err-take.error in
-    let front = told_same (λ fs. IsFront (content fs trace) all) read.held new.held
-    c.take.ensures.tells on.come.front in
+    let front = known_same (λ fs. IsFront (content fs trace) all) read.held new.held
+    c.take.ensures.keeps_held on.come.front in
     subst (λ (x : FilterFault). HasGivenUp new.held trace file k old new x)
     (sym c.write_fault-in-Err-take.ensures)
     (cut_up new.held trace file k all front (come_sited read.held trace all next all_come) old new
@@ -363,8 +363,8 @@ returns-in-Ok-end_refused-clause-given_up g c =
     let fault = has_fault k file read.held trace at.bytes f wrong.0 next old mid good at.way stopped
     in
     let new = g.S.Shelf.outside c.end_refused.new.shelf in
-    let whole = told_same (λ fs. fault.all ≡ content fs trace) read.held new.held
-    c.end_refused.ensures.tells fault.whole in
+    let whole = known_same (λ fs. fault.all ≡ content fs trace) read.held new.held
+    c.end_refused.ensures.keeps_held fault.whole in
     let front = front_of_all new.held trace fault.all whole in
     let other : refusal ≢ refusals.Trace trace_faults.NoMemory =
     λ same_one. e.memory (ap Err (is ∙ ap passes.Refused same_one)) in
@@ -403,8 +403,8 @@ returns-in-Err-end_refused-clause-given_up g c =
     let fault = has_fault k file read.held trace at.bytes f wrong.0 next old mid good at.way stopped
     in
     let new = g.S.Shelf.outside c.end_refused.new.shelf in
-    let whole = told_same (λ fs. fault.all ≡ content fs trace) read.held new.held
-    c.end_refused.ensures.tells fault.whole in
+    let whole = known_same (λ fs. fault.all ≡ content fs trace) read.held new.held
+    c.end_refused.ensures.keeps_held fault.whole in
     let front = front_of_all new.held trace fault.all whole in
     let error = c.in-Err-end_refused.error in
     subst (λ (x : FilterFault). HasGivenUp new.held trace file k old new x)
@@ -436,18 +436,18 @@ returns-then-not-is_fault-clause-given_up g c =
     let refusal = c.in-Err-Refused.refusal in
     let reads : HasRead mid read = record { only = e.only; faults = cause.quiet (λ i. cc) } in
     let way = had k trace file f c.pieces.cursor old mid at read reads in
-    let front = told_still (λ fs. IsFront (content fs trace) at.bytes) mid.held read.held e.only.held
+    let front = known_still (λ fs. IsFront (content fs trace) at.bytes) mid.held read.held e.only.held
     at.come.front in
     let outs = way_outputs k file f (version_and_header (reading_of at.bytes).1.progress)
     (reading_of at.bytes).0 old mid at.way in
-    let told = subst (λ (w : Wanted). Told read.held
+    let stated = subst (λ (w : Wanted). Known read.held
     (λ fs. refusal_of w (content fs trace) ≡ Some refusal)) c.wanted_next.ensures
     (e.refused refusal (ap Err is)) in
     let found = subst (λ (w : Wanted). (b : List ℕ) × (refusal_of w b ≡ Some refusal))
     c.wanted_next.ensures (e.found refusal (ap Err is)) in
     let refused = other_refused k read.held trace file f
     (version_and_header (reading_of at.bytes).1.progress) (reading_of at.bytes).0 refusal old read
-    (sym c.is_fault.ensures ∙ c.if-not-is_fault.true) way told found in
+    (sym c.is_fault.ensures ∙ c.if-not-is_fault.true) way stated found in
     read_up read.held trace file k at.bytes front good {T = Option Passed} outs.0 old mid read
     (passes.Refused refusal) outs.1 e.only cause
     (other_same read.held trace file k old read refusal refused)
@@ -471,7 +471,7 @@ returns-in-Err-ReadFault-clause-given_up g c =
     (sym c.wanted_next.ensures) (come_next mid.held trace at.bytes f c.pieces.cursor at.come) in
     let cause = subst (λ (x : PassFault). HasPassCause {T = Option Passed} trace mid read (Err x)) is
     e.cause in
-    let front = told_still (λ fs. IsFront (content fs trace) at.bytes) mid.held read.held e.only.held
+    let front = known_still (λ fs. IsFront (content fs trace) at.bytes) mid.held read.held e.only.held
     at.come.front in
     let outs = way_outputs k file f (version_and_header (reading_of at.bytes).1.progress)
     (reading_of at.bytes).0 old mid at.way in
@@ -496,7 +496,7 @@ returns-in-Err-NoMemory-clause-given_up g c =
     (sym c.wanted_next.ensures) (come_next mid.held trace at.bytes f c.pieces.cursor at.come) in
     let cause = subst (λ (x : PassFault). HasPassCause {T = Option Passed} trace mid read (Err x)) is
     e.cause in
-    let front = told_still (λ fs. IsFront (content fs trace) at.bytes) mid.held read.held e.only.held
+    let front = known_still (λ fs. IsFront (content fs trace) at.bytes) mid.held read.held e.only.held
     at.come.front in
     let outs = way_outputs k file f (version_and_header (reading_of at.bytes).1.progress)
     (reading_of at.bytes).0 old mid at.way in

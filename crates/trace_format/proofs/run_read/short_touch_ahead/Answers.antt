@@ -10,9 +10,9 @@ returns c =
     let p = c.args.progress.now in
     let bytes = c.args.bytes.now in
     let n = c.in-Some.near.end in
-    let has : HasNumberAt bytes 2 c.in-Some.near.number n = c.in-Some.ensures.told in
+    let has : HasNumberAt bytes 2 c.in-Some.near.number n = c.in-Some.ensures.stated in
     let same = ap (touch_counted p)
-    (c.without_pc.ensures ∙ ap without_pc c.short_touch_told-access.ensures) in
+    (c.without_pc.ensures ∙ ap without_pc c.short_touch_stated-access.ensures) in
     if_some c.placed.result _ _ (λ ahead is.
     ahead_there p bytes c.split_at.result.0.now (tags.ShortTouch c.args.kind c.args.width) n
     c.requires.tagged c.split_at.ensures.front has.extent has.there

@@ -13,10 +13,10 @@ returns c =
     let n = c.in-Some.near.end in
     let m = c.in-Some-number_at.site.end in
     let z = c.in-Some-number_at.site.number in
-    let near : HasNumberAt bytes 2 c.in-Some.near.number n = c.in-Some.ensures.told in
-    let site : HasNumberAt bytes n z m = c.in-Some-number_at.ensures.told in
+    let near : HasNumberAt bytes 2 c.in-Some.near.number n = c.in-Some.ensures.stated in
+    let site : HasNumberAt bytes n z m = c.in-Some-number_at.ensures.stated in
     let same = ap (touch_counted p) (c.with_site.ensures
-    ∙ ap (with_site p.before z) c.short_touch_told-access.ensures
+    ∙ ap (with_site p.before z) c.short_touch_stated-access.ensures
     ∙ sited_by_numbers c.args.kind c.args.width p.header.harts p.place n m z p.before bytes
     c.split_at.result.0.now near.extent site c.split_at.ensures.front) in
     if_some c.placed.result _ _ (λ ahead is.

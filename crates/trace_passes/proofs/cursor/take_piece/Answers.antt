@@ -28,13 +28,13 @@ returns-in-Some-clause-refused c = λ refusal same bytes more from stops.
     subst (λ (xs : List TraceRecord). ReadsOn old piece new xs after) c.requires.empty
     (c.in-Ok.ensures.read (ok_is_no_err _ _)) in
     let w = c.args.wanted.now in
-    let told : judged w (magic_in new) (head_of new.progress) ≡ Some c.in-Some.refusal =
+    let stated : judged w (magic_in new) (head_of new.progress) ≡ Some c.in-Some.refusal =
     ap (judged w (magic_in new)) (sym c.header.ensures)
     ∙ ap (λ v. judged w v c.header.result) (sym c.magic.ensures) ∙ sym c.refusal.ensures
     ∙ c.in-Some.is in
     let is : c.in-Some.refusal ≡ refusal = cc in
     let clean : new.fault ≡ None = no_fault new.fault c.in-Ok.field-0 (c.in-Ok.ensures.answer) in
-    refused_in_front old new piece after on bytes from w more c.in-Some.refusal clean told
+    refused_in_front old new piece after on bytes from w more c.in-Some.refusal clean stated
     ∙ ap (λ (x : Refusal). Some x) is
 
 pub returns-in-None-clause-read : goal.returns-in-None-clause-read
@@ -71,7 +71,7 @@ returns-in-Err-clause-refused c = λ refusal same bytes more from stops.
     let piece = c.args.piece.now in
     let new = c.feed.new.self in
     let after = c.feed.new.into.items in
-    let told = c.refusal_of_header.result in
+    let stated = c.refusal_of_header.result in
     let fault = c.in-Err.fault in
     let known = c.fault_after.ensures in
     elim (is_memory fault) [
@@ -80,12 +80,12 @@ returns-in-Err-clause-refused c = λ refusal same bytes more from stops.
           let on : ReadsOn old piece new [] after =
           subst (λ (xs : List TraceRecord). ReadsOn old piece new xs after) c.requires.empty
           (c.in-Err.ensures.read (λ e. other cc)) in
-          let is : told ≡ header_refusal c.args.wanted.now (head_of new.progress) =
+          let is : stated ≡ header_refusal c.args.wanted.now (head_of new.progress) =
           c.refusal_of_header.ensures ∙ ap (header_refusal c.args.wanted.now) c.header-in-Err.ensures
           in
           let there = that_fault new.fault fault c.in-Err.ensures.answer in
           let out = known.refused other in
-          refused_first old new piece after on bytes from c.args.wanted.now more fault told stops is
+          refused_first old new piece after on bytes from c.args.wanted.now more fault stated stops is
           there
           ∙ cc
     ]
@@ -115,13 +115,13 @@ pub returns-in-Some-clause-stopped : goal.returns-in-Some-clause-stopped
 returns-in-Some-clause-stopped c = λ fault same bytes from.
     let new = c.feed.new.self in
     let w = c.args.wanted.now in
-    let told : judged w (magic_in new) (head_of new.progress) ≡ Some c.in-Some.refusal =
+    let stated : judged w (magic_in new) (head_of new.progress) ≡ Some c.in-Some.refusal =
     ap (judged w (magic_in new)) (sym c.header.ensures)
     ∙ ap (λ v. judged w v c.header.result) (sym c.magic.ensures) ∙ sym c.refusal.ensures
     ∙ c.in-Some.is in
     let is : c.in-Some.refusal ≡ refusals.Trace fault = cc in
     absurd (no_trace_front w (magic_in new) (head_of new.progress) fault
-    (told ∙ ap (λ (x : Refusal). Some x) is))
+    (stated ∙ ap (λ (x : Refusal). Some x) is))
 
 pub returns-in-Err-clause-stopped : goal.returns-in-Err-clause-stopped
 returns-in-Err-clause-stopped c = λ wrong same bytes from.
@@ -129,7 +129,7 @@ returns-in-Err-clause-stopped c = λ wrong same bytes from.
     let piece = c.args.piece.now in
     let new = c.feed.new.self in
     let after = c.feed.new.into.items in
-    let told = c.refusal_of_header.result in
+    let stated = c.refusal_of_header.result in
     let fault = c.in-Err.fault in
     let known = c.fault_after.ensures in
     elim (is_memory fault) [
@@ -138,16 +138,16 @@ returns-in-Err-clause-stopped c = λ wrong same bytes from.
           let on : ReadsOn old piece new [] after =
           subst (λ (xs : List TraceRecord). ReadsOn old piece new xs after) c.requires.empty
           (c.in-Err.ensures.read (λ e. other cc)) in
-          let is : told ≡ header_refusal c.args.wanted.now (head_of new.progress) =
+          let is : stated ≡ header_refusal c.args.wanted.now (head_of new.progress) =
           c.refusal_of_header.ensures ∙ ap (header_refusal c.args.wanted.now) c.header-in-Err.ensures
           in
           let there = that_fault new.fault fault c.in-Err.ensures.answer in
           let out = known.refused other in
-          let or_trace : unwrap_or told (refusals.Trace fault) ≡ refusals.Trace wrong = cc in
+          let or_trace : unwrap_or stated (refusals.Trace fault) ≡ refusals.Trace wrong = cc in
           record {
             reading = now_read old new piece after on bytes from;
             fault_there = there ∙ ap (λ (f : TraceFault). Some f)
-                (trace_alone c.args.wanted.now (head_of new.progress) told fault wrong is or_trace);
+                (trace_alone c.args.wanted.now (head_of new.progress) stated fault wrong is or_trace);
             records = sym (now_seen old new piece after on bytes from);
           }
     ]

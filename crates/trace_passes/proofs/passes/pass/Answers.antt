@@ -6,7 +6,7 @@ use Rattle.trace_format.specs.Rules.{IsWritable}
 use Rattle.trace_passes.specs.Cursors.{GoesOn, HasEnded}
 use Rattle.trace_passes.specs.Rooms.{HasRoom}
 use Rattle.shelf.specs.Laws.Agreeing.{front_none}
-use Rattle.shelf.specs.Laws.Told.{only_both, only_none}
+use Rattle.shelf.specs.Laws.Known.{only_both, only_none}
 use Rattle.trace_passes.proofs.Fronts.{nothing_read}
 use Rattle.trace_passes.proofs.Pieces.{all_writable, ok_is_no_err, room_for_all}
 use Rattle.trace_passes.proofs.Closings.{accepted_then, has_passed, shown_trace}

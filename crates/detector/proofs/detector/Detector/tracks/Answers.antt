@@ -13,7 +13,7 @@ use Rattle.detector.proofs.NamedLaws.{apart_tracks}
 use Rattle.detector.proofs.AmountLaws.{few_at_each, few_entries, few_words, fewer_shifted_tracks}
 use Rattle.detector.proofs.AmountLaws.{half_doubled_tracks, small_unpredicted}
 use Rattle.detector.proofs.QuietLaws.{quiet_tracks}
-use Rattle.detector.proofs.ToldLaws.{told_tracks}
+use Rattle.detector.proofs.StatedLaws.{stated_tracks}
 use Rattle.detector.proofs.detector.Detector.tracks.Goals as goal
 
 abbrev IsAllowed : Watch → Type 0
@@ -34,10 +34,10 @@ returns-clause-apart g c =
 pub returns-clause-shaped : goal.returns-clause-shaped
 returns-clause-shaped g c = subst AreShaped c.self.view_is c.self.invariant.0.names.shaped
 
-pub returns-clause-told : goal.returns-clause-told
-returns-clause-told g c = λ t stands.
+pub returns-clause-stated : goal.returns-clause-stated
+returns-clause-stated g c = λ t stands.
     let allowed = subst IsAllowed c.self.view_is (c.self.invariant.1, c.self.invariant.2) in
-    told_tracks t _ allowed.0 allowed.1 stands
+    stated_tracks t _ allowed.0 allowed.1 stands
 
 pub returns-clause-shifted : goal.returns-clause-shifted
 returns-clause-shifted g c = λ t stands. fewer_shifted_tracks t _

@@ -1,18 +1,18 @@
 use Rattle.std.proofs.Common.{length, rules, take}
 use Rattle.disk_shelf.proofs.DiskLaws.{read_cause}
-use Rattle.disk_shelf.proofs.ReadLaws.{only_read, told_read, still_told}
+use Rattle.disk_shelf.proofs.ReadLaws.{only_read, known_read, stays_known}
 use Rattle.disk_shelf.specs.Disk.{Seen}
 use Rattle.disk_shelf.proofs.disk.DiskShelfShelf.read_at.Goals as goal
 
 pub returns-in-Ok-clause-bytes : goal.returns-in-Ok-clause-bytes
 returns-in-Ok-clause-bytes g c =
-    rw c.and-self-inside.ensures (told_read g.K.Contents.files c.args.name.now c.args.at
+    rw c.and-self-inside.ensures (known_read g.K.Contents.files c.args.name.now c.args.at
     c.in-Ok.read.count c.read_at.new.into c.self.inside.log.items
     (search rules))
 
 pub returns-in-Ok-clause-stays : goal.returns-in-Ok-clause-stays
 returns-in-Ok-clause-stays g c =
-    rw (c.and-self-inside.ensures, ← c.self.view_is) (still_told g.K.Contents.files c.args.name.now
+    rw (c.and-self-inside.ensures, ← c.self.view_is) (stays_known g.K.Contents.files c.args.name.now
     c.args.at c.in-Ok.read.count c.read_at.new.into c.self.inside.log.items (search rules))
 
 pub returns-in-Err-clause-cause : goal.returns-in-Err-clause-cause

@@ -36,6 +36,6 @@ returns-clause-stands c =
       shape = refl;
       position = refl;
       evicted = ap (λ n. s.evicted + n)
-          (c.one_if.ensures.value ∙ ap one_if c.in-Ok.ensures.told);
+          (c.one_if.ensures.value ∙ ap one_if c.in-Ok.ensures.stated);
       parts = c.in-Ok.ensures.stepped;
     }) (subst (StandsFor t) (sym c.self.view_is) stands)

@@ -111,7 +111,7 @@ call_fits c =
     c.call-answer.ensures.turn)
     (call_left c) c.go_ahead.ensures.at.fits
 
--- all that is told of it, behind what was made before
+-- all that is known of it, behind what was made before
 call_taken : (c : After-call-answer)
     → Passing c.args.setup.now c.args.until (config_of c.args.self.now)
     (config_of c.go_ahead.new.self) c.go_ahead.new.touches

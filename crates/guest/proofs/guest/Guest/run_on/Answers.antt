@@ -41,7 +41,7 @@ invariant_of-self c =
       fits = c.in-Ok-Ran.ensures.fits;
       accesses = b.within c.self.invariant.accesses;
       steps = b.room;
-      told = rw c.in-None.is tt;
+      stated = rw c.in-None.is tt;
       end = rw c.in-None.is tt;
     }
 
@@ -82,7 +82,7 @@ invariant_of-self-in-Ok-Ended c =
       fits = c.in-Ok-Ended.ensures.fits;
       accesses = b.within c.self.invariant.accesses;
       steps = b.room;
-      told = (
+      stated = (
         ap (λ (e : Ending). e.steps) c.ending.ensures,
         ap (λ (e : Ending). e.accesses) c.ending.ensures,
       );
@@ -128,7 +128,7 @@ invariant_of-self-in-Err c =
       fits = c.in-Err.ensures.fits;
       accesses = b.within c.self.invariant.accesses;
       steps = b.room;
-      told = rw c.in-None.is tt;
+      stated = rw c.in-None.is tt;
       end = rw c.in-None.is tt;
     }
 

@@ -17,7 +17,7 @@ invariant_of-self c =
       fits = c.in-Ok-Ran.ensures.fits;
       accesses = made.accesses;
       steps = made.steps;
-      told = rw c.in-None.is tt;
+      stated = rw c.in-None.is tt;
       end =
           rw c.in-None.is tt;
     }
@@ -32,7 +32,7 @@ invariant_of-self-in-Ok-Ended c =
       fits = c.in-Ok-Ended.ensures.fits;
       accesses = made.accesses;
       steps = made.steps;
-      told = (
+      stated = (
         ap (λ (e : Ending). e.steps) c.ending.ensures,
         ap (λ (e : Ending). e.accesses)
             c.ending.ensures,

@@ -1,7 +1,7 @@
 use Rattle.std.proofs.Common.{◌∙◌}
-use Rattle.guest.proofs.ThreadsTold.{marks_tell}
+use Rattle.guest.proofs.ThreadAnswers.{marks_answer}
 use Rattle.guest.proofs.threads.Threads.runnable.Goals as goal
 
 pub returns-clause-each : goal.returns-clause-each
-returns-clause-each c = marks_tell c.as_slice.result.now c.args.self.now (c.as_slice.ensures.value
+returns-clause-each c = marks_answer c.as_slice.result.now c.args.self.now (c.as_slice.ensures.value
     ∙ rw c.self.view_is at c.self.invariant.marked)

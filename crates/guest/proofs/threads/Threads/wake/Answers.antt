@@ -68,8 +68,8 @@ returns-clause-answer c =
     c.loop-place.count c.loop-place.invariant
     (omega (arith, whole))
 
-pub returns-clause-tells : goal.returns-clause-tells
-returns-clause-tells c =
+pub returns-clause-effect : goal.returns-clause-effect
+returns-clause-effect c =
     let whole : length c.self.inside.phases.items ≡ length c.args.self.now =
     ap (λ (xs : List HartPhase). length xs) c.self.view_is in
     wakes_lowest c.args.self.now c.loop-place.self c.args.addr c.args.most c.loop-place.place

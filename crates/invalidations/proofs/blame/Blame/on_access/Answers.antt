@@ -47,7 +47,7 @@ invariant_of-self-2 c =
       | inr e ↦ rw e (rw e at c.from.ensures)
     ] in
     let noted = noted-by k s c.number_of-line.result c.from.result c.in-Ok.taken
-    (parts_of c.note.new.self) own c.in-Ok.ensures.told counted
+    (parts_of c.note.new.self) own c.in-Ok.ensures.stated counted
     c.in-Ok.ensures.noted in (
       c.self.invariant.0 ++ s ∷ [],
       subst (StandsFor (c.self.invariant.0 ++ s ∷ [])) (sym noted)
@@ -66,7 +66,7 @@ returns-clause-stands c = λ u stands.
       | inr e ↦ rw e (rw e at c.from.ensures)
     ] in
     let noted = noted-by k s c.number_of-line.result c.from.result c.in-Ok.taken
-    (parts_of c.note.new.self) own c.in-Ok.ensures.told counted
+    (parts_of c.note.new.self) own c.in-Ok.ensures.stated counted
     c.in-Ok.ensures.noted in
     subst (StandsFor (u ++ s ∷ [])) (sym noted)
     (stands-push u k s (subst (StandsFor u) (sym c.self.view_is) stands))

@@ -9,7 +9,7 @@ returns-in-Ok-clause-noted c = λ position.
     parts-new (parts_of c.args.self.now) c.args.line position c.args.sited
     c.note_first.new.lines.entries c.requires c.in-Ok.ensures.noted
 
-pub returns-in-Ok-clause-told : goal.returns-in-Ok-clause-told
-returns-in-Ok-clause-told c = λ position.
+pub returns-in-Ok-clause-stated : goal.returns-in-Ok-clause-stated
+returns-in-Ok-clause-stated c = λ position.
     ap is_some (sym (invalidation-new (parts_of c.args.self.now) c.args.line position
     c.args.sited c.requires))

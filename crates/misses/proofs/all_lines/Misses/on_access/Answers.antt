@@ -38,5 +38,5 @@ returns-clause-stands c =
     (λ (n : ℕ). record { size = s.layout.size; offset = s.layout.offset; number = n })
     (c.number_of-number.ensures.value
     ∙ ap (line_number s.layout.size s.layout.offset) c.addr.ensures))
-    c.in-Ok.ensures.told c.after-self-inside.ensures c.in-Ok.ensures.noted
+    c.in-Ok.ensures.stated c.after-self-inside.ensures c.in-Ok.ensures.noted
     (subst (StandsFor t) (sym c.self.view_is) stands)

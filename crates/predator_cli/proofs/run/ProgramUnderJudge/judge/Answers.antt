@@ -15,15 +15,15 @@ records_of-requires c =
 pub returns-in-Ok-records_of-clause-given : goal.returns-in-Ok-records_of-clause-given
 returns-in-Ok-records_of-clause-given c =
     let is = c.in-Ok.ensures in
-    let told : c.in-Ok-records_of.symbols.items ≡ symbol_records c.args.bytes.now =
+    let stated : c.in-Ok-records_of.symbols.items ≡ symbol_records c.args.bytes.now =
     c.in-Ok-records_of.ensures.value ∙ ap (map symbol_record) is.symbols in
     let count : length c.in-Ok-records_of.symbols.items ≡ length (symbols_of c.args.bytes.now) =
-    ap length told ∙ length-map (symbols_of c.args.bytes.now) symbol_record in
+    ap length stated ∙ length-map (symbols_of c.args.bytes.now) symbol_record in
     record {
       image = is.image;
       starts = is.starts;
       harts = ap (λ i. i.harts) is.image;
-      symbols = told;
-      told = c.in-Ok-records_of.ensures.good;
+      symbols = stated;
+      stated = c.in-Ok-records_of.ensures.good;
       few = omega (arith, count, symbols_few c.args.bytes.now c.requires.short);
     }

@@ -1,5 +1,5 @@
 use Rattle.std.proofs.Common.{ap, refl}
-use Rattle.shelf.specs.Laws.Told.{grows_one}
+use Rattle.shelf.specs.Laws.Known.{grows_one}
 use Rattle.shelf.specs.declared.memory.MemoryShelf.{MemoryShelf}
 use Rattle.shelf.proofs.memory.MemoryShelfShelf.read_at.Goals as goal
 

@@ -1,5 +1,5 @@
 use Rattle.std.proofs.Common.{refl}
-use Rattle.shelf.specs.Laws.Told.{grows_one}
+use Rattle.shelf.specs.Laws.Known.{grows_one}
 use Rattle.shelf.proofs.never_fails.NeverFailsShelf.read_at.Goals as goal
 
 pub returns-clause-only : goal.returns-clause-only

@@ -63,9 +63,9 @@ loop-place-preserved g c =
     (sym c.index_mut-file.ensures.value) moves
     c.in-Ok.ensures.begun c.in-Ok.ensures.kept c.finish.ensures.stays)
 
-pub returns-in-Err-clause-tells : goal.returns-in-Err-clause-tells
-returns-in-Err-clause-tells g c =
-    c.in-Err.ensures.only.held ∙ c.loop-place.invariant.tells
+pub returns-in-Err-clause-keeps_held : goal.returns-in-Err-clause-keeps_held
+returns-in-Err-clause-keeps_held g c =
+    c.in-Err.ensures.only.held ∙ c.loop-place.invariant.keeps_held
 
 pub returns-in-Err-clause-gives : goal.returns-in-Err-clause-gives
 returns-in-Err-clause-gives g c =

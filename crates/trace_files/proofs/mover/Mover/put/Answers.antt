@@ -88,5 +88,5 @@ returns-in_default g c =
           (cut (moved_so_far t m.name.now (Some head) seen) before has.outputs)))
           c.put_record.ensures.cut;
       name = refl;
-      tells = c.put_record.ensures.tells;
+      keeps_held = c.put_record.ensures.keeps_held;
     }

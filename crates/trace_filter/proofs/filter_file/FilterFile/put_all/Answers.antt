@@ -34,7 +34,7 @@ loop-item-preserved g c =
           (seen_more items i c.item-item.result c.loop-item-test.true c.item-item.is seen)
           (c.in-Ok.ensures.came k name h (seen ++ take i items) before
           (to.came k name h seen before came));
-      tells = c.put.ensures.tells ∙ to.tells;
+      keeps_held = c.put.ensures.keeps_held ∙ to.keeps_held;
     }
 
 pub returns-in-Err-clause-cut : goal.returns-in-Err-clause-cut
@@ -52,8 +52,8 @@ returns-in-Err-clause-cut g c =
           (to.came k name h seen before came)),
     )
 
-pub returns-in-Err-clause-tells : goal.returns-in-Err-clause-tells
-returns-in-Err-clause-tells g c = c.put.ensures.tells ∙ c.loop-item.invariant.tells
+pub returns-in-Err-clause-keeps_held : goal.returns-in-Err-clause-keeps_held
+returns-in-Err-clause-keeps_held g c = c.put.ensures.keeps_held ∙ c.loop-item.invariant.keeps_held
 
 pub returns-clause-came : goal.returns-clause-came
 returns-clause-came g c = λ k name h seen before came.

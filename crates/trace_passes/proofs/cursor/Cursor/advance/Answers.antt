@@ -1,9 +1,9 @@
 use Rattle.std.proofs.Common.{◌≡◌, ◌+◌, ◌-◌, ◌≤◌, ◌<◌, ◌++◌, ℕ, List, [], Some, length, take, refl}
 use Rattle.std.proofs.Common.{sym, ap, subst, ◌∙◌, arith}
-use Rattle.shelf.specs.Shelf.{Told, content}
+use Rattle.shelf.specs.Shelf.{Known, content}
 use Rattle.shelf.specs.Fetch.{IsFront}
 use Rattle.shelf.specs.Laws.Agreeing.{front_shows, shown_then}
-use Rattle.shelf.specs.Laws.Told.{told_both}
+use Rattle.shelf.specs.Laws.Known.{known_both}
 use Rattle.trace_format.specs.Reading.{reading_of}
 use Rattle.trace_format.specs.Rules.{longest_trace}
 use Rattle.trace_passes.specs.declared.wanted.Refusal.TheVariants as refusals
@@ -32,8 +32,8 @@ returns-then-count-eq0-clause-ended g c = λ passed same bytes reached.
     let w = c.args.wanted.now in
     let at = c.self.inside.at in
     let count = c.in_ok-count.count in
-    let whole : Told held (λ files. bytes ≡ content files name) =
-    told_both held (λ files. whole_front (content files name) bytes into at count come.size none
+    let whole : Known held (λ files. bytes ≡ content files name) =
+    known_both held (λ files. whole_front (content files name) bytes into at count come.size none
     some) come.front
     c.in_ok-count.ensures.bytes in
     let is : c.in_ok-end_of.field-0 ≡ passed = cc in
@@ -54,8 +54,8 @@ returns-in_err-end_of-clause-refused g c = λ refusal same.
     let some : 0 < length into = omega (arith, c.deref_mut.ensures.len, size, come.room) in
     let none : c.in_ok-count.count ≡ 0 = c.if-count-eq0.true in
     let name = c.args.name.now in
-    let whole : Told held (λ files. bytes ≡ content files name) =
-    told_both held (λ files. whole_front (content files name) bytes into c.self.inside.at
+    let whole : Known held (λ files. bytes ≡ content files name) =
+    known_both held (λ files. whole_front (content files name) bytes into c.self.inside.at
     c.in_ok-count.count come.size none some) come.front c.in_ok-count.ensures.bytes in
     let was_err = c.in_err-end_of.was in
     let handed_on = rw same at c.from_residual-in_err-end_of.ensures.1 in
@@ -78,8 +78,8 @@ returns-in_err-take_piece-clause-refused g c = λ refusal same.
     let at = c.self.inside.at in
     let count = c.in_ok-count.count in
     let fits : count ≤ length into = omega (arith, c.in_ok-count.ensures.bound) in
-    let front : Told held (λ files. IsFront (content files name) (bytes ++ take count into)) =
-    told_both held (λ files. longer_front (content files name) bytes into at count come.size fits)
+    let front : Known held (λ files. IsFront (content files name) (bytes ++ take count into)) =
+    known_both held (λ files. longer_front (content files name) bytes into at count come.size fits)
     come.front c.in_ok-count.ensures.bytes in
     let was_err = c.in_err-take_piece.was in
     let handed_on = rw same at c.from_residual-in_err-take_piece.ensures.1 in
@@ -201,7 +201,8 @@ returns-clause-more g c = λ same bytes reached.
       come = next_come held c.args.name.now w bytes into c.self.inside.at count _ come.size
           (omega (arith, c.in_ok-count.ensures.bound)) come.front c.in_ok-count.ensures.bytes read
           refl
-          (omega (arith, ap length back, lent, size, come.room));
+          (omega (arith, ap length back, lent, size, come.room))
+          (omega (arith, ap length back, lent, size, come.few));
       records = records;
       front = λ before. read_more c.args.name.now bytes into c.self.inside.at count before
           (g.S.Shelf.outside c.args.shelf.now).given (g.S.Shelf.outside c.fetch.new.shelf).given
@@ -239,8 +240,8 @@ returns-in_err-end_of-clause-stopped g c = λ fault same bytes reached.
     let some : 0 < length into = omega (arith, c.deref_mut.ensures.len, size, come.room) in
     let none : c.in_ok-count.count ≡ 0 = c.if-count-eq0.true in
     let name = c.args.name.now in
-    let whole : Told held (λ files. bytes ≡ content files name) =
-    told_both held (λ files. whole_front (content files name) bytes into c.self.inside.at
+    let whole : Known held (λ files. bytes ≡ content files name) =
+    known_both held (λ files. whole_front (content files name) bytes into c.self.inside.at
     c.in_ok-count.count come.size none some) come.front c.in_ok-count.ensures.bytes in
     let was_err = c.in_err-end_of.was in
     let handed_on = rw same at c.from_residual-in_err-end_of.ensures.1 in
@@ -262,8 +263,8 @@ returns-in_err-take_piece-clause-stopped g c = λ fault same bytes reached.
     let at = c.self.inside.at in
     let count = c.in_ok-count.count in
     let fits : count ≤ length into = omega (arith, c.in_ok-count.ensures.bound) in
-    let front : Told held (λ files. IsFront (content files name) (bytes ++ take count into)) =
-    told_both held (λ files. longer_front (content files name) bytes into at count come.size fits)
+    let front : Known held (λ files. IsFront (content files name) (bytes ++ take count into)) =
+    known_both held (λ files. longer_front (content files name) bytes into at count come.size fits)
     come.front c.in_ok-count.ensures.bytes in
     let was_err = c.in_err-take_piece.was in
     let handed_on = rw same at c.from_residual-in_err-take_piece.ensures.1 in

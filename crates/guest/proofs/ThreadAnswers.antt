@@ -1,4 +1,4 @@
--- What the phases after each call tell its caller.
+-- What each call returns to its caller, by the phases after it.
 use Rattle.std.proofs.Common.{◌≡◌, ◌≢◌, ◌↔◌, ℕ, ◌<◌, ◌∙◌, Bool, true, false, List, length, map}
 use Rattle.std.proofs.Common.{get_or, set, refl, sym, ap, arith, None}
 use Rattle.std.proofs.Common.{Some}
@@ -106,10 +106,10 @@ runnable_since (Waiting addr) runs = absurd (both_ways _ refl runs)
 runnable_since (Ended code) runs = absurd (both_ways _ refl runs)
 
 -- a hart is marked exactly where it is runnable
-pub marks_tell : (marks : List Bool) (phases : List HartPhase) → marks ≡ map is_runnable phases
+pub marks_answer : (marks : List Bool) (phases : List HartPhase) → marks ≡ map is_runnable phases
     → (k : ℕ)
     → (get_or marks k false ≡ true) ↔ (phase_of phases k ≡ Runnable)
-marks_tell marks phases marked k =
+marks_answer marks phases marked k =
     let at : get_or marks k false ≡ is_runnable (phase_of phases k) =
     rw marked (get_or-map is_runnable phases k Free) in
     (λ marks_it. runnable_since _ (sym at ∙ marks_it), λ same. at ∙ ap is_runnable same)

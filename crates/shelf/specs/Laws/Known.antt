@@ -1,41 +1,41 @@
--- What holds of a told meaning, of one that goes over into another, and of faults that rose.
+-- What holds of a known meaning, of one that goes over into another, and of faults that rose.
 use Rattle.std.proofs.Common.{◌≡◌, ℕ, ◌≤◌, List, [], ◌∷◌, ◌++◌, Option, Some, None, arith, length}
 use Rattle.std.proofs.Common.{◌∙◌, ap, append_assoc, refl, subst, sym}
 use Rattle.std.proofs.Math.Seq.{take-length}
-use Rattle.shelf.specs.Shelf.{Told, Narrows, Goes, Rose, Adds, AddsFront, Given, Grows, HasRead}
+use Rattle.shelf.specs.Shelf.{Known, Narrows, Goes, Rose, Adds, AddsFront, Given, Grows, HasRead}
 use Rattle.shelf.specs.Shelf.{OnlyReads, OnlyWrites, OnlyWritesAndReads, Outside}
 
--- what holds of each value holds where it is told
-pub told : {A : Type 0} {P : A → Type 0} (o : Option A) → ((x : A) → P x) → Told o P
-told None p = tt
-told (Some x) p = p x
+-- what holds of each value holds where it is known
+pub if_known : {A : Type 0} {P : A → Type 0} (o : Option A) → ((x : A) → P x) → Known o P
+if_known None p = tt
+if_known (Some x) p = p x
 
-pub told_map : {A : Type 0} {P Q : A → Type 0} (o : Option A) → ((x : A) → P x → Q x) → Told o P
-    → Told o Q
-told_map None f p = tt
-told_map (Some x) f p = f x p
+pub known_map : {A : Type 0} {P Q : A → Type 0} (o : Option A) → ((x : A) → P x → Q x) → Known o P
+    → Known o Q
+known_map None f p = tt
+known_map (Some x) f p = f x p
 
-pub told_both : {A : Type 0} {P Q R : A → Type 0} (o : Option A) → ((x : A) → P x → Q x → R x)
-    → Told o P → Told o Q → Told o R
-told_both None f p q = tt
-told_both (Some x) f p q = f x p q
+pub known_both : {A : Type 0} {P Q R : A → Type 0} (o : Option A) → ((x : A) → P x → Q x → R x)
+    → Known o P → Known o Q → Known o R
+known_both None f p q = tt
+known_both (Some x) f p q = f x p q
 
--- ---- a meaning of which less is told
+-- ---- a meaning of which less is known
 
 pub narrows_same : {A : Type 0} (o : Option A) → Narrows o o
 narrows_same None = tt
 narrows_same (Some x) = refl
 
--- what held where it was told holds where it is told still
-pub told_still : {A : Type 0} (P : A → Type 0) (o n : Option A) → Narrows o n → Told o P → Told n P
-told_still P o None narrow p = tt
-told_still {A = A} P o (Some x) narrow p = subst (λ (h : Option A). Told h P) narrow p
+-- what held where it was known holds where it is known still
+pub known_still : {A : Type 0} (P : A → Type 0) (o n : Option A) → Narrows o n → Known o P → Known n P
+known_still P o None narrow p = tt
+known_still {A = A} P o (Some x) narrow p = subst (λ (h : Option A). Known h P) narrow p
 
-pub told_same : {A : Type 0} (P : A → Type 0) (o n : Option A) → n ≡ o → Told o P → Told n P
-told_same {A = A} P o n same p = subst (λ (h : Option A). Told h P) (sym same) p
+pub known_same : {A : Type 0} (P : A → Type 0) (o n : Option A) → n ≡ o → Known o P → Known n P
+known_same {A = A} P o n same p = subst (λ (h : Option A). Known h P) (sym same) p
 
 pub narrows_then : {A : Type 0} (a b c : Option A) → Narrows a b → Narrows b c → Narrows a c
-narrows_then {A = A} a b c first then = told_still (λ (x : A). a ≡ Some x) b c then first
+narrows_then {A = A} a b c first then = known_still (λ (x : A). a ≡ Some x) b c then first
 
 pub narrows_by : {A : Type 0} (a b : Option A) → b ≡ a → Narrows a b
 narrows_by {A = A} a b same = subst (λ (o : Option A). Narrows o b) same (narrows_same b)

@@ -1,4 +1,4 @@
-// The records that tell of what a step of a guest does.
+// The records that describe what a step of a guest does.
 ghost use Rattle.std.specs.Prelude.{◌≡◌, ◌<◌, ℕ};
 ghost use Rattle.trace_format.specs.declared.record.Version.{Version as AVersion};
 ghost use Rattle.trace_format.specs.declared.record.TraceRecord.TheVariants as records;

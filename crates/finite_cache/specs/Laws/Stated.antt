@@ -45,10 +45,10 @@ module _ (es : List (ℕ × WaySet)) (c i : ℕ) (at : Some i ≡ position (eqb 
         → IfOk result (λ left. IfSome (slice_get (values_of es) i)
         (λ w. left ≡ slice_get (in_front line w.lines) w.ways))
         → IfOk result (λ left. left ≡ slice_get (in_front line (lines_at es c)) n)
-    left-known (Err e) n line ways told = tt
-    left-known (Ok x) n line ways told =
+    left-known (Err e) n line ways stated = tt
+    left-known (Ok x) n line ways stated =
         let w = there in
-        let here : x ≡ slice_get (in_front line w.0.lines) w.0.ways = rw w.2 at told in
+        let here : x ≡ slice_get (in_front line w.0.lines) w.0.ways = rw w.2 at stated in
         here ∙ ap (slice_get (in_front line w.0.lines)) (ways-there n w.0 ways w.1)
         ∙ ap (λ ls. slice_get (in_front line ls) n) (sym (set-there w.0 w.1))
 
@@ -58,10 +58,10 @@ module _ (es : List (ℕ × WaySet)) (c i : ℕ) (at : Some i ≡ position (eqb 
         ≡ set_value_at es i (ways_of (take w.ways (in_front line w.lines)) w.ways)))
         → OnOk result ((q : ℕ) → lines_at new q ≡ if eqb q c
         then take n (in_front line (lines_at es c)) else lines_at es q)
-    used-known (Err e) new n line ways told = tt
-    used-known (Ok x) new n line ways told = λ q.
+    used-known (Err e) new n line ways stated = tt
+    used-known (Ok x) new n line ways stated = λ q.
         let g : WaySet → WaySet = λ w. ways_of (take w.ways (in_front line w.lines)) w.ways in
-        let w = found-changed shown_lines [] g es new c i at value found told in
+        let w = found-changed shown_lines [] g es new c i at value found stated in
         w.2 q
         ∙ ap (λ ls. if eqb q c then ls else lines_at es q)
         (ap (λ m. take m (in_front line w.0.lines)) (ways-there n w.0 ways w.1)
@@ -70,17 +70,17 @@ module _ (es : List (ℕ × WaySet)) (c i : ℕ) (at : Some i ≡ position (eqb 
     pub known-known : {E : Type 0} (result : Result (Option ℕ) E) (line : ℕ)
         → IfSome (slice_get (values_of es) i) (λ w. IsTrue (has line w.lines) → IsOk result)
         → IsTrue (has line (lines_at es c)) → IsOk result
-    known-known result line told here =
+    known-known result line stated here =
         let w = there in
-        let known : IsTrue (has line w.0.lines) → IsOk result = rw w.2 at told in
+        let known : IsTrue (has line w.0.lines) → IsOk result = rw w.2 at stated in
         known (ap (has line) (sym (set-there w.0 w.1)) ∙ here)
 
     ways-changed : (g : WaySet → WaySet) (new : List (ℕ × WaySet)) (n : ℕ)
         → ((w : WaySet) → (g w).ways ≡ w.ways) → HaveWays n es
         → IfSome (slice_get (values_of es) i) (λ w. new ≡ set_value_at es i (g w))
         → HaveWays n new
-    ways-changed g new n same ways told =
-        let w = found-changed shown_lines [] g es new c i at value found told in
+    ways-changed g new n same ways stated =
+        let w = found-changed shown_lines [] g es new c i at value found stated in
         let fits : (g w.0).ways ≡ n = same w.0 ∙ ways-there n w.0 ways w.1 in
         subst (HaveWays n) (sym w.3)
         (all-insert (λ e. e.1.ways ≡ n) es c (g w.0) fits (λ q. fits) ways)
@@ -90,17 +90,17 @@ module _ (es : List (ℕ × WaySet)) (c i : ℕ) (at : Some i ≡ position (eqb 
         → OnOk result (IfSome (slice_get (values_of es) i) (λ w. new
         ≡ set_value_at es i (ways_of (take w.ways (in_front line w.lines)) w.ways)))
         → OnErr result (new ≡ es) → HaveWays n new
-    kept-known (Err e) new n line ways told same = subst (HaveWays n) (sym same) ways
-    kept-known (Ok x) new n line ways told same =
+    kept-known (Err e) new n line ways stated same = subst (HaveWays n) (sym same) ways
+    kept-known (Ok x) new n line ways stated same =
         ways-changed (λ w. ways_of (take w.ways (in_front line w.lines)) w.ways) new n (λ w. refl)
-        ways told
+        ways stated
 
     pub found-out : (result : Bool) (line : ℕ)
         → IfSome (slice_get (values_of es) i) (λ w. result ≡ has line w.lines)
         → result ≡ has line (lines_at es c)
-    found-out result line told =
+    found-out result line stated =
         let w = there in
-        let here : result ≡ has line w.0.lines = rw w.2 at told in
+        let here : result ≡ has line w.0.lines = rw w.2 at stated in
         here ∙ ap (has line) (sym (set-there w.0 w.1))
 
     pub taken-out : (new : List (ℕ × WaySet)) (line : ℕ)
@@ -108,9 +108,9 @@ module _ (es : List (ℕ × WaySet)) (c i : ℕ) (at : Some i ≡ position (eqb 
         (λ w. new ≡ set_value_at es i (ways_of (without line w.lines) w.ways))
         → (q : ℕ) → lines_at new q ≡ if eqb q c then without line (lines_at es c)
         else lines_at es q
-    taken-out new line told q =
+    taken-out new line stated q =
         let g : WaySet → WaySet = λ w. ways_of (without line w.lines) w.ways in
-        let w = found-changed shown_lines [] g es new c i at value found told in
+        let w = found-changed shown_lines [] g es new c i at value found stated in
         w.2 q
         ∙ ap (λ ls. if eqb q c then without line ls else lines_at es q)
         (sym (set-there w.0 w.1))
@@ -119,8 +119,8 @@ module _ (es : List (ℕ × WaySet)) (c i : ℕ) (at : Some i ≡ position (eqb 
         → IfSome (slice_get (values_of es) i)
         (λ w. new ≡ set_value_at es i (ways_of (without line w.lines) w.ways))
         → (n : ℕ) → HaveWays n es → HaveWays n new
-    ways-out new line told n ways =
-        ways-changed (λ w. ways_of (without line w.lines) w.ways) new n (λ w. refl) ways told
+    ways-out new line stated n ways =
+        ways-changed (λ w. ways_of (without line w.lines) w.ways) new n (λ w. refl) ways stated
 
 -- a cell without an entry
 module _ (es : List (ℕ × WaySet)) (c : ℕ) (none : false ≡ is_some (lookup (eqb c) es)) where
@@ -134,16 +134,16 @@ module _ (es : List (ℕ × WaySet)) (c : ℕ) (none : false ≡ is_some (lookup
   pub left-new : {E : Type 0} (result : Result (Option ℕ) E) (n line : ℕ)
       → IfOk result (λ left. left ≡ slice_get (line ∷ []) n)
       → IfOk result (λ left. left ≡ slice_get (in_front line (lines_at es c)) n)
-  left-new result n line told =
-      subst (λ ls. IfOk result (λ left. left ≡ slice_get (in_front line ls) n)) (sym empty) told
+  left-new result n line stated =
+      subst (λ ls. IfOk result (λ left. left ≡ slice_get (in_front line ls) n)) (sym empty) stated
 
   pub used-new : {E : Type 0} (result : Result (Option ℕ) E) (new : List (ℕ × WaySet))
       (n line : ℕ) → OnOk result (new ≡ insert_entry nat_eq es c (ways_of (take n (line ∷ [])) n))
       → OnOk result ((q : ℕ) → lines_at new q ≡ if eqb q c
       then take n (in_front line (lines_at es c)) else lines_at es q)
-  used-new (Err e) new n line told = tt
-  used-new (Ok x) new n line told = λ q.
-      ap (λ xs. lines_at xs q) told
+  used-new (Err e) new n line stated = tt
+  used-new (Ok x) new n line stated = λ q.
+      ap (λ xs. lines_at xs q) stated
       ∙ found-insert shown_lines [] es c q (ways_of (take n (line ∷ [])) n)
       ∙ ap (λ ls. if eqb q c then take n (in_front line ls) else lines_at es q) (sym empty)
 
@@ -156,9 +156,9 @@ module _ (es : List (ℕ × WaySet)) (c : ℕ) (none : false ≡ is_some (lookup
       (n line : ℕ) → HaveWays n es
       → OnOk result (new ≡ insert_entry nat_eq es c (ways_of (take n (line ∷ [])) n))
       → OnErr result (new ≡ es) → HaveWays n new
-  kept-new (Err e) new n line ways told same = subst (HaveWays n) (sym same) ways
-  kept-new (Ok x) new n line ways told same =
-      subst (HaveWays n) (sym told)
+  kept-new (Err e) new n line ways stated same = subst (HaveWays n) (sym same) ways
+  kept-new (Ok x) new n line ways stated same =
+      subst (HaveWays n) (sym stated)
       (all-insert (λ e. e.1.ways ≡ n) es c (ways_of (take n (line ∷ [])) n) refl (λ q. refl) ways)
 
   pub found-none : (line : ℕ) → false ≡ has line (lines_at es c)
@@ -200,8 +200,8 @@ module _ (es : List (ℕ × LineUse)) (r i : ℕ) (at : Some i ≡ position (eqb
     pub use-changed : (g : LineUse → LineUse) (new : List (ℕ × LineUse))
         → IfSome (slice_get (values_of es) i) (λ l. new ≡ set_value_at es i (g l))
         → (q : ℕ) → use_of new q ≡ if eqb q r then g (use_of es r) else use_of es q
-    use-changed g new told q =
-        let w = found-changed whole unused g es new r i at value found told in
+    use-changed g new stated q =
+        let w = found-changed whole unused g es new r i at value found stated in
         let same : use_of es r ≡ w.0 = rw w.1 refl in
         w.2 q ∙ ap (λ l. if eqb q r then g l else use_of es q) (sym same)
 
@@ -218,26 +218,26 @@ module _ (es : List (ℕ × LineUse)) (r i : ℕ) (at : Some i ≡ position (eqb
         (new : List (ℕ × LineUse))
         → OnOk result (IfSome (slice_get (values_of es) i) (λ l. new ≡ set_value_at es i (g l)))
         → OnOk result ((q : ℕ) → use_of new q ≡ if eqb q r then g (use_of es r) else use_of es q)
-    use-changed-on (Err e) g new told = tt
-    use-changed-on (Ok x) g new told = use-changed g new told
+    use-changed-on (Err e) g new stated = tt
+    use-changed-on (Ok x) g new stated = use-changed g new stated
 
-    pub told-known : {E : Type 0} (result : Result Bool E) (h : ℕ)
+    pub stated-known : {E : Type 0} (result : Result Bool E) (h : ℕ)
         → IfOk result (λ x. IfSome (slice_get (values_of es) i)
         (λ l. x ≡ not (list_any (eqb h) l.harts)))
         → IfOk result (λ x. x ≡ not (list_any (eqb h) (harts_of es r)))
-    told-known (Err e) h told = tt
-    told-known (Ok x) h told =
+    stated-known (Err e) h stated = tt
+    stated-known (Ok x) h stated =
         let w = use-there in
-        let here : x ≡ not (list_any (eqb h) w.0.harts) = rw w.2 at told in
+        let here : x ≡ not (list_any (eqb h) w.0.harts) = rw w.2 at stated in
         here ∙ ap (λ (l : LineUse). not (list_any (eqb h) l.harts)) (sym w.1)
 
     pub arrives-known : {E : Type 0} (result : Result Bool E) (h : ℕ)
         → IfSome (slice_get (values_of es) i)
         (λ l. IsTrue (list_any (eqb h) l.harts) → IsOk result)
         → IsTrue (list_any (eqb h) (harts_of es r)) → IsOk result
-    arrives-known result h told here =
+    arrives-known result h stated here =
         let w = use-there in
-        let known : IsTrue (list_any (eqb h) w.0.harts) → IsOk result = rw w.2 at told in
+        let known : IsTrue (list_any (eqb h) w.0.harts) → IsOk result = rw w.2 at stated in
         known (ap (λ (l : LineUse). list_any (eqb h) l.harts) (sym w.1) ∙ here)
 
 module _ (es : List (ℕ × LineUse)) (r : ℕ) (none : false ≡ is_some (lookup (eqb r) es)) where
@@ -256,18 +256,18 @@ module _ (es : List (ℕ × LineUse)) (r : ℕ) (none : false ≡ is_some (looku
       → OnOk result (new ≡ insert_entry nat_eq es r (record { harts = h ∷ []; evicted = 0 }))
       → OnOk result ((q : ℕ) → use_of new q ≡ if eqb q r
       then record (use_of es r) { harts = note_arrival (harts_of es r) h } else use_of es q)
-  arrived-new (Err e) h new told = tt
-  arrived-new (Ok x) h new told = λ q.
-      ap (λ xs. use_of xs q) told
+  arrived-new (Err e) h new stated = tt
+  arrived-new (Ok x) h new stated = λ q.
+      ap (λ xs. use_of xs q) stated
       ∙ found-insert whole unused es r q (record { harts = h ∷ []; evicted = 0 })
       ∙ ap (λ (l : LineUse). if eqb q r then record l { harts = note_arrival l.harts h }
       else use_of es q) (sym no-use)
 
-  pub told-new : {E : Type 0} (result : Result Bool E) (h : ℕ)
+  pub stated-new : {E : Type 0} (result : Result Bool E) (h : ℕ)
       → IfOk result (λ x. IsTrue x) → IfOk result (λ x. x ≡ not (list_any (eqb h) (harts_of es r)))
-  told-new (Err e) h told = tt
-  told-new (Ok x) h told =
-      told ∙ ap (λ (l : LineUse). not (list_any (eqb h) l.harts)) (sym no-use)
+  stated-new (Err e) h stated = tt
+  stated-new (Ok x) h stated =
+      stated ∙ ap (λ (l : LineUse). not (list_any (eqb h) l.harts)) (sym no-use)
 
   pub arrives-new : {E : Type 0} (result : Result Bool E) (h : ℕ)
       → IsTrue (list_any (eqb h) (harts_of es r)) → IsOk result

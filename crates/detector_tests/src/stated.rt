@@ -1,15 +1,15 @@
-// Accesses as rows of a table tell them, and what was counted of them.
+// Accesses as rows of a table state them, and what was counted of them.
 use base::{Access, Hart, Kind};
 use line_tracks::Shadow;
 use sharing_rules::Word;
 use std::process::Abort;
 use std::test::Fail;
 
-/// An access of 4 bytes, told by its hart, its address and its kind.
-pub type Told = (u16, u32, Kind);
+/// An access of 4 bytes, given by its hart, its address and its kind.
+pub type StatedAccess = (u16, u32, Kind);
 
-pub fn access_of(told: &Told) -> Option<Access> {
-    let (hart, addr, kind) = *told;
+pub fn access_of(stated: &StatedAccess) -> Option<Access> {
+    let (hart, addr, kind) = *stated;
     Access::new(Hart::new(hart)?, addr, kind, 4)
 }
 
@@ -21,8 +21,8 @@ pub fn note(rt: &impl Abort, shadow: &mut Shadow, access: Access) {
 }
 
 /// Notes these accesses.
-pub fn note_all(rt: &impl Abort, shadow: &mut Shadow, told: &[Told]) -> Result<(), Fail> {
-    for one in told {
+pub fn note_all(rt: &impl Abort, shadow: &mut Shadow, stated: &[StatedAccess]) -> Result<(), Fail> {
+    for one in stated {
         let access = access_of(one).ok_or("an access")?;
         note(rt, shadow, access);
     }

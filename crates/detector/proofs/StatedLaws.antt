@@ -1,4 +1,5 @@
--- What a list makes one keep, told by kind and line, and how its tracks in any order are looked up.
+-- What a list makes one keep, named by kind and line, and how its tracks in any order are looked
+-- up.
 use Rattle.std.proofs.Common.{◌≡◌, ℕ, ◌+◌, ◌-◌, ◌*◌, ◌/◌, ◌<◌, ◌≤◌, Bool, true, List, [], ◌∷◌}
 use Rattle.std.proofs.Common.{◌++◌, Option, Some, None, map, length, refl, sym, ap, ◌∙◌, subst}
 use Rattle.std.proofs.Common.{arith, inl, inr}
@@ -33,7 +34,7 @@ use Rattle.sharing_rules.specs.Laws.Kinds.{member-opened_observed, member-shifte
 use Rattle.sharing_rules.specs.Laws.Kinds.{observed_ones-member, opened-member, opened_doubled-is}
 use Rattle.sharing_rules.specs.Laws.Kinds.{opened_observed-is, opened_shifted-is}
 use Rattle.sharing_rules.specs.Laws.Lists.{Member-permutation, slice_cases}
-use Rattle.sharing_rules.specs.Laws.Opened.{observed_ones-push, opened_observed-stays}
+use Rattle.sharing_rules.specs.Laws.OpenedObserved.{observed_ones-push, opened_observed-stays}
 use Rattle.line_tracks.specs.TrackValue.{TrackValue}
 use Rattle.line_tracks.specs.KeptIn.{kept_in}
 use Rattle.line_tracks.specs.Laws.WordLines.{layout-sized}
@@ -185,14 +186,14 @@ good_lines g v t o may m =
     (is.layout, is.from)
 
 -- The lines of a list by their kinds and numbers.
-pub record AreTold (g : Grid) (os : List Opened) (f : LineKind → ℕ → Option Opened) : Type 0 where
+pub record AreStated (g : Grid) (os : List Opened) (f : LineKind → ℕ → Option Opened) : Type 0 where
   pub there : (kind : LineKind) (k : ℕ) (o : Opened) → f kind k ≡ Some o
       → (o.kind ≡ kind) × (line_of_base g (range_of o.line) ≡ k) × Member o os
   pub each : (o : Opened) → Member o os → (kind : LineKind) × (k : ℕ) × (f kind k ≡ Some o)
 
-opened-told : (g : Grid) (v : Levels) (t : AccessList) → MayKeep g v
-    → AreTold g (opened g v t) (opened_at g v t)
-opened-told g v t may = record {
+opened-stated : (g : Grid) (v : Levels) (t : AccessList) → MayKeep g v
+    → AreStated g (opened g v t) (opened_at g v t)
+opened-stated g v t may = record {
   there = λ kind k o e. let is = opened_at-is g v t kind k o may e in
       (is.kind, is.number, opened_at-member g v t kind k o e);
   each = opened-at g v t;
@@ -204,10 +205,10 @@ noted_at g v t a Observed k = opened_observed g v.tracking (t ++ a ∷ []) k
 noted_at g v t a Shifted k = opened_at g v t Shifted k
 noted_at g v t a Doubled k = opened_at g v t Doubled k
 
-pub noted-told : (g : Grid) (v : Levels) (t : AccessList) (a : Touch) → MayKeep g v
+pub noted-stated : (g : Grid) (v : Levels) (t : AccessList) (a : Touch) → MayKeep g v
     → 0 < v.tracking
-    → AreTold g (opened g v t ++ option_to_list (observed_now g v.tracking t a)) (noted_at g v t a)
-noted-told g v t a may some = record {
+    → AreStated g (opened g v t ++ option_to_list (observed_now g v.tracking t a)) (noted_at g v t a)
+noted-stated g v t a may some = record {
   there = there;
   each = λ o m. elim (Member-append (opened g v t) now o m) [
     | inl old ↦ let w = opened-at g v t o old in (w.0, w.1, stays w.0 w.1 o w.2)
@@ -304,14 +305,14 @@ map-Member f (p ∷ os) o m = elim m [
 
 -- their tracks, in any order, by kind and number
 pub looked_up : (g : Grid) (t : AccessList) (os : List Opened) (f : LineKind → ℕ → Option Opened)
-    (xs : List TrackValue) → AreTold g os f → IsPermutation xs (map (kept_in t) os)
+    (xs : List TrackValue) → AreStated g os f → IsPermutation xs (map (kept_in t) os)
     → (kind : LineKind) (k : ℕ) → track_named g kind k xs ≡ option_map (kept_in t) (f kind k)
-looked_up g t os f xs told perm kind k =
+looked_up g t os f xs stated perm kind k =
     elim (slice_cases (find (is_named g kind k) xs)) [
       | inl none ↦ elim (slice_cases (f kind k)) [
         | inl nothing ↦ none ∙ sym (ap (option_map (kept_in t)) nothing)
         | inr some ↦
-            let w = told.there kind k some.0 some.1 in
+            let w = stated.there kind k some.0 some.1 in
             absurd (find-none (is_named g kind k) xs (kept_in t some.0) none
             (Member-permutation xs (map (kept_in t) os) (kept_in t some.0) perm
             (map-Member (kept_in t) os some.0 w.2))
@@ -323,15 +324,15 @@ looked_up g t os f xs told perm kind k =
           there.0 (IsPermutation-sym xs (map (kept_in t) os) perm) w.0) in
           let is = is_named-true g kind k (kept_in t m.0)
           (ap (is_named g kind k) (sym m.2) ∙ w.1) in
-          let q = told.each m.0 m.1 in
-          let r = told.there q.0 q.1 m.0 q.2 in
+          let q = stated.each m.0 m.1 in
+          let r = stated.there q.0 q.1 m.0 q.2 in
           there.1 ∙ ap Some m.2 ∙ sym (ap (option_map (kept_in t))
           (ap (λ j. f j k) (sym is.0 ∙ r.0) ∙ ap (f q.0) (sym is.1 ∙ r.1) ∙ q.2))
     ]
 
 -- where the tracks are those of a list
-pub told_tracks : (t : AccessList) (w : Watch) → is_layout w.grid.size w.grid.offset ≡ true
+pub stated_tracks : (t : AccessList) (w : Watch) → is_layout w.grid.size w.grid.offset ≡ true
     → IsTrue (may_predict w.grid w.levels) → StandsFor t w → HasEach t w
-told_tracks t w allowed may stands =
+stated_tracks t w allowed may stands =
     looked_up w.grid t (opened w.grid w.levels t) (opened_at w.grid w.levels t) w.tracks
-    (opened-told w.grid w.levels t (record { allowed = allowed; may = may })) stands.tracks
+    (opened-stated w.grid w.levels t (record { allowed = allowed; may = may })) stands.tracks
