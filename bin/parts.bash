@@ -3,7 +3,7 @@
 
 # The Debian packages that all parts together want. bin/test names those that are missing.
 packages=(clang lld llvm picolibc-riscv64-unknown-elf libc++-14-dev gcc g++ libc6-dev valgrind libc6-dbg python3 python3-pyelftools python3-jinja2 python3-jsonschema python3-yaml
-    chromium nodejs snakemake slurmctld slurmd slurm-client munge git shellcheck python3-flake8 mypy black clang-format clang-tidy)
+    chromium nodejs snakemake slurmctld slurmd slurm-client munge git patch make cmake shellcheck python3-flake8 mypy black clang-format clang-tidy)
 # What the long forms want too.
 long_packages=(mmdebstrap)
 

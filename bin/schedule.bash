@@ -153,6 +153,11 @@ note_skip() { # NAME WHY
     skipped_for[$2]+=${skipped_for[$2]:+, }$1
 }
 
+# What a part skipped by itself: the reasons in its lines, and in those of Python's unittest, which end with `.. skipped 'REASON'`.
+own_skips() { # LOG
+    sed -n -E -e 's/^skipped[,:]? *([0-9]+: )?//p' -e "s/^.* [.]{3} skipped (['\"])(.*)\1$/\2/p" "$1" | grep -v '^$' | sort -u
+}
+
 report_skips() {
     local it
     ((${#skip_reasons[@]} == 0)) || echo "Skipped:"
@@ -176,8 +181,7 @@ finish_part() {
         0)
             passed=$((passed + 1))
             echo "passed: $name ($took$([ "$number" = 1 ] || echo ", at the second try"))"
-            # (of what a part skipped by itself)
-            while IFS= read -r it; do note_skip "$name (in part)" "$it"; done < <(sed -n -E 's/^skipped[,:]? *([0-9]+: )?//p' "$log" | grep -v '^$' | sort -u)
+            while IFS= read -r it; do note_skip "$name (in part)" "$it"; done < <(own_skips "$log")
             ;;
         77) skip_part "$name" "$(tail -n 1 "$log")" ;;
         *)

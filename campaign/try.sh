@@ -1,7 +1,8 @@
 #!/usr/bin/env bash
 # Tests `predator campaign` with a stand-in for the program: plans and their faults, tables and pages, and which runs are repeated after a
 # kill, a failure and a change. The jobs run on this machine, over ssh and, if it is installed, over a Slurm of this one machine. If the
-# program is built, the shipped plan runs too. Without Debian's snakemake the script skips itself: the status is 77.
+# program is built, the shipped plan runs too. Each test that skips itself has a line that says why. Without Debian's snakemake the script does:
+# the status is 77.
 set -u
 here=$(cd "$(dirname "$(readlink -f "$0")")" && pwd)
 python=/usr/bin/python3
@@ -26,12 +27,13 @@ children+=("$!:shipped")
 cd "$here/tests" || exit 1
 workflow=$(sed -n 's/^    def \(test_[a-z_]*\).*/test_workflow.Workflow.\1/p' test_workflow.py)
 for name in test_plans test_tables test_page $workflow; do
-    "$python" -W ignore -m unittest "$name" >"$work/$name" 2>&1 &
+    "$python" -W ignore -m unittest -v "$name" >"$work/$name" 2>&1 &
     children+=("$!:$name")
 done
 for child in "${children[@]}"; do
     name=${child#*:}
     wait "${child%%:*}" || { failed=1 && cat "$work/$name"; }
+    grep -e '^skipped' -e ' \.\.\. skipped ' "$work/$name"
     echo "$name: $(tail -n 1 "$work/$name")"
 done
 exit "$failed"

@@ -37,7 +37,7 @@ part() {
 }
 declare_parts() {
     part good quick 1 1 1 program 'echo not to be seen; mktemp >/dev/null'
-    part lines daily 1 1 2 "" 'for i in 1 2 3 4; do echo "skipped lines $i"; sleep 0.1; done'
+    part lines daily 1 1 2 "" 'for i in 1 2 3 4; do echo "skipped lines $i"; sleep 0.1; done; echo "test_it (own.Own.test_it) ... skipped \"there is no go\""'
     part lacks daily 1 1 1 no_such_command 'exit 1'
     part itself daily 1 1 1 "" 'echo first; echo this machine has none; exit 77'
     part alone daily all 1 1 "" '[ -z "$(ls ../*/busy 2>/dev/null)" ]'
@@ -70,6 +70,7 @@ try_runs() {
     expect_line "all" "    lacks: no_such_command isn't installed"
     expect_line "all" "    itself: this machine has none"
     expect_line "all" "    lines (in part): lines 3"
+    expect_line "all" "    lines (in part): there is no go"
     expect_line "all" "    apt-get install no-such-package"
     expect_line "all" "The proofs weren't checked here: the Rattle kit isn't installed."
     expect_equal "what a part that passes prints" 0 "$(grep -c "not to be seen" out)"

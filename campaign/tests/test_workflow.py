@@ -322,9 +322,11 @@ class Workflow(CampaignCase):
         )
 
     def end_slurm(self):
-        """Ends Slurm's processes, the last begun first, and waits for each: it writes its state before it
-        ends."""
-        for pid in reversed(self.read("slurm", "pids").split()):
+        """Ends those of Slurm's processes that run, the last begun first, and waits for each: it writes its
+        state before it ends."""
+        has_pids = os.path.exists(self.path("slurm", "pids"))
+        pids = self.read("slurm", "pids").split() if has_pids else []
+        for pid in filter(is_running, reversed(pids)):
             os.kill(int(pid), signal.SIGTERM)
             deadline = time.monotonic() + 20
             while is_running(pid):
