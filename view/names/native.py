@@ -3,11 +3,9 @@ program or of a library that it loaded, and their debug information says the res
 
 import contextlib
 import functools
-import json
 import os
 import re
 import struct
-import subprocess
 from typing import Iterable, Iterator, NamedTuple
 
 from view.faults import Fault
@@ -24,6 +22,7 @@ from view.reading.reports import Block, Report, Symbol, name_bytes
 from view.reading.reports import Site as CallSite
 from view.names.control_flow import instructions_before
 from view.names.source_lines import SourceLine, Sources, parse_frames
+from view.names.symbolizer import symbolize
 
 from elftools.elf.elffile import ELFFile
 from elftools.elf.sections import SymbolTableSection
@@ -190,13 +189,11 @@ class NativeFile:
         """The variable at an address of the file."""
         if addr not in self.variables:
             self.variables[addr] = None
-            name = self.names.get(addr, "")
-            plain = last_name(demangle([name])[0]) if name[:2] in ("_Z", "_R") else ""
             with contextlib.suppress(Exception):
                 self.variables[addr] = next(
                     (
                         variable
-                        for variable in self.defined_variables(name, plain)
+                        for variable in self.likely_variables(addr)
                         if self.program().address(variable.dies[0]) == addr
                     ),
                     None,
@@ -212,11 +209,18 @@ class NativeFile:
         ]
         return choose_type([self.program().dwarf.get_DIE_from_refaddr(it) for it in places], text)
 
-    def defined_variables(self, *names: str) -> Iterator["NativeVariable"]:
-        """The variables of some names that have a place."""
-        for offset, text in self.program().named(*names):
-            if "DW_TAG_variable" in text and "DW_AT_location" in text:
-                yield NativeVariable(self.program().dwarf.get_DIE_from_refaddr(offset), self)
+    def likely_variables(self, addr: int) -> Iterator["NativeVariable"]:
+        """The variables that debug information may have at an address: by the place itself, or else by the symbol's name."""
+        places, name = self.program().places, self.names.get(addr, "")
+        if places is not None and name:
+            for die in places.entries_with(addr):
+                if die.tag == "DW_TAG_variable":
+                    yield NativeVariable(die, self)
+        if places is None or places.has_other_addresses():
+            plain = last_name(demangle([name])[0]) if name[:2] in ("_Z", "_R") else ""
+            for offset, text in self.program().named(name, plain):
+                if "DW_TAG_variable" in text and "DW_AT_location" in text:
+                    yield NativeVariable(self.program().dwarf.get_DIE_from_refaddr(offset), self)
 
 
 class NativeVariable(Variable):
@@ -397,6 +401,7 @@ class NativeProgram:
             return None
         return f"{own.path} has no symbol {obj.name} at {at:#x}"
 
+    @functools.cache
     def site_mismatch(self, site: CallSite) -> str | None:
         """What of a call site isn't in the address map, or none."""
         own = self.map.sites.get(site.addr)
@@ -504,23 +509,7 @@ class NativeSources(Sources):
 
     def symbolize(self, addresses: Iterable[tuple[NativeFile, int]]) -> list[list[SourceLine]]:
         """What debug information says of addresses of files."""
-        rows = "".join(f'"{own.debug}" {addr:#x}\n' for own, addr in addresses)
-        words = [self.tool, "--output-style=JSON", "--inlines"]
-        ran = (
-            subprocess.run(
-                words, input=os.fsencode(rows), stdout=subprocess.PIPE, stderr=subprocess.DEVNULL
-            )
-            if rows
-            else None
-        )
-        return (
-            [
-                parse_frames(json.loads(row))
-                for row in ran.stdout.decode("utf-8", "replace").splitlines()
-            ]
-            if ran
-            else []
-        )
+        return [*map(parse_frames, symbolize((own.debug, addr) for own, addr in addresses))]
 
     def near(self, address: int) -> SourceLine | None:
         """The same by the file's own addresses: an instruction's number says nothing of those before it."""
