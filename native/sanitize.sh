@@ -44,7 +44,7 @@ for seed in 1 2 3; do
     expect_equal "its end" "exit 7" "$("$judge" end "$seed" 2>&1)"
     timeout 60 ./writer pcs "$seed" 100000 pcs >said 2>&1
     expect_equal "a trace of seed $seed with instructions" 0 "$?"
-    expect_equal "its end, and instructions that have not one row each" "exit 7 0" "$("$judge" end pcs 2>&1) $("$judge" untold pcs 2>&1)"
+    expect_equal "its end, and instructions that have not one row each" "exit 7 0" "$("$judge" end pcs 2>&1) $("$judge" unnamed pcs 2>&1)"
     # (its own code lies at the same addresses each time)
     timeout 60 "${still[@]}" ./writer pcs "$seed" 100000 pcs >said 2>&1
     for k in 6 12 16; do

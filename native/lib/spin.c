@@ -3,7 +3,7 @@
    thread that wants a turn can have a processor to itself, it reads its word for a moment before it
    sleeps. Who has the next turn doesn't depend on that, so the trace is the same.
 
-   Tries tell whether processors are free: where a wait outlasts its moment, or the system lets
+   Trials show whether processors are free: where a wait outlasts its moment, or the system lets
    others run meanwhile, threads sleep at once until the next try. */
 #include "runtime.h"
 

@@ -134,8 +134,8 @@ typedef struct {
 static OSet *blocks;
 static Block *large[1024]; /* those of more than a region */
 static UInt large_count;
-static Addr *untold; /* where blocks were made while nothing was recorded */
-static UInt untold_count, untold_room;
+static Addr *unrecorded; /* where blocks were made while nothing was recorded */
+static UInt unrecorded_count, unrecorded_room;
 static Block last_freed[MOST_THREADS + 1];
 
 static void put_block(const Block *it, UInt index)
@@ -242,11 +242,11 @@ static void make_block(Addr addr, SizeT size, const Addr *own)
         tell_block(it);
         return;
     }
-    if (untold_count == untold_room) {
-        untold_room = untold_room ? 2 * untold_room : 4096;
-        untold = VG_(realloc)("predator.untold", untold, untold_room * sizeof *untold);
+    if (unrecorded_count == unrecorded_room) {
+        unrecorded_room = unrecorded_room ? 2 * unrecorded_room : 4096;
+        unrecorded = VG_(realloc)("predator.unrecorded", unrecorded, unrecorded_room * sizeof *unrecorded);
     }
-    untold[untold_count++] = addr;
+    unrecorded[unrecorded_count++] = addr;
 }
 
 void trace_block(ThreadId tid, Addr addr, SizeT size)
@@ -288,12 +288,12 @@ void trace_revive(ThreadId tid, Addr addr)
 void tell_untold(void)
 {
     UInt it;
-    for (it = 0; it < untold_count; it++) {
-        Block *block = VG_(OSetGen_Lookup)(blocks, &untold[it]);
+    for (it = 0; it < unrecorded_count; it++) {
+        Block *block = VG_(OSetGen_Lookup)(blocks, &unrecorded[it]);
         if (block && !block->in_trace)
             tell_block(block);
     }
-    untold_count = 0;
+    unrecorded_count = 0;
 }
 
 void objects_begin(void)

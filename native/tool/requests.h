@@ -1,4 +1,4 @@
-/* What a program may tell the tool. Include this in a program to record a part of it alone, with
+/* What a program may ask of the tool. Include this in a program to record a part of it alone, with
    `--marked`:
 
        PREDATOR_START;

@@ -81,7 +81,7 @@ refused "built: the trace can't be written" 125 "No such file or directory" --bu
 # Other ways to make threads and to wait for them. What waits in a call that the runtime doesn't know loses its turn.
 waits="begun 1 counted 4 busy 4 late 3 sum 46 waited 1"
 hands="sum 12000"
-cxx="sum 2200 read 1200 late 1 woken 4 told 1 futures 8 7"
+cxx="sum 2200 read 1200 late 1 woken 4 ready 1 futures 8 7"
 if command -v g++ >/dev/null; then
     g++ -std=c++20 -O1 -g -pthread "$here/tries/cxx.cpp" -o cxx 2>gcc.log || cat gcc.log
     g++ -std=c++20 -O1 -g -fsanitize=thread -pthread "$here/tries/cxx.cpp" -o cxx.tsan -L"$here/out/lib" 2>gcc.log || cat gcc.log

@@ -21,7 +21,7 @@ static std::condition_variable turned;
 static std::latch begun(4);
 static std::barrier<> meet(4);
 static std::counting_semaphore<8> passes(0);
-static std::atomic<int> told(0);
+static std::atomic<int> ready(0);
 static long sum, read_right, woken, late;
 static bool go;
 
@@ -55,10 +55,10 @@ static void work(int me)
     else
         passes.release();
     if (me == 3) {
-        told = 1;
-        told.notify_all();
+        ready = 1;
+        ready.notify_all();
     }
-    told.wait(0);
+    ready.wait(0);
 }
 
 int main()
@@ -78,5 +78,5 @@ int main()
     std::thread keeps([&] { promised.set_value(8); });
     int first = kept.get(), second = counted.get();
     keeps.join();
-    std::printf("sum %ld read %ld late %ld woken %ld told %d futures %d %d\n", sum, read_right, late, woken, told.load(), first, second);
+    std::printf("sum %ld read %ld late %ld woken %ld ready %d futures %d %d\n", sum, read_right, late, woken, ready.load(), first, second);
 }

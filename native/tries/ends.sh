@@ -20,7 +20,7 @@ left_over() { # PROGRAM
 for way in "" --built; do
     program=$work/forever${way:+.tsan}
     rm -f from-pipe
-    # (as `timeout` does it, once there is something to tell)
+    # (as `timeout` does it, once there is something to report)
     PREDATOR=$work/keeps setsid "$run" ${way:+"$way"} -- "$program" >said 2>&1 &
     pid=$!
     longer from-pipe 1100000

@@ -9,7 +9,7 @@ said=$("$run" --quantum 10 --trace j -- ./jit 2>/dev/null)
 expect_part "made code: its map" "/tmp/perf-" "$said"
 rm -f "$said"
 expect_equal "made code: its name" "/tmp/add.js:3 LazyCompile:~add" "$(awk '/LazyCompile/ { print $3, $4 }' j.table | sort -u)"
-expect_equal "made code: instructions with one row" 0 "$("$judge" untold j)"
+expect_equal "made code: instructions with one row" 0 "$("$judge" unnamed j)"
 expect_part "made code: view" "add.js:3 (LazyCompile:~add) invalidates add.js:3" "$("$here/../bin/predator" view replay j --no-predicted 2>&1)"
 "$run" --quantum 10 --filtered --trace f -- ./jit >said 2>/dev/null
 rm -f "$(cat said)"

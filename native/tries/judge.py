@@ -18,7 +18,7 @@ docs/FORMATS.md alone, and shares no code with the program, with view/ and with 
     judge.py sites TRACE NAME AT  which instructions access the word, by the address map: for each its rows
                                   in TRACE.table as `FUNCTION LINE`, then the frames that are inlined
                                   there, the innermost first
-    judge.py untold TRACE         how many distinct instructions have not exactly one row of their own in
+    judge.py unnamed TRACE        how many distinct instructions have not exactly one row of their own in
                                   TRACE.table
     judge.py plain TRACE FILE     writes a filtered trace as one of version 3 to FILE
     judge.py each TRACE           bytes for each access, times 100
@@ -220,9 +220,9 @@ def main():
         *_, (_, outcome, value, accesses, filtered) = read_records(trace, False)
         ends = {0: f"exit {value}", 4: "part"}[outcome]
         print({"end": ends, "accesses": accesses, "whole": filtered}[what])
-    elif what in ("alike", "sites", "untold"):
+    elif what in ("alike", "sites", "unnamed"):
         print(
-            {"alike": are_alike, "sites": list_sites, "untold": count_unnamed}[what](trace, *names)
+            {"alike": are_alike, "sites": list_sites, "unnamed": count_unnamed}[what](trace, *names)
         )
     elif what == "each":
         accesses = [*read_records(trace, False)][-1][3]

@@ -1,4 +1,4 @@
-/* One program for what a trace has to tell: atomics, a mutex, a condition, a barrier, spinning with sched_yield, blocks of each
+/* One program for what a trace has to record: atomics, a mutex, a condition, a barrier, spinning with sched_yield, blocks of each
    function that makes them, a library's functions, wide and unaligned accesses. */
 #define _GNU_SOURCE
 #include <pthread.h>

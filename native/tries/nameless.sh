@@ -24,7 +24,7 @@ each_row() { # NAME ADDRESSES
             plain) expect_equal "$1: other memory" "" "$(rows_of t.table "$where")" ;;
         esac
     done <<<"$2"
-    expect_equal "$1: each is told once" 4 "$(grep -c -e '^stack ' -e '^file ' t.table)"
+    expect_equal "$1: each has one row" 4 "$(grep -c -e '^stack ' -e '^file ' t.table)"
 }
 for it in "" --built; do
     program=./nameless${it:+.tsan}

@@ -70,7 +70,7 @@ own = [it for it in sides if "/own-1.0.0/" in it["panics"]["places"][0]["file"]]
 print(*sorted({f"called {it['panics']['called']}, file {it['file']!r}, line {it['line']}" for it in own}), sep="; ")
 END
 )"
-    # (a trace without pcs tells of no call that it has run)
+    # (a trace without pcs records no call that has run)
     "$run" --no-pcs --trace n -- ./panics.bare
     said=$(view replay n --top 30)
     expect_part "stripped Rust, without pcs: a block" "($own" "$said"

@@ -11,10 +11,10 @@ for name in counters sites; do
     "$run" --no-pcs --trace t -- ./$name >/dev/null 2>&1
     "$run" --trace p -- ./$name >/dev/null 2>&1
     expect_equal "pcs: $name: the same without them" alike "$("$judge" alike p t)"
-    expect_equal "pcs: $name: each is told once" 0 "$("$judge" untold p)"
+    expect_equal "pcs: $name: each has one row" 0 "$("$judge" unnamed p)"
 done
 expect_equal "pcs: a line, and what is inlined there" "work sites.c:10 < $inlined" "$("$judge" sites p counts 4)"
-expect_equal "no pcs: nothing is told of them" 0 "$(grep -c "^frame " t.table)"
+expect_equal "no pcs: they have no rows" 0 "$(grep -c "^frame " t.table)"
 row=$(grep "^site .* make - .*/sites+0x" t.table)
 expect_part "a call in another section" "sites.c:15" "$(addr2line -e sites "${row##*+}")"
 strip sites -o bare
@@ -46,7 +46,7 @@ for name in counters sites; do
     if setarch -R true 2>/dev/null; then
         expect_equal "built: pcs: $name: the same without them" alike "$("$judge" alike p t)"
     fi
-    expect_equal "built: pcs: $name: each is told once" 0 "$("$judge" untold p)"
+    expect_equal "built: pcs: $name: each has one row" 0 "$("$judge" unnamed p)"
 done
 expect_equal "built: pcs: a function" "work -" "$("$judge" sites p counts 4)"
 found=$(sed -n 's/^site .* work .*\/sites.tsan+//p' p.table | addr2line -s -i -f -e sites.tsan | paste -s -d ' ')

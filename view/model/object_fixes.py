@@ -119,7 +119,7 @@ class ObjectFixes:
         )
 
     def unknown_bytes(self, obj: DataObject, words: Sequence[WordUse]) -> str:
-        """That the misses of an object may be false sharing by bytes, where a filtered trace can't tell; or nothing."""
+        """That the misses of an object may be false sharing by bytes, where a filtered trace can't decide; or nothing."""
         uses = self.view.word_uses
         if self.view.filtered is None or uses is None:
             return ""

@@ -131,7 +131,7 @@ class FrameFunction:
         self.name, self.locals = "", list[Local]()
 
     def frame_top(self, pc: int, addr: int, is_write: bool) -> int | None:
-        """The top of the frame whose memory at an address an instruction uses, or none where that isn't told."""
+        """The top of the frame whose memory at an address an instruction uses, or none where that isn't known."""
         at = bisect.bisect_right(self.rules, pc, key=lambda rule: rule.begin) - 1
         operand, aligned = self.operands.get(pc), self.aligned
         if operand is None:
@@ -157,7 +157,7 @@ class FrameFunction:
             return 0
         register = int(name[9:]) if name[:9] == "DW_OP_reg" and name[9:].isdigit() else -1
         distances = [it.distance for it in self.rules if it.register == register]
-        # (a stack pointer that isn't always what the top is told by may have been aligned anew)
+        # (a stack pointer from which not every rule computes the top may have been aligned anew)
         is_aligned = register in STACK_POINTER.values() and len(distances) < len(self.rules)
         return None if is_aligned or not distances else -max(distances)
 

@@ -1,4 +1,4 @@
-// mixed: each thread tells how far it is in a word of its own, and the first one reads them all after each thirty-second step of its own
+// mixed: each thread writes its progress into a word of its own, and the first one reads them all after each thirty-second step of its own
 #include "clock.h"
 
 struct own {

@@ -13,7 +13,7 @@ __attribute__((constructor)) static void begin(void)
     first = sbrk(0);
 }
 
-__attribute__((destructor)) static void tell(void)
+__attribute__((destructor)) static void print_end(void)
 {
     while (sbrk(4096) != (void *)-1 || sbrk(16) != (void *)-1)
         continue;

@@ -200,7 +200,7 @@ int __wrap_predator_hart_id(void)
     return answer;
 }
 
-__attribute__((destructor)) static void tell(void)
+__attribute__((destructor)) static void print_end(void)
 {
     unsigned made[KINDS], all = 0;
     for (int i = 0; i < KINDS; i++)

@@ -59,7 +59,7 @@ void *__wrap_sbrk(ptrdiff_t more)
 }
 #endif
 
-__attribute__((destructor)) static void tell(void)
+__attribute__((destructor)) static void print_end(void)
 {
     printf("cleared: 0x%lx of %lu words, %lu left\n", (unsigned long)first, (unsigned long)words, (unsigned long)left);
 }

@@ -50,7 +50,7 @@ int __wrap_pthread_create(pthread_t *thread, const pthread_attr_t *attr, void *(
     return __real_pthread_create(thread, attr, run, argument);
 }
 
-__attribute__((destructor)) static void tell(void)
+__attribute__((destructor)) static void print_end(void)
 {
     int stacks_cleared = 0;
     for (int i = 1; threads > 0 && i < HARTS; i++)

@@ -31,7 +31,7 @@ int __wrap_pthread_mutex_unlock(pthread_mutex_t *mutex)
     return __real_pthread_mutex_unlock(mutex);
 }
 
-__attribute__((destructor)) static void tell(void)
+__attribute__((destructor)) static void print_end(void)
 {
     printf("mutex: %p, %d times\n", (void *)first, times);
 }

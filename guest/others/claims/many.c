@@ -21,7 +21,7 @@ void *__wrap_malloc(size_t size)
     return block;
 }
 
-__attribute__((destructor)) static void tell(void)
+__attribute__((destructor)) static void print_end(void)
 {
     printf("malloc: refused %u times, %u otherwise\n", refused, later + other);
 }

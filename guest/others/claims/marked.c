@@ -40,7 +40,7 @@ word OF(wrap, MARKED)(word a, word b, word c, word d, word e, word f, word g, wo
     return answer;
 }
 
-__attribute__((destructor)) static void tell(void)
+__attribute__((destructor)) static void print_end(void)
 {
     printf("marked: %s, %lu calls, %lu answers other than 0, of", TEXT(MARKED), calls, others);
     for (int i = 0; i < GIVEN && given[i] != 0; i++)

@@ -68,7 +68,7 @@ int __wrap_munmap(void *address, size_t length)
     return status;
 }
 
-__attribute__((destructor)) static void tell(void)
+__attribute__((destructor)) static void print_end(void)
 {
     printf("munmap: %s, %d lost\n", parts > 0 ? "of parts" : "of no part", lost);
 }

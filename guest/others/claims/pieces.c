@@ -13,7 +13,7 @@ int __wrap_predator_write(int file, const void *bytes, size_t count)
     return __real_predator_write(file, bytes, count);
 }
 
-__attribute__((destructor)) static void tell(void)
+__attribute__((destructor)) static void print_end(void)
 {
     printf("pieces: %u of 256 bytes, %u of fewer, %u of more\n", whole, less, more);
 }

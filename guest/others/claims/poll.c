@@ -42,7 +42,7 @@ int __wrap_poll(struct pollfd *files, nfds_t count, int time)
     return ready;
 }
 
-__attribute__((destructor)) static void tell(void)
+__attribute__((destructor)) static void print_end(void)
 {
     printf("poll: %s, %d early\n", in_time > 0 ? "waited" : "never waited", early);
 #ifdef READY
