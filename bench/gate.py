@@ -3,9 +3,8 @@
 
 It runs `rt ci` for the crates that are named, or for all, and puts the processor minutes that each crate took, for its
 library, its tests and its edits, into the table of docs/GATE.md. What was kept from an earlier run keeps its
-times there. The times are those of the prover's processes, which are looked at twice a second. With no names,
-on a machine where nothing is kept, it measures the whole gate in one piece. It ends with the status of `rt
-ci`."""
+times there. The times are those of the prover's processes, which are looked at twice a second. With --anew and no
+names it measures the whole gate in one piece, from nothing. It ends with the status of `rt ci`."""
 
 import argparse
 import datetime
@@ -114,9 +113,10 @@ def main():
         description=__doc__, formatter_class=argparse.RawDescriptionHelpFormatter
     )
     parser.add_argument("names", nargs="*", metavar="NAME", help="the crates (all)")
-    names = parser.parse_args().names
+    parser.add_argument("--anew", action="store_true", help="prove what was kept once more")
+    call = parser.parse_args()
     begun = time.monotonic()
-    gate = subprocess.Popen(["rt", "ci", *names], cwd=TOP)
+    gate = subprocess.Popen(["rt", "ci", *(["--anew"] if call.anew else []), *call.names], cwd=TOP)
     parts, seconds = {}, {}
     while gate.poll() is None:
         sample_times(gate.pid, parts, seconds)
