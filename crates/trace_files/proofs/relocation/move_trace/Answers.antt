@@ -24,7 +24,7 @@ use Rattle.trace_files.specs.Copies.{any}
 use Rattle.trace_files.specs.declared.move_fault.MoveFault.{MoveFault}
 use Rattle.trace_files.specs.declared.move_fault.MoveFault.TheVariants as faults
 use Rattle.trace_files.specs.declared.move_row.Move.{Move}
-use Rattle.trace_files.specs.Movers.{EndsAt, HasMoved, MayTake, StopsAt}
+use Rattle.trace_files.specs.Movers.{EndsAt, Follows, HasMoved, MayTake, StopsAt}
 use Rattle.trace_files.proofs.Endings.{taken_up}
 use Rattle.trace_files.proofs.GivingUp.{Gave, gave_reading, gave_refused, gave_stopped, is_trace_fault}
 use Rattle.trace_files.proofs.GivingUp.{three_ok, whole_copied}
@@ -32,7 +32,6 @@ use Rattle.trace_files.proofs.Relocations.{at_all, front_still, has_read, may_ta
 use Rattle.trace_files.proofs.Relocations.{moving_next, writable_behind}
 use Rattle.trace_files.proofs.relocation.move_trace.Given.{Over}
 use Rattle.trace_files.proofs.relocation.move_trace.Goals as goal
-use Rattle.trace_files.proofs.relocation.move_trace.Goals.{After-end_refused, After-end_whole}
 use Rattle.trace_files.proofs.relocation.move_trace.Goals.{In-Err-Refused, In-Err-take, In-Ok-None}
 use Rattle.trace_files.proofs.relocation.move_trace.Goals.{In-Ok-Some}
 
@@ -212,60 +211,75 @@ end_refused-requires-clause-way g c =
     stopped.behind stopped.records stopped.reading
 
 -- what was given up, once the records before the fault were put
-gave_refusal : (g : Over) (c : After-end_refused g)
-    → Gave (g.S.Shelf.outside c.end_refused.new.shelf).held c.args.trace.now c.args.file.now
-    c.args.table.now (g.S.Shelf.outside c.args.shelf.now)
-    (g.S.Shelf.outside c.end_refused.new.shelf) c.end_refused.result
-gave_refusal g c =
-    let there = stopped_there g c.In-Err-Refused in
+gave_refusal : (g : Over) (c : In-Err-Refused g) (new : Outside) (fault : MoveFault)
+    → new.held ≡ (g.S.Shelf.outside c.advance.new.shelf).held
+    → ((known : Option (Version × Header)) (seen : List TraceRecord) (before : Outside)
+    → HasMoved c.args.table.now c.pieces.mover.name.now c.pieces.mover known seen before
+    (g.S.Shelf.outside c.advance.new.shelf)
+    → Follows known seen (version_and_header c.advance.new.self.reading.progress)
+    c.advance.new.self.items
+    → EndsAt c.args.table.now c.pieces.mover.name.now
+    (version_and_header c.advance.new.self.reading.progress) (seen ++ c.advance.new.self.items)
+    before new c.in-Err-Refused.refusal fault)
+    → Gave new.held c.args.trace.now c.args.file.now c.args.table.now
+    (g.S.Shelf.outside c.args.shelf.now) new fault
+gave_refusal g c new fault keeps_held ends =
+    let there = stopped_there g c in
     let stopped = there.at in
     let t = c.args.table.now in
     let trace = c.args.trace.now in
     let file = c.args.file.now in
     let old = g.S.Shelf.outside c.args.shelf.now in
     let read = g.S.Shelf.outside c.advance.new.shelf in
-    let new = g.S.Shelf.outside c.end_refused.new.shelf in
     let next = c.advance.new.self in
-    let e = c.in-Err-Refused.ensures in
     let refusal = c.in-Err-Refused.refusal in
-    let fault = c.end_refused.result in
     let whole : Known new.held (λ fs. stopped.all ≡ content fs trace) =
-    known_same (λ fs. stopped.all ≡ content fs trace) read.held new.held
-    c.end_refused.ensures.keeps_held stopped.whole in
+    known_same (λ fs. stopped.all ≡ content fs trace) read.held new.held keeps_held stopped.whole in
     let other : refusal ≢ refusals.Trace trace_faults.NoMemory = λ same_one.
-    e.memory (ap Err (c.in-Err-Refused.field-0-is ∙ ap passes.Refused same_one)) in
+    c.in-Err-Refused.ensures.memory
+    (ap Err (c.in-Err-Refused.field-0-is ∙ ap passes.Refused same_one)) in
     gave_refused new.held trace file t stopped.all whole refusal
     (stopped.refused ∙ ap (λ (r : Refusal). Some r) (sym there.is)) other old new fault
     (at_all t trace file c.pieces.mover c.pieces.cursor old (g.S.Shelf.outside c.pieces.shelf)
     c.pieces.invariant read there.reads stopped.all next.items next.items next.reading
     (version_and_header next.reading.progress) (λ n h l b. EndsAt t n h l b new refusal fault)
-    stopped.behind stopped.records stopped.reading refl refl c.end_refused.ensures.ends)
+    stopped.behind stopped.records stopped.reading refl refl ends)
 
 pub returns-in-Err-Refused-clause-refused : goal.returns-in-Err-Refused-clause-refused
 returns-in-Err-Refused-clause-refused g c = λ refusal same.
     let is : c.end_refused.result ≡ faults.Refused refusal = cc in
-    (gave_refusal g (goal.at.returns-in-Err-Refused-clause-refused g c).After-end_refused).refused
+    (gave_refusal g (goal.at.returns-in-Err-Refused-clause-refused g c).In-Err-Refused
+    (g.S.Shelf.outside c.end_refused.new.shelf) c.end_refused.result c.end_refused.ensures.keeps_held
+    c.end_refused.ensures.ends).refused
     refusal is
 
 pub returns-in-Err-Refused-clause-occupied : goal.returns-in-Err-Refused-clause-occupied
 returns-in-Err-Refused-clause-occupied g c = λ addr same.
     let is : c.end_refused.result ≡ faults.Occupied addr = cc in
-    (gave_refusal g (goal.at.returns-in-Err-Refused-clause-occupied g c).After-end_refused).occupied
+    (gave_refusal g (goal.at.returns-in-Err-Refused-clause-occupied g c).In-Err-Refused
+    (g.S.Shelf.outside c.end_refused.new.shelf) c.end_refused.result c.end_refused.ensures.keeps_held
+    c.end_refused.ensures.ends).occupied
     addr is
 
 pub returns-in-Err-Refused-clause-far : goal.returns-in-Err-Refused-clause-far
 returns-in-Err-Refused-clause-far g c = λ addr same.
     let is : c.end_refused.result ≡ faults.Far addr = cc in
-    (gave_refusal g (goal.at.returns-in-Err-Refused-clause-far g c).After-end_refused).far addr is
+    (gave_refusal g (goal.at.returns-in-Err-Refused-clause-far g c).In-Err-Refused
+    (g.S.Shelf.outside c.end_refused.new.shelf) c.end_refused.result c.end_refused.ensures.keeps_held
+    c.end_refused.ensures.ends).far addr is
 
 pub returns-in-Err-Refused-clause-memory : goal.returns-in-Err-Refused-clause-memory
 returns-in-Err-Refused-clause-memory g c = λ same.
     let is : c.end_refused.result ≡ faults.Refused (refusals.Trace trace_faults.NoMemory) = cc in
-    (gave_refusal g (goal.at.returns-in-Err-Refused-clause-memory g c).After-end_refused).memory is
+    (gave_refusal g (goal.at.returns-in-Err-Refused-clause-memory g c).In-Err-Refused
+    (g.S.Shelf.outside c.end_refused.new.shelf) c.end_refused.result c.end_refused.ensures.keeps_held
+    c.end_refused.ensures.ends).memory is
 
 pub returns-in-Err-Refused-clause-given_up : goal.returns-in-Err-Refused-clause-given_up
 returns-in-Err-Refused-clause-given_up g c =
-    (gave_refusal g (goal.at.returns-in-Err-Refused-clause-given_up g c).After-end_refused).given_up
+    (gave_refusal g (goal.at.returns-in-Err-Refused-clause-given_up g c).In-Err-Refused
+    (g.S.Shelf.outside c.end_refused.new.shelf) c.end_refused.result c.end_refused.ensures.keeps_held
+    c.end_refused.ensures.ends).given_up
 
 -- ---- a piece isn't read
 
@@ -385,52 +399,57 @@ returns-in-Ok-Some-clause-moved g c =
     c.end_whole.ensures.written c.end_whole.ensures.accesses c.end_whole.ensures.moved
 
 -- what was given up, where the end can't be put
-gave_ending : (g : Over) (c : After-end_whole g) (fault : MoveFault)
+gave_ending : (g : Over) (c : In-Ok-Some g) (new : Outside)
+    → new.held ≡ (g.S.Shelf.outside c.advance.new.shelf).held → (fault : MoveFault)
     → ((table : List Move) (name : List ℕ) (head : Option (Version × Header))
     (seen : List TraceRecord) (before : Outside)
     → HasMoved table name c.pieces.mover head seen before (g.S.Shelf.outside c.advance.new.shelf)
-    → StopsAt table name head seen before (g.S.Shelf.outside c.end_whole.new.shelf) fault)
-    → Gave (g.S.Shelf.outside c.end_whole.new.shelf).held c.args.trace.now c.args.file.now
-    c.args.table.now (g.S.Shelf.outside c.args.shelf.now) (g.S.Shelf.outside c.end_whole.new.shelf)
-    fault
-gave_ending g c fault stops =
+    → StopsAt table name head seen before new fault)
+    → Gave new.held c.args.trace.now c.args.file.now c.args.table.now
+    (g.S.Shelf.outside c.args.shelf.now) new fault
+gave_ending g c new keeps_held fault stops =
     let trace = c.args.trace.now in
     let mid = g.S.Shelf.outside c.pieces.shelf in
     let read = g.S.Shelf.outside c.advance.new.shelf in
-    let new = g.S.Shelf.outside c.end_whole.new.shelf in
     let old = g.S.Shelf.outside c.args.shelf.now in
     let at = c.pieces.invariant in
     let front : Known new.held (λ fs. IsFront (content fs trace) at.bytes) =
-    front_still read.held new.held trace at.bytes c.end_whole.ensures.keeps_held
+    front_still read.held new.held trace at.bytes keeps_held
     (known_still (λ fs. IsFront (content fs trace) at.bytes) mid.held read.held
     c.in-Ok-Some.ensures.only.held at.come.front) in
     gave_stopped new.held trace c.args.file.now c.args.table.now at.bytes front old new fault
     (stops c.args.table.now c.args.file.now (version_and_header (reading_of at.bytes).1.progress)
-    (reading_of at.bytes).0 old (ended_there g c.In-Ok-Some).has)
+    (reading_of at.bytes).0 old (ended_there g c).has)
 
 pub returns-in-Ok-Some-clause-refused : goal.returns-in-Ok-Some-clause-refused
 returns-in-Ok-Some-clause-refused g c = λ refusal same.
-    (gave_ending g (goal.at.returns-in-Ok-Some-clause-refused g c).After-end_whole
+    (gave_ending g (goal.at.returns-in-Ok-Some-clause-refused g c).In-Ok-Some
+    (g.S.Shelf.outside c.end_whole.new.shelf) c.end_whole.ensures.keeps_held
     (faults.Refused refusal) (IfErr-at_err _ same c.end_whole.ensures.stopped)).refused refusal refl
 
 pub returns-in-Ok-Some-clause-occupied : goal.returns-in-Ok-Some-clause-occupied
 returns-in-Ok-Some-clause-occupied g c = λ addr same.
-    (gave_ending g (goal.at.returns-in-Ok-Some-clause-occupied g c).After-end_whole
+    (gave_ending g (goal.at.returns-in-Ok-Some-clause-occupied g c).In-Ok-Some
+    (g.S.Shelf.outside c.end_whole.new.shelf) c.end_whole.ensures.keeps_held
     (faults.Occupied addr) (IfErr-at_err _ same c.end_whole.ensures.stopped)).occupied addr refl
 
 pub returns-in-Ok-Some-clause-far : goal.returns-in-Ok-Some-clause-far
 returns-in-Ok-Some-clause-far g c = λ addr same.
-    (gave_ending g (goal.at.returns-in-Ok-Some-clause-far g c).After-end_whole
+    (gave_ending g (goal.at.returns-in-Ok-Some-clause-far g c).In-Ok-Some
+    (g.S.Shelf.outside c.end_whole.new.shelf) c.end_whole.ensures.keeps_held
     (faults.Far addr) (IfErr-at_err _ same c.end_whole.ensures.stopped)).far addr refl
 
 pub returns-in-Ok-Some-clause-memory : goal.returns-in-Ok-Some-clause-memory
 returns-in-Ok-Some-clause-memory g c = λ same.
-    (gave_ending g (goal.at.returns-in-Ok-Some-clause-memory g c).After-end_whole
+    (gave_ending g (goal.at.returns-in-Ok-Some-clause-memory g c).In-Ok-Some
+    (g.S.Shelf.outside c.end_whole.new.shelf) c.end_whole.ensures.keeps_held
     (faults.Refused (refusals.Trace trace_faults.NoMemory))
     (IfErr-at_err _ same c.end_whole.ensures.stopped)).memory refl
 
 pub returns-in-Ok-Some-clause-given_up : goal.returns-in-Ok-Some-clause-given_up
 returns-in-Ok-Some-clause-given_up g c =
-    let there = (goal.at.returns-in-Ok-Some-clause-given_up g c).After-end_whole in
-    IfErr-weaker c.end_whole.result _ _ (λ fault stops. (gave_ending g there fault stops).given_up)
+    let there = (goal.at.returns-in-Ok-Some-clause-given_up g c).In-Ok-Some in
+    IfErr-weaker c.end_whole.result _ _
+    (λ fault stops. (gave_ending g there (g.S.Shelf.outside c.end_whole.new.shelf)
+    c.end_whole.ensures.keeps_held fault stops).given_up)
     c.end_whole.ensures.stopped
