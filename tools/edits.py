@@ -242,7 +242,7 @@ def try_edits(chosen: list[str]) -> int:
     passed = failed = 0
     with tempfile.TemporaryDirectory(prefix="predator-edits-") as top:
         if shutil.disk_usage(top).free < FREE_BYTES:
-            print(f"there are less than {FREE_BYTES // 10**9} GB free in {os.path.dirname(top)}")
+            print(f"less than {FREE_BYTES // 10**9} GB are free in {os.path.dirname(top)}")
             return SKIPPED
         crates = {crate for crate, _ in left}
         copy_crates(top, crates)
@@ -260,7 +260,7 @@ def try_edits(chosen: list[str]) -> int:
                 "passed" if judged[2] else "FAILED", line.removeprefix("rt: "), end="", flush=True
             )
     for crate, name in sorted(left):
-        print(f"FAILED {crate}/{name}: nothing was said of it")
+        print(f"FAILED {crate}/{name}: the prover printed no result")
     print(f"{passed} passed, {failed + len(left)} failed")
     return 1 if failed or left else 0
 
