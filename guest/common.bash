@@ -136,6 +136,23 @@ cxx_headers() {
     done
 }
 
+# FOLDER: why the headers of LLVM's C++ library in it can't be taken, or nothing. A version says itself which compiler it needs.
+libcxx_obstacle() {
+    local number version needs="" own
+    number=$(sed -nE 's/^# *define _LIBCPP_VERSION +([0-9]+)$/\1/p' "$1/__config" 2>/dev/null || true)
+    if [ -z "$number" ]; then
+        echo "$1 has no headers of LLVM's C++ library"
+        return
+    fi
+    # (15006 is 15.0.6, and 190107 is 19.1.7)
+    version=$((number / (number < 100000 ? 1000 : 10000)))
+    [[ $version != 1[4-6] ]] || return 0
+    own=$(clang -dumpversion)
+    number=$(grep -hos 'only supports Clang [0-9]*' "$1/__config" "$1/__configuration/compiler.h" | head -n 1 | grep -o '[0-9]*$' || true)
+    [ -z "$number" ] || needs=", which needs clang $number or later, and this is clang ${own%%.*}"
+    echo "$1 has version $version of LLVM's C++ library$needs: guests take 14, 15 or 16 (Debian: libc++-14-dev)"
+}
+
 # FOLDER HEADERS FLAG ..: compiles what LLVM's headers leave to a library, into the folder of a kit.
 make_cxx() {
     local into=$1 headers=$2 it
@@ -179,7 +196,12 @@ reason_of() {
     [ -z "$kind" ] || sed -nE "s/^#define $kind PREDATOR_MISSING\([a-z]+, \"(.*)\"\)\$/\1/p" "$here/include/predator_missing.h"
 }
 
-# Runs a command that links. What the linker doesn't find is reported with the reason, where there is one.
+# Why C++ of a guest has no exceptions, behind the place in the source.
+no_exceptions="a guest has no exceptions:"
+no_throw="$no_exceptions 'throw' can't be compiled (return an error, or call std::abort)"
+no_try="$no_exceptions 'try' can't be compiled (what the library would throw ends the program)"
+
+# Runs a command that compiles or links. What is refused, or not found by the linker, is reported with the reason, where there is one.
 run_link() {
     local said status=0 line why
     { said=$("$@" 2>&1 1>&3 3>&-) || status=$?; } 3>&1
@@ -190,6 +212,8 @@ run_link() {
             why=$(reason_of "${BASH_REMATCH[1]}")
         fi
         [ -z "$why" ] || line="$self: error: '${BASH_REMATCH[1]}' can't be had: $why"
+        line=${line/"cannot use 'throw' with exceptions disabled"/$no_throw}
+        line=${line/"cannot use 'try' with exceptions disabled"/$no_try}
         echo "$line" >&2
     done <<<"$said"
     return "$status"

@@ -1,72 +1,79 @@
 // The shared state of futures, and futures without a value.
 #include <future>
 
-#include "ends.h"
+#include "aborts.h"
 
 _LIBCPP_BEGIN_NAMESPACE_STD
-
-void __assoc_sub_state::__on_zero_shared() noexcept { delete this; }
 
 static void release(__shared_count *state)
 {
     if (state)
         state->__release_shared();
 }
-static void need_unset(bool has_value)
+
+static void need(bool is_right, future_errc otherwise)
 {
-    if (has_value)
-        __throw_future_error(future_errc::promise_already_satisfied);
+    if (!is_right)
+        __throw_future_error(otherwise);
 }
 
+// ---- The state
+
+void __assoc_sub_state::__on_zero_shared() noexcept { delete this; }
 void __assoc_sub_state::__make_ready()
 {
-    unique_lock<mutex> guard(__mut_);
+    lock_guard<mutex> guard(__mut_);
     __state_ |= ready;
     __cv_.notify_all();
 }
 void __assoc_sub_state::set_value()
 {
-    unique_lock<mutex> guard(__mut_);
-    need_unset(__has_value());
+    lock_guard<mutex> guard(__mut_);
+    need(!__has_value(), future_errc::promise_already_satisfied);
     __state_ |= __constructed | ready;
     __cv_.notify_all();
 }
 void __assoc_sub_state::set_value_at_thread_exit()
 {
-    unique_lock<mutex> guard(__mut_);
-    need_unset(__has_value());
+    lock_guard<mutex> guard(__mut_);
+    need(!__has_value(), future_errc::promise_already_satisfied);
     __state_ |= __constructed;
     __thread_local_data()->__make_ready_at_thread_exit(this);
 }
 void __assoc_sub_state::set_exception(exception_ptr) { predator_ends("promise::set_exception: there are no exceptions"); }
 void __assoc_sub_state::set_exception_at_thread_exit(exception_ptr error) { set_exception(error); }
-void __assoc_sub_state::copy()
+void __assoc_sub_state::copy() { wait(); }
+void __assoc_sub_state::wait()
 {
     unique_lock<mutex> guard(__mut_);
     __sub_wait(guard);
 }
-void __assoc_sub_state::wait() { copy(); }
 void __assoc_sub_state::__sub_wait(unique_lock<mutex> &guard)
 {
-    if (__is_ready())
-        return;
-    if (__state_ & deferred) {
-        __state_ &= ~static_cast<unsigned>(deferred);
-        guard.unlock();
-        __execute();
+    if (__is_ready() || !(__state_ & deferred)) {
+        __cv_.wait(guard, [this] { return __is_ready(); });
         return;
     }
-    while (!__is_ready())
-        __cv_.wait(guard);
+    __state_ &= ~static_cast<unsigned>(deferred);
+    guard.unlock();
+    __execute();
 }
 void __assoc_sub_state::__execute() { __throw_future_error(future_errc::no_state); }
+
+// ---- Futures and promises without a value
+
+static __assoc_sub_state *state_of(__assoc_sub_state *state)
+{
+    need(state, future_errc::no_state);
+    return state;
+}
 
 future<void>::future(__assoc_sub_state *state) : __state_(state) { __state_->__attach_future(); }
 future<void>::~future() { release(__state_); }
 void future<void>::get()
 {
     unique_ptr<__assoc_sub_state, __release_shared_count> state(exchange(__state_, nullptr));
-    state->copy();
+    state->wait();
 }
 
 promise<void>::promise() : __state_(new __assoc_sub_state) {}
@@ -76,16 +83,10 @@ promise<void>::~promise()
         predator_ends("broken promise: it ended without a value while a future waits for it");
     release(__state_);
 }
-static __assoc_sub_state &state_of(__assoc_sub_state *state)
-{
-    if (state == nullptr)
-        __throw_future_error(future_errc::no_state);
-    return *state;
-}
-future<void> promise<void>::get_future() { return future<void>(&state_of(__state_)); }
-void promise<void>::set_value() { state_of(__state_).set_value(); }
-void promise<void>::set_exception(exception_ptr error) { state_of(__state_).set_exception(error); }
-void promise<void>::set_value_at_thread_exit() { state_of(__state_).set_value_at_thread_exit(); }
+future<void> promise<void>::get_future() { return future<void>(state_of(__state_)); }
+void promise<void>::set_value() { state_of(__state_)->set_value(); }
+void promise<void>::set_value_at_thread_exit() { state_of(__state_)->set_value_at_thread_exit(); }
+void promise<void>::set_exception(exception_ptr error) { state_of(__state_)->set_exception(error); }
 void promise<void>::set_exception_at_thread_exit(exception_ptr error) { set_exception(error); }
 
 shared_future<void>::~shared_future() { release(__state_); }

@@ -4,8 +4,7 @@
 #include <string>
 
 #if _LIBCPP_VERSION >= 15000
-namespace std {
-inline namespace __1 {
+_LIBCPP_BEGIN_NAMESPACE_STD
 
 #define INSTANTIATE(...) template __VA_ARGS__;
 _LIBCPP_STRING_V1_EXTERN_TEMPLATE_LIST(INSTANTIATE, char)
@@ -14,23 +13,20 @@ template string operator+<char, char_traits<char>, allocator<char>>(const char *
 #define INSTANTIATE_SORT(type)                                                                                                           \
     template void __sort<__less<type> &, type *>(type *, type *, __less<type> &);                                                        \
     template bool __insertion_sort_incomplete<__less<type> &, type *>(type *, type *, __less<type> &);
+#define INSTANTIATE_SORTS(type)                                                                                                          \
+    INSTANTIATE_SORT(signed type)                                                                                                        \
+    INSTANTIATE_SORT(unsigned type)
 INSTANTIATE_SORT(char)
-INSTANTIATE_SORT(signed char)
-INSTANTIATE_SORT(unsigned char)
-INSTANTIATE_SORT(short)
-INSTANTIATE_SORT(unsigned short)
-INSTANTIATE_SORT(int)
-INSTANTIATE_SORT(unsigned)
-INSTANTIATE_SORT(long)
-INSTANTIATE_SORT(unsigned long)
-INSTANTIATE_SORT(long long)
-INSTANTIATE_SORT(unsigned long long)
+INSTANTIATE_SORTS(char)
+INSTANTIATE_SORTS(short)
+INSTANTIATE_SORTS(int)
+INSTANTIATE_SORTS(long)
+INSTANTIATE_SORTS(long long)
 INSTANTIATE_SORT(float)
 INSTANTIATE_SORT(double)
 INSTANTIATE_SORT(long double)
-template unsigned __sort5<__less<long double> &, long double *>(long double *, long double *, long double *, long double *, long double *,
-                                                               __less<long double> &);
+using Long = long double;
+template unsigned __sort5<__less<Long> &, Long *>(Long *, Long *, Long *, Long *, Long *, __less<Long> &);
 
-} // namespace __1
-} // namespace std
+_LIBCPP_END_NAMESPACE_STD
 #endif

@@ -7,11 +7,9 @@
 #include <thread>
 #include <vector>
 
-#include <pthread.h>
-#include <time.h>
 #include <unistd.h>
 
-#include "ends.h"
+#include "aborts.h"
 
 _LIBCPP_BEGIN_NAMESPACE_STD
 
@@ -24,24 +22,22 @@ static void check(int error, const char *what)
 
 // ---- Locks
 
-mutex::~mutex() noexcept { pthread_mutex_destroy(&__m_); }
-void mutex::lock() { check(pthread_mutex_lock(&__m_), "mutex lock failed"); }
-bool mutex::try_lock() noexcept { return pthread_mutex_trylock(&__m_) == 0; }
-void mutex::unlock() noexcept { pthread_mutex_unlock(&__m_); }
+#define PLAIN_LOCK(name)                                                                                                                 \
+    name::~name() noexcept { pthread_mutex_destroy(&__m_); }                                                                             \
+    void name::lock() { check(pthread_mutex_lock(&__m_), #name " lock failed"); }                                                        \
+    bool name::try_lock() noexcept { return pthread_mutex_trylock(&__m_) == 0; }                                                         \
+    void name::unlock() noexcept { pthread_mutex_unlock(&__m_); }
 
+PLAIN_LOCK(mutex)
+PLAIN_LOCK(recursive_mutex)
 recursive_mutex::recursive_mutex() { check(__libcpp_recursive_mutex_init(&__m_), "recursive_mutex constructor failed"); }
-recursive_mutex::~recursive_mutex() { pthread_mutex_destroy(&__m_); }
-void recursive_mutex::lock() { check(pthread_mutex_lock(&__m_), "recursive_mutex lock failed"); }
-bool recursive_mutex::try_lock() noexcept { return pthread_mutex_trylock(&__m_) == 0; }
-void recursive_mutex::unlock() noexcept { pthread_mutex_unlock(&__m_); }
 
 timed_mutex::timed_mutex() : __locked_(false) {}
 timed_mutex::~timed_mutex() { lock_guard<mutex> last(__m_); }
 void timed_mutex::lock()
 {
     unique_lock<mutex> guard(__m_);
-    while (__locked_)
-        __cv_.wait(guard);
+    __cv_.wait(guard, [this] { return !__locked_; });
     __locked_ = true;
 }
 bool timed_mutex::try_lock() noexcept
@@ -61,8 +57,7 @@ recursive_timed_mutex::~recursive_timed_mutex() { lock_guard<mutex> last(__m_); 
 void recursive_timed_mutex::lock()
 {
     unique_lock<mutex> guard(__m_);
-    while (__count_ > 0 && __id_ != this_thread::get_id())
-        __cv_.wait(guard);
+    __cv_.wait(guard, [this] { return __count_ == 0 || __id_ == this_thread::get_id(); });
     __count_++;
     __id_ = this_thread::get_id();
 }
@@ -78,10 +73,10 @@ bool recursive_timed_mutex::try_lock() noexcept
 void recursive_timed_mutex::unlock() noexcept
 {
     lock_guard<mutex> guard(__m_);
-    if (--__count_ == 0) {
-        __id_ = {};
-        __cv_.notify_one();
-    }
+    if (--__count_ > 0)
+        return;
+    __id_ = {};
+    __cv_.notify_one();
 }
 
 // A writer announces itself first, so no reader comes after it, and then waits for the readers to leave.
@@ -89,11 +84,9 @@ __shared_mutex_base::__shared_mutex_base() : __state_(0) {}
 void __shared_mutex_base::lock()
 {
     unique_lock<mutex> guard(__mut_);
-    while (__state_ & __write_entered_)
-        __gate1_.wait(guard);
+    __gate1_.wait(guard, [this] { return !(__state_ & __write_entered_); });
     __state_ |= __write_entered_;
-    while (__state_ & __n_readers_)
-        __gate2_.wait(guard);
+    __gate2_.wait(guard, [this] { return !(__state_ & __n_readers_); });
 }
 bool __shared_mutex_base::try_lock()
 {
@@ -112,8 +105,7 @@ void __shared_mutex_base::unlock()
 void __shared_mutex_base::lock_shared()
 {
     unique_lock<mutex> guard(__mut_);
-    while (__state_ >= __n_readers_)
-        __gate1_.wait(guard);
+    __gate1_.wait(guard, [this] { return __state_ < __n_readers_; });
     __state_++;
 }
 bool __shared_mutex_base::try_lock_shared()
@@ -127,8 +119,7 @@ bool __shared_mutex_base::try_lock_shared()
 void __shared_mutex_base::unlock_shared()
 {
     lock_guard<mutex> guard(__mut_);
-    bool was_full = __state_ == __n_readers_;
-    __state_--;
+    bool was_full = __state_-- == __n_readers_;
     if (__state_ == __write_entered_)
         __gate2_.notify_one();
     else if (was_full)
@@ -136,18 +127,16 @@ void __shared_mutex_base::unlock_shared()
 }
 
 // (the member's name has changed with version 16)
-#if _LIBCPP_VERSION < 16000
-#define TIMED_BASE __base
-#else
-#define TIMED_BASE __base_
+#if _LIBCPP_VERSION >= 16000
+#define __base __base_
 #endif
-shared_timed_mutex::shared_timed_mutex() : TIMED_BASE() {}
-void shared_timed_mutex::lock() { TIMED_BASE.lock(); }
-bool shared_timed_mutex::try_lock() { return TIMED_BASE.try_lock(); }
-void shared_timed_mutex::unlock() { TIMED_BASE.unlock(); }
-void shared_timed_mutex::lock_shared() { TIMED_BASE.lock_shared(); }
-bool shared_timed_mutex::try_lock_shared() { return TIMED_BASE.try_lock_shared(); }
-void shared_timed_mutex::unlock_shared() { TIMED_BASE.unlock_shared(); }
+shared_timed_mutex::shared_timed_mutex() : __base() {}
+void shared_timed_mutex::lock() { __base.lock(); }
+bool shared_timed_mutex::try_lock() { return __base.try_lock(); }
+void shared_timed_mutex::unlock() { __base.unlock(); }
+void shared_timed_mutex::lock_shared() { __base.lock_shared(); }
+bool shared_timed_mutex::try_lock_shared() { return __base.try_lock_shared(); }
+void shared_timed_mutex::unlock_shared() { __base.unlock_shared(); }
 
 // The state of a flag: 0 before the first call, 1 while one runs, and all bits once one returned.
 void __call_once(volatile unsigned long &state, void *argument, void (*function)(void *))
@@ -155,8 +144,7 @@ void __call_once(volatile unsigned long &state, void *argument, void (*function)
     static mutex lock;
     static condition_variable changes;
     unique_lock<mutex> guard(lock);
-    while (state == 1)
-        changes.wait(guard);
+    changes.wait(guard, [&state] { return state != 1; });
     if (state != 0)
         return;
     state = 1;
@@ -174,17 +162,14 @@ void condition_variable::notify_one() noexcept { pthread_cond_signal(&__cv_); }
 void condition_variable::notify_all() noexcept { pthread_cond_broadcast(&__cv_); }
 void condition_variable::wait(unique_lock<mutex> &guard) noexcept
 {
-    if (!guard.owns_lock())
-        __throw_system_error(EPERM, "condition_variable::wait: mutex not locked");
+    check(guard.owns_lock() ? 0 : EPERM, "condition_variable::wait: mutex not locked");
     check(pthread_cond_wait(&__cv_, guard.mutex()->native_handle()), "condition_variable wait failed");
 }
 void condition_variable::__do_timed_wait(
     unique_lock<mutex> &guard, chrono::time_point<chrono::system_clock, chrono::nanoseconds> until) noexcept
 {
-    if (!guard.owns_lock())
-        __throw_system_error(EPERM, "condition_variable::timed wait: mutex not locked");
-    auto since = max(until.time_since_epoch(), chrono::nanoseconds(0)).count();
-    struct timespec time = {(time_t)(since / 1000000000), (long)(since % 1000000000)};
+    check(guard.owns_lock() ? 0 : EPERM, "condition_variable::timed wait: mutex not locked");
+    timespec time = __convert_to_timespec<timespec>(max(until.time_since_epoch(), chrono::nanoseconds(0)));
     int error = pthread_cond_timedwait(&__cv_, guard.mutex()->native_handle(), &time);
     check(error == ETIMEDOUT ? 0 : error, "condition_variable timed wait failed");
 }
@@ -207,13 +192,10 @@ void thread::detach()
     __t_ = 0;
 }
 unsigned thread::hardware_concurrency() noexcept { return sysconf(_SC_NPROCESSORS_ONLN); }
-
-namespace this_thread {
-void sleep_for(const chrono::nanoseconds &span)
+void this_thread::sleep_for(const chrono::nanoseconds &span)
 {
     if (span > chrono::nanoseconds::zero())
         __libcpp_thread_sleep_for(span);
-}
 }
 
 // What is done when a thread ends: locks are let go and futures become ready.
@@ -236,10 +218,7 @@ public:
 };
 __thread_struct::__thread_struct() : __p_(new __thread_struct_imp) {}
 __thread_struct::~__thread_struct() { delete __p_; }
-void __thread_struct::notify_all_at_thread_exit(condition_variable *condition, mutex *lock)
-{
-    __p_->conditions.emplace_back(condition, lock);
-}
+void __thread_struct::notify_all_at_thread_exit(condition_variable *condition, mutex *lock) { __p_->conditions.emplace_back(condition, lock); }
 void __thread_struct::__make_ready_at_thread_exit(__assoc_sub_state *state)
 {
     state->__add_shared();

@@ -3,41 +3,39 @@
 #include <cstddef>
 #include <typeinfo>
 
-#include "ends.h"
+#include "aborts.h"
 
 std::type_info::~type_info() {}
 
 namespace {
+
+// The one object of a kind that a walk over all bases of an object finds, and whether some way to it is public.
+struct Found {
+    const char *object = nullptr;
+    bool is_ambiguous = false, is_public = false;
+
+    void add(const char *other, bool is_public_way)
+    {
+        is_ambiguous = is_ambiguous || (object && object != other);
+        object = other;
+        is_public = is_public || is_public_way;
+    }
+    const char *accessible() const { return is_public && !is_ambiguous ? object : nullptr; }
+};
 
 // A dynamic_cast of the object at `start`, whose class is `from`, to a class `to`, and what a walk over all bases of the whole object
 // has found: objects of `to`, and among these the ones with `start` as a base.
 struct Cast {
     const std::type_info &from, &to;
     const void *start;
-    const char *target = nullptr, *above_start = nullptr;
-    bool many_targets = false, many_above_start = false;
-    bool is_target_public = false, is_start_public = false, is_above_start_public = false;
-
-    void add_target(const char *object, bool is_public)
-    {
-        many_targets = many_targets || (target && target != object);
-        target = object;
-        is_target_public = is_target_public || is_public;
-    }
-
-    void add_above_start(const char *object, bool is_public)
-    {
-        many_above_start = many_above_start || (above_start && above_start != object);
-        above_start = object;
-        is_above_start_public = is_above_start_public || is_public;
-    }
+    Found targets, above_start;
+    bool is_start_public = false;
 
     // The C++ standard, [expr.dynamic.cast]: a derived object of the one at `start`, or else an unambiguous public base of the whole.
     const char *result() const
     {
-        if (above_start && !many_above_start && is_above_start_public)
-            return above_start;
-        return target && !many_targets && is_target_public && is_start_public ? target : nullptr;
+        const char *derived = above_start.accessible();
+        return derived || !is_start_public ? derived : targets.accessible();
     }
 };
 
@@ -51,7 +49,11 @@ struct Way {
     Way through(bool is_public_base) const { return {is_public && is_public_base, target, is_public_from_target && is_public_base}; }
 };
 
-const char *vtable_of(const void *object) { return *static_cast<const char *const *>(object); }
+// (before an object's first virtual function stand the places of its virtual bases, where the whole object begins, and its type)
+template <class Value> Value beside_functions(const void *object, std::ptrdiff_t offset)
+{
+    return *reinterpret_cast<const Value *>(*static_cast<const char *const *>(object) + offset);
+}
 
 } // namespace
 
@@ -71,72 +73,66 @@ TYPE_CLASS(__pbase_type_info)
 TYPE_CLASS(__pointer_type_info)
 TYPE_CLASS(__pointer_to_member_type_info)
 
-// A class without bases.
+// A class without bases. (Where a class's first own function is defined, the compiler writes its table of functions.)
 struct __class_type_info : std::type_info {
-    ~__class_type_info() override;
-    virtual void walk_bases(Cast &, const char *, Way) const {}
+    virtual void walk_bases(Cast &, const char *, Way) const;
 
     void walk(Cast &cast, const char *object, Way way) const
     {
         if (*this == cast.to) {
-            cast.add_target(object, way.is_public);
+            cast.targets.add(object, way.is_public);
             way = {way.is_public, object, true};
         }
         if (object == cast.start && *this == cast.from) {
             cast.is_start_public = cast.is_start_public || way.is_public;
             if (way.target)
-                cast.add_above_start(way.target, way.is_public_from_target);
+                cast.above_start.add(way.target, way.is_public_from_target);
         }
         walk_bases(cast, object, way);
     }
 };
-__class_type_info::~__class_type_info() {}
+void __class_type_info::walk_bases(Cast &, const char *, Way) const {}
 
 // A class with one base, which is public, not virtual and at its beginning.
 struct __si_class_type_info : __class_type_info {
     const __class_type_info *base;
-    ~__si_class_type_info() override;
-    void walk_bases(Cast &cast, const char *object, Way way) const override { base->walk(cast, object, way); }
+    void walk_bases(Cast &cast, const char *object, Way way) const override;
 };
-__si_class_type_info::~__si_class_type_info() {}
+void __si_class_type_info::walk_bases(Cast &cast, const char *object, Way way) const { base->walk(cast, object, way); }
 
-// A base: above the lowest eight bits of `offset_and_flags` its place, or for a virtual one that of its place in the table of functions.
-struct __base_class_type_info {
-    const __class_type_info *base;
+// A base: above the lowest eight bits of `offset_and_flags` its place, or for a virtual one that of its place beside the functions.
+struct Base {
+    const __class_type_info *type;
     long offset_and_flags;
     enum { IS_VIRTUAL = 1, IS_PUBLIC = 2, OFFSET_SHIFT = 8 };
 
     const char *in(const char *object) const
     {
         std::ptrdiff_t offset = offset_and_flags >> OFFSET_SHIFT;
-        return object + (offset_and_flags & IS_VIRTUAL ? *reinterpret_cast<const std::ptrdiff_t *>(vtable_of(object) + offset) : offset);
+        return object + (offset_and_flags & IS_VIRTUAL ? beside_functions<std::ptrdiff_t>(object, offset) : offset);
     }
 };
 
 // Any other class with bases.
 struct __vmi_class_type_info : __class_type_info {
     unsigned flags, count;
-    __base_class_type_info bases[1];
-    ~__vmi_class_type_info() override;
-
-    void walk_bases(Cast &cast, const char *object, Way way) const override
-    {
-        for (const __base_class_type_info *it = bases; it != bases + count; it++)
-            it->base->walk(cast, it->in(object), way.through(it->offset_and_flags & __base_class_type_info::IS_PUBLIC));
-    }
+    Base bases[1];
+    void walk_bases(Cast &cast, const char *object, Way way) const override;
 };
-__vmi_class_type_info::~__vmi_class_type_info() {}
+void __vmi_class_type_info::walk_bases(Cast &cast, const char *object, Way way) const
+{
+    for (const Base *it = bases; it != bases + count; it++)
+        it->type->walk(cast, it->in(object), way.through(it->offset_and_flags & Base::IS_PUBLIC));
+}
 
 extern "C" void *__dynamic_cast(const void *object, const __class_type_info *from, const __class_type_info *to, std::ptrdiff_t)
 {
-    // (before an object's first virtual function stand where the whole object begins, and its type)
-    const char *vtable = vtable_of(object);
-    const char *whole = static_cast<const char *>(object) + reinterpret_cast<const std::ptrdiff_t *>(vtable)[-2];
-    const __class_type_info *type = reinterpret_cast<const __class_type_info *const *>(vtable)[-1];
+    std::ptrdiff_t word = sizeof(void *);
+    auto *type = beside_functions<const __class_type_info *>(object, -word);
     if (!type)
         predator_ends("dynamic_cast: the object's class was compiled without -frtti");
-    Cast cast{*from, *to, object};
-    type->walk(cast, whole, {});
+    Cast cast{*from, *to, object, {}, {}};
+    type->walk(cast, static_cast<const char *>(object) + beside_functions<std::ptrdiff_t>(object, -2 * word), {});
     return const_cast<char *>(cast.result());
 }
 

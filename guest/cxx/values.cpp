@@ -1,19 +1,14 @@
 // What is left of the C++ library's own functions: counted owners, waits for atomic variables, clocks, numbers and texts.
-#include <algorithm>
 #include <atomic>
 #include <cerrno>
 #include <charconv>
 #include <chrono>
 #include <cstdio>
-#include <cstdlib>
-#include <functional>
 #include <memory>
 #include <string>
 #include <unordered_map>
 
-#include <time.h>
-
-#include "ends.h"
+#include "aborts.h"
 #include "../predator.h"
 
 _LIBCPP_BEGIN_NAMESPACE_STD
@@ -39,11 +34,11 @@ __shared_weak_count *__shared_weak_count::lock() noexcept
 const void *__shared_weak_count::__get_deleter(const type_info &) const noexcept { return nullptr; }
 void *align(size_t alignment, size_t size, void *&from, size_t &room)
 {
-    uintptr_t first = reinterpret_cast<uintptr_t>(from), at = (first + alignment - 1) & ~(uintptr_t)(alignment - 1);
-    if (room < size || room - size < at - first)
+    size_t skipped = -reinterpret_cast<uintptr_t>(from) % alignment;
+    if (room < size || room - size < skipped)
         return nullptr;
-    room -= at - first;
-    return from = reinterpret_cast<void *>(at);
+    room -= skipped;
+    return from = static_cast<char *>(from) + skipped;
 }
 
 // ---- Waits for atomic variables: each variable has one of some counters, by its address. A change counts, and who waits looks anew.
@@ -51,27 +46,27 @@ void *align(size_t alignment, size_t size, void *&from, size_t &room)
 struct alignas(64) Changes {
     atomic<uint32_t> count;
 };
-static Changes changes[16];
-static Changes &changes_of(const volatile void *variable)
+static auto *changes_of(const volatile void *variable)
 {
+    static Changes changes[16];
     uintptr_t at = reinterpret_cast<uintptr_t>(variable) / 4;
-    return changes[(at ^ at / 16) % 16];
+    return &changes[(at ^ at / 16) % 16].count;
 }
 static void notify(const volatile void *variable)
 {
-    auto &of = changes_of(variable).count;
-    of.fetch_add(1);
-    predator_wake(reinterpret_cast<const volatile uint32_t *>(&of), 0xffffffff);
+    auto *count = changes_of(variable);
+    count->fetch_add(1);
+    predator_wake(reinterpret_cast<volatile uint32_t *>(count), 0xffffffff);
 }
 
 // (variables share counters, so all that wait are woken)
 #define ATOMIC_WAITS(type)                                                                                                               \
     void __cxx_atomic_notify_one(const volatile type *variable) { notify(variable); }                                                    \
     void __cxx_atomic_notify_all(const volatile type *variable) { notify(variable); }                                                    \
-    __cxx_contention_t __libcpp_atomic_monitor(const volatile type *variable) { return changes_of(variable).count.load(); }             \
+    __cxx_contention_t __libcpp_atomic_monitor(const volatile type *variable) { return changes_of(variable)->load(); }                  \
     void __libcpp_atomic_wait(const volatile type *variable, __cxx_contention_t seen)                                                    \
     {                                                                                                                                    \
-        predator_wait(reinterpret_cast<const volatile uint32_t *>(&changes_of(variable).count), (uint32_t)seen);                         \
+        predator_wait(reinterpret_cast<volatile uint32_t *>(changes_of(variable)), (uint32_t)seen);                                      \
     }
 
 ATOMIC_WAITS(void)
@@ -79,22 +74,16 @@ ATOMIC_WAITS(__cxx_atomic_contention_t)
 
 // ---- Clocks
 
-static chrono::nanoseconds read_clock(clockid_t clock)
-{
-    struct timespec now;
-    clock_gettime(clock, &now);
-    return chrono::seconds(now.tv_sec) + chrono::nanoseconds(now.tv_nsec);
-}
 namespace chrono {
+static nanoseconds read_clock(clockid_t clock)
+{
+    timespec now;
+    clock_gettime(clock, &now);
+    return seconds(now.tv_sec) + nanoseconds(now.tv_nsec);
+}
 steady_clock::time_point steady_clock::now() noexcept { return time_point(read_clock(CLOCK_MONOTONIC)); }
-system_clock::time_point system_clock::now() noexcept
-{
-    return time_point(duration_cast<duration>(read_clock(CLOCK_REALTIME)));
-}
-time_t system_clock::to_time_t(const time_point &time) noexcept
-{
-    return duration_cast<seconds>(time.time_since_epoch()).count();
-}
+system_clock::time_point system_clock::now() noexcept { return time_point(duration_cast<duration>(read_clock(CLOCK_REALTIME))); }
+time_t system_clock::to_time_t(const time_point &time) noexcept { return duration_cast<seconds>(time.time_since_epoch()).count(); }
 system_clock::time_point system_clock::from_time_t(time_t time) noexcept { return time_point(seconds(time)); }
 }
 
@@ -102,17 +91,15 @@ system_clock::time_point system_clock::from_time_t(time_t time) noexcept { retur
 
 static bool is_prime(size_t number)
 {
-    for (size_t by = 3; by <= number / by; by += 2)
-        if (number % by == 0)
-            return false;
-    return number % 2 == 1 || number == 2;
+    size_t by = 2;
+    while (by <= number / by && number % by != 0)
+        by++;
+    return by > number / by;
 }
 size_t __next_prime(size_t least)
 {
-    if (least <= 2)
-        return least;
-    for (least |= 1; !is_prime(least); least += 2) {
-    }
+    while (!is_prime(least))
+        least++;
     return least;
 }
 
@@ -121,14 +108,10 @@ size_t __next_prime(size_t least)
 namespace __itoa {
 char *__u64toa(uint64_t value, char *text) noexcept
 {
-    char digits[20];
-    int count = 0;
-    do
-        digits[count++] = '0' + value % 10;
-    while ((value /= 10) != 0);
-    while (count > 0)
-        *text++ = digits[--count];
-    return text;
+    if (value >= 10)
+        text = __u64toa(value / 10, text);
+    *text = '0' + value % 10;
+    return text + 1;
 }
 char *__u32toa(uint32_t value, char *text) noexcept { return __u64toa(value, text); }
 }
@@ -141,24 +124,23 @@ static Value parse(const char *name, Wide (*read)(const char *, char **, Base...
     Wide value = read(text.c_str(), &behind, base...);
     int error = exchange(errno, before);
     if (behind == text.c_str())
-        predator_ends((string(name) + ": no conversion").c_str());
+        predator_ends(name, ": no conversion");
     if (error == ERANGE || (is_integral<Value>::value && (Wide)(Value)value != value))
-        predator_ends((string(name) + ": out of range").c_str());
+        predator_ends(name, ": out of range");
     if (end)
         *end = behind - text.c_str();
     return (Value)value;
 }
-int stoi(const string &text, size_t *end, int base) { return parse<int>("stoi", strtol, text, end, base); }
-long stol(const string &text, size_t *end, int base) { return parse<long>("stol", strtol, text, end, base); }
-long long stoll(const string &text, size_t *end, int base) { return parse<long long>("stoll", strtoll, text, end, base); }
-unsigned long stoul(const string &text, size_t *end, int base) { return parse<unsigned long>("stoul", strtoul, text, end, base); }
-unsigned long long stoull(const string &text, size_t *end, int base)
-{
-    return parse<unsigned long long>("stoull", strtoull, text, end, base);
-}
-float stof(const string &text, size_t *end) { return parse<float>("stof", strtof, text, end); }
-double stod(const string &text, size_t *end) { return parse<double>("stod", strtod, text, end); }
-long double stold(const string &text, size_t *end) { return parse<long double>("stold", strtod, text, end); }
+#define WHOLE(type, name, read) type name(const string &text, size_t *end, int base) { return parse<type>(#name, read, text, end, base); }
+#define FRACTION(type, name, read) type name(const string &text, size_t *end) { return parse<type>(#name, read, text, end); }
+WHOLE(int, stoi, strtol)
+WHOLE(long, stol, strtol)
+WHOLE(long long, stoll, strtoll)
+WHOLE(unsigned long, stoul, strtoul)
+WHOLE(unsigned long long, stoull, strtoull)
+FRACTION(float, stof, strtof)
+FRACTION(double, stod, strtod)
+FRACTION(long double, stold, strtod)
 
 template <class Value> static string print(const char *format, Value value)
 {
@@ -166,14 +148,15 @@ template <class Value> static string print(const char *format, Value value)
     snprintf(text, sizeof text, format, value);
     return text;
 }
-string to_string(int value) { return print("%d", value); }
-string to_string(unsigned value) { return print("%u", value); }
-string to_string(long value) { return print("%ld", value); }
-string to_string(unsigned long value) { return print("%lu", value); }
-string to_string(long long value) { return print("%lld", value); }
-string to_string(unsigned long long value) { return print("%llu", value); }
-string to_string(float value) { return print("%f", (double)value); }
-string to_string(double value) { return print("%f", value); }
-string to_string(long double value) { return print("%f", (double)value); }
+#define TO_STRING(type, format) string to_string(type value) { return print(format, value); }
+TO_STRING(int, "%d")
+TO_STRING(unsigned, "%u")
+TO_STRING(long, "%ld")
+TO_STRING(unsigned long, "%lu")
+TO_STRING(long long, "%lld")
+TO_STRING(unsigned long long, "%llu")
+TO_STRING(double, "%f")
+string to_string(float value) { return to_string((double)value); }
+string to_string(long double value) { return to_string((double)value); }
 
 _LIBCPP_END_NAMESPACE_STD

@@ -25,7 +25,7 @@
 #define PREDATOR_NO_FILE PREDATOR_MISSING(file, "there are no files but an empty stdin, stdout and stderr: put data into the program")
 #define PREDATOR_NO_SHARED PREDATOR_MISSING(shared, "there are no shared libraries: link what is wanted into the program")
 #define PREDATOR_NO_REMAP PREDATOR_MISSING(remap, "a mapping can't be made larger or moved: map another one, and copy")
-#define PREDATOR_NO_EXCEPTION PREDATOR_MISSING(exception, "C++ has no exceptions here: build with -fno-exceptions")
+#define PREDATOR_NO_EXCEPTION PREDATOR_MISSING(exception, "a guest has no exceptions: build with -fno-exceptions")
 #define PREDATOR_NO_TYPEINFO PREDATOR_MISSING(typeinfo, "type information needs LLVM's C++ library (Debian: libc++-14-dev); or build with -fno-rtti")
 
 #endif

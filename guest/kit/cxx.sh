@@ -39,8 +39,8 @@ builds "C++" "$cxx" -std=c++17 -Wall -Wextra -Werror plus.cc -o plus.elf
 builds "C++ by parts" bash -c '"$0" -c plus.cc -o plus.o && "$0" plus.o -o parts.elf' "$cxx"
 builds "C++ through a link" ./linked-c++ plus.cc -o plus2.elf
 echo 'int main() { throw 1; }' >throws.cc
-refuses "an exception" "exceptions disabled" "$cxx" throws.cc -o x.elf
-refuses "an exception that is insisted on" "can't be had: C++ has no exceptions here" "$cxx" -fexceptions throws.cc -o x.elf
+refuses "an exception" "throws.cc:1:14: error: a guest has no exceptions: 'throw'" "$cxx" throws.cc -o x.elf
+refuses "an exception that is insisted on" "can't be had: a guest has no exceptions" "$cxx" -fexceptions throws.cc -o x.elf
 printf 'struct a { virtual ~a() {} }; struct b : a {};\nint main() { a *it = new b; return dynamic_cast<b *>(it) == nullptr; }\n' >casts.cc
 refuses "type information" "-frtti" "$cxx" casts.cc -o x.elf
 refuses "type information without LLVM's library" "can't be had: type information needs" env LIBCXX=none "$cxx" -frtti casts.cc -o x.elf
@@ -83,6 +83,14 @@ headers_are "headers of two other versions" 16
 add_headers 14
 headers_are "headers of the compiler's version" 14
 
+# A version that needs a newer compiler, as its own header says, and no headers at all.
+echo '#  define _LIBCPP_VERSION 190107' >llvm/llvm-19/include/c++/v1/__config
+mkdir llvm/llvm-19/include/c++/v1/__configuration
+echo '#      warning "Libc++ only supports Clang 99 and later"' >llvm/llvm-19/include/c++/v1/__configuration/compiler.h
+refuses "headers of a newer version" "has version 19 of LLVM's C++ library, which needs clang 99 or later, and this is clang $(clang -dumpversion | sed 's/[.].*//'): guests take 14, 15 or 16 (Debian: libc++-14-dev)" \
+    env LIBCXX=llvm/llvm-19/include/c++/v1 "$cxx" -c vector.cc
+refuses "a folder without headers" "has no headers of LLVM's C++ library" env LIBCXX="$work" "$build" x.elf vector.cc
+
 # ---- C++ with them
 
 library=$(bash -c 'self=kit.sh here=$1; . "$here/common.bash"; cxx_headers /usr/lib' all "$here")
@@ -92,10 +100,24 @@ if [ -n "$library" ]; then
     refuses "streams" "use printf" "$cxx" -c streams.cc
     refuses "streams, by build.sh" "use printf" "$build" x.elf streams.cc
     echo 'int main() { try { return 1; } catch (...) { return 2; } }' >tries.cc
-    refuses "a handler of exceptions" "cannot use 'try' with exceptions disabled" "$cxx" -c tries.cc
-    refuses "an exception, by build.sh" "cannot use 'throw' with exceptions disabled" "$build" x.elf throws.cc
+    refuses "a handler of exceptions" "tries.cc:1:14: error: a guest has no exceptions: 'try'" "$cxx" -c tries.cc
+    refuses "an exception, by build.sh" "throws.cc:1:14: error: a guest has no exceptions: 'throw'" "$build" x.elf throws.cc
     printf '#include <vector>\nint main() { return std::vector<int>(3).size() - 3; }\n' >sized.cpp
     builds "C++ by build.sh" "$build" sized.elf sized.cpp
+    cat >hello.cpp <<'C'
+#include <cstdio>
+#include <thread>
+int main()
+{
+    std::thread first([] { std::printf("hello from %d\n", 1); }), second([] { std::puts("hello from 2"); });
+    first.join();
+    second.join();
+}
+C
+    builds "two threads of C++ without debug information" "$build" hello.elf hello.cpp -- -g0
+    size=$(stat -c %s hello.elf)
+    if ((size < 40000)); then pass_check; else fail_check "two threads of C++ take $size bytes"; fi
+    expect_equal "debug information of two threads" "" "$(llvm-readelf -S hello.elf | grep -o '[.]debug[^ ]*')"
     echo 'int twice(int class) { return 2 * class; }' >half.c
     printf 'extern "C" int twice(int);\nint main() { return twice(2) - 4; }\n' >other.cpp
     builds "C and C++ together" "$build" mixed.elf other.cpp half.c
@@ -119,7 +141,7 @@ C
         builds "C++ with the headers of $it" env LIBCXX="$it" "$cxx" -Wall -Wextra -Werror sized.cpp -o "sized-$(basename "${it%/include/*}").elf"
     done
 else
-    skip_checks 9 "what has C++'s library wants its headers (Debian: libc++-14-dev)"
+    skip_checks 12 "what has C++'s library wants its headers (Debian: libc++-14-dev)"
 fi
 
 # ---- CMake
