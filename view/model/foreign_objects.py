@@ -5,6 +5,7 @@ from typing import Sequence
 
 from view.model.object_keys import FileKey
 from view.names.naming import BEGINNINGS, KIT, THREAD_LOCALS, Naming
+from view.names.naming import LIBRARIES as HEADERS
 from view.model.objects import DataObject
 from view.reading.reports import Block, Site, Symbol
 
@@ -12,6 +13,8 @@ from view.reading.reports import Block, Site, Symbol
 LIBRARIES = re.compile(
     r"(?:^|/)(?:lib(?:c|m|dl|rt|pthread|resolv|gcc_s)[.-][^/]*|ld-linux[^/]*|vgpreload_[^/]*)$|^\["
 )
+# The function of LLVM's C++ library in which threads begin.
+THREAD_PROXY = "__thread_proxy"
 # Names that are kept for a C library.
 RESERVED = re.compile(r"__|_[A-Z]")
 
@@ -64,7 +67,11 @@ def is_foreign_site(site: Site, naming: Naming) -> bool:
     files = (
         [it.file for it in naming.sources.frames(site.addr) if it.file] if naming.sources else []
     )
-    return site.name in BEGINNINGS or all(KIT.search(it) for it in files)
+    # (where a thread of C++ begins; a function of the program that is compiled into it has its own file)
+    is_proxy = THREAD_PROXY in site.name
+    return site.name in BEGINNINGS or all(
+        KIT.search(it) or is_proxy and HEADERS.search(it) for it in files
+    )
 
 
 def row_of(folded: Sequence[DataObject], has_runtime: bool = False) -> str:

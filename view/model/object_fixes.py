@@ -5,6 +5,8 @@ from typing import TYPE_CHECKING, Sequence
 
 from view.model.object_keys import StackKey
 from view.model.objects import DataObject, WordUse, field_name_at
+from view.names.block_types import CPP_SOURCE
+from view.names.debug_entries import Die
 from view.names.unnamed_memory import HEAP
 from view.reading.byte_traces import MAX_ACCESSES
 from view.reading.reports import Block, Symbol
@@ -24,7 +26,33 @@ class ObjectFixes:
         self.view = view
 
     def choose(self, obj: DataObject, words: list[WordUse]) -> str:
-        """The fix for an object."""
+        """The fix for an object, in the language of its source."""
+        return advice.in_language(self.choose_in_c(obj, words), self.is_cpp(obj))
+
+    def numbers(self, obj: DataObject) -> str:
+        """The numbers of the trial of an object's repairs, or nothing."""
+        return advice.in_language(self.numbers_in_c(obj), self.is_cpp(obj))
+
+    def is_cpp(self, obj: DataObject) -> bool:
+        """Whether an object's source is C++: that of a variable, or of the line that makes blocks, and of other memory that of `main`."""
+        naming, example = self.view.naming, obj.example
+        program = getattr(naming.program, "main", naming.program)
+        if isinstance(example, Block) and example.sites:
+            frame = naming.own_place(naming.own_sites(example.sites)[0].addr)
+            return frame is not None and bool(CPP_SOURCE.search(frame.file))
+        if naming.program is None:
+            return False
+        from view.names.fields import Program, is_cpp, value_or_default
+
+        def dies(program: Program) -> list[Die]:
+            program.scan_variables()
+            variable = program.variable(example.addr) if isinstance(example, Symbol) else None
+            return list(variable.dies if variable else program.functions.get("main", []))
+
+        is_known = isinstance(program, Program)
+        return is_known and any(is_cpp(it) for it in value_or_default(lambda: dies(program), []))
+
+    def choose_in_c(self, obj: DataObject, words: list[WordUse]) -> str:
         if self.is_small():
             return f"none: only {self.view.accesses:,} accesses were seen; did the compiler remove a loop?"
         tried = self.view.decisive_trial(obj)
@@ -103,8 +131,7 @@ class ObjectFixes:
             f" 4-byte word{more}"
         )
 
-    def numbers(self, obj: DataObject) -> str:
-        """The numbers of the trial of an object's repairs, or nothing."""
+    def numbers_in_c(self, obj: DataObject) -> str:
         tried = self.view.decisive_trial(obj)
         if self.is_small() or not obj.useless and tried and not tried.has_other_reason():
             return ""
@@ -130,7 +157,7 @@ class ObjectFixes:
             return value_or_default(lambda: of_array(array), "")
 
         def of_array(array: str) -> str:
-            from view.names.fields import type_at_path, element_of
+            from view.names.field_paths import element_of, type_at_path
             from view.repairs.layouts import Shape
             from view.repairs.units import own_lines_code
 

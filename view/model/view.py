@@ -503,7 +503,8 @@ class View:
         program, example = self.naming.program, obj.example
         if program is None or example is None:
             return ""
-        from view.names.fields import value_or_default, type_name
+        from view.names.cpp_storage import held_type
+        from view.names.fields import type_name, value_or_default
 
         if isinstance(example, Symbol):
             variable = program.variable(example.addr)
@@ -512,7 +513,7 @@ class View:
             block = example
             of = value_or_default(lambda: self.naming.type_of_block(block), None)
         return (
-            value_or_default(lambda: type_name(of), "").replace(" (unnamed)", "")
+            value_or_default(lambda: type_name(held_type(of)), "").replace(" (unnamed)", "")
             if of is not None
             else ""
         )

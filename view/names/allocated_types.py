@@ -4,6 +4,7 @@ import re
 from typing import Callable, Iterator, Sequence
 
 from view.names.debug_entries import Die
+from view.names.field_paths import record_parts
 from view.names.fields import (
     POINTERS,
     RECORDS,
@@ -11,7 +12,6 @@ from view.names.fields import (
     attribute_value,
     bare_type,
     die_name,
-    record_parts,
     size_of,
     type_name,
     type_of,

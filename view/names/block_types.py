@@ -16,6 +16,8 @@ if TYPE_CHECKING:
 
 # A type that a generic function stands for.
 PLACEHOLDER = re.compile(r"[A-Z]\w?")
+# A source in C++.
+CPP_SOURCE = re.compile(r"\.(?:cc|cpp|cxx|c\+\+|C|hh|hpp|hxx|h\+\+|H)$")
 # What a library makes for a program, and which of its functions allocate for a type, each up to its first argument.
 CONTAINER = re.compile(
     r"(?:^|[:<\s])(vector|deque|list|map|set|unordered_map|unordered_set|make_unique|make_shared|Vec|Box|Arc)(?:::)?<"
@@ -145,6 +147,16 @@ class BlockTypes:
                     first = self.held_by(found[1], sites)
                 return f"{found[1]}<{self.naming.names.remember(first)}>" if first else ""
         return ""
+
+    def is_aligned_by_type(self, sites: Sequence[Site]) -> bool:
+        """Whether a library of C++ aligns the blocks of a call site as their type is: those of a container, and of `new`."""
+        from view.names.allocated_types import NEW
+
+        frame = self.naming.own_place(self.naming.own_sites(sites)[0].addr) if sites else None
+        if frame is None or self.naming.sources is None or not CPP_SOURCE.search(frame.file):
+            return False
+        lines = self.naming.sources.text(frame.file)[max(frame.line - 1, 0) : frame.line]
+        return bool(self.container(sites)) or any(NEW.search(it) for it in lines)
 
     def held_by(self, container: str, sites: Sequence[Site]) -> str:
         """The name of the type that a container of Rust's holds, by that of the variable that the program assigns it to, or `_`."""

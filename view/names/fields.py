@@ -1,15 +1,13 @@
 """The types of a program's variables, by the debug information that its file has: which field lies at which word, and how data is
 aligned."""
 
-import bisect
 import contextlib
-import functools
 import hashlib
 import os
 import re
 import shutil
 import subprocess
-from typing import Any, Callable, Iterable, Iterator, NamedTuple, Sequence, TypeVar
+from typing import Any, Callable, Iterator, TypeVar
 
 from view.faults import Fault
 from view.names.debug_entries import Die, Unit
@@ -34,13 +32,12 @@ NAMES_FOR = (
     "DW_TAG_restrict_type",
 )
 POINTERS = ("DW_TAG_pointer_type", "DW_TAG_reference_type", "DW_TAG_rvalue_reference_type")
-# Rust's number in DWARF, and what its library and its compiler call atomic numbers and the fields of a tuple.
-RUST_LANGUAGE = 0x1C
-RUST_ATOMIC, TUPLE_FIELD = re.compile(r"Atomic(?:[A-Z]|<)"), re.compile(r"__\d+")
+# The numbers in DWARF of Rust and of the versions of C++.
+RUST_LANGUAGE, CPP_LANGUAGES = 0x1C, (0x04, 0x19, 0x1A, 0x21, 0x2A, 0x2B, 0x3A)
 A = TypeVar("A")
 B = TypeVar("B")
-# So many fields of one word are named, and records so deep are looked into.
-MOST, DEEPEST = 8, 30
+# Records so deep are looked into.
+DEEPEST = 30
 
 
 def attribute_value(die: Die, name: str, usual: Any = None) -> Any:
@@ -93,6 +90,16 @@ def last_name(name: str) -> str:
         if depth == 0 and name[at - 1 : at + 1] == "::":
             return name[at + 1 :]
     return name
+
+
+def language_of(die: Die) -> int:
+    """The number of the language of an entry's source."""
+    return int(attribute_value(die.cu.get_top_DIE(), "language", 0))
+
+
+def is_cpp(die: Die | None) -> bool:
+    """Whether an entry is of a source in C++."""
+    return die is not None and language_of(die) in CPP_LANGUAGES
 
 
 def type_of(die: Die | None) -> Die | None:
@@ -200,7 +207,7 @@ def type_name(die: Die | None) -> str:
         "DW_TAG_union_type": "union ",
         "DW_TAG_enumeration_type": "enum ",
     }
-    is_c = attribute_value(die.cu.get_top_DIE(), "language", 0) in (0x01, 0x02, 0x0C, 0x1D, 0x2C)
+    is_c = language_of(die) in (0x01, 0x02, 0x0C, 0x1D, 0x2C)
     return heads.get(die.tag, "") + (die_name(die) or "(unnamed)") if is_c else qualified(die)
 
 
@@ -217,122 +224,6 @@ def member_place(die: Die) -> tuple[int, int | None]:
         unit = attribute_value(die, "byte_size", size_of(type_of(die)))
         return start + 8 * unit - attribute_value(die, "bit_offset", 0) - bits, bits
     return start, None
-
-
-# A part of a record or an array: its name, its place and its size in bits, and its type.
-Part = tuple[str, int, int, Die | None]
-
-
-class RecordParts(NamedTuple):
-    """The parts of a record, and where each begins; `is_in_row` where none begins before the one before it ends."""
-
-    parts: Sequence[Part]
-    begins: Sequence[int]
-    is_in_row: bool
-
-    def between(self, low: int, high: int) -> list[Part]:
-        """The parts that have bits from low up to high."""
-        first, last = 0, len(self.parts)
-        if self.is_in_row:
-            first = max(bisect.bisect_right(self.begins, low) - 1, 0)
-            last = bisect.bisect_left(self.begins, high)
-        own = self.parts[first:last]
-        return [it for it in own if it[1] < high and low < it[1] + it[2]]
-
-
-@functools.lru_cache(1 << 12)
-def parts_of(die: Die) -> RecordParts:
-    parts = list(record_parts(die))
-    ends = [start + size for _, start, size, _ in parts]
-    begins = [it[1] for it in parts]
-    return RecordParts(parts, begins, all(end <= it for end, it in zip(ends, begins[1:])))
-
-
-def record_parts(die: Die) -> Iterator[Part]:
-    """What a record is made of."""
-    for child in die.iter_children():
-        if (
-            child.tag in ("DW_TAG_member", "DW_TAG_inheritance")
-            and "DW_AT_external" not in child.attributes
-        ):
-            start, bits = member_place(child)
-            own = die_name(child)
-            # (Rust's compiler names the fields of a tuple so)
-            own = own[2:] if TUPLE_FIELD.fullmatch(own) else own
-            name = f".{own}" if own and child.tag == "DW_TAG_member" else ""
-            yield name, start, 8 * size_of(type_of(child)) if bits is None else bits, type_of(child)
-
-
-def array_elements(die: Die, low: int, high: int) -> Iterator[Part]:
-    """The elements of an array that have bits from low up to high, as parts."""
-    element = type_of(die)
-    wide, dims = 8 * size_of(element), list(element_counts(die))
-    if not wide:
-        return
-    total = 1
-    for count in dims:
-        total *= count or 2**32
-    for at in range(max(low // wide, 0), min((high + wide - 1) // wide, total, low // wide + MOST)):
-        indices: list[int] = []
-        left = at
-        for count in reversed(dims[1:]):
-            left, index = divmod(left, count or 1)
-            indices.insert(0, index)
-        yield "".join(f"[{it}]" for it in [left, *indices]), at * wide, wide, element
-
-
-def is_rust_atomic(die: Die) -> bool:
-    """Whether a type is an atomic number of Rust's library, in which a program knows no fields."""
-    is_rust = attribute_value(die.cu.get_top_DIE(), "language", 0) == RUST_LANGUAGE
-    return is_rust and die.tag in RECORDS and bool(RUST_ATOMIC.match(die_name(die)))
-
-
-def field_paths(die: Die | None, low: int, high: int, depth: int = 0) -> list[str]:
-    """The names of what lies in a value's bits from low up to high: fields, elements, each member of a union."""
-    die = bare_type(die)
-    if die is None or depth > DEEPEST:
-        return [""]
-    parts: Iterable[Part]
-    if is_rust_atomic(die):
-        return [""]
-    if die.tag == "DW_TAG_array_type":
-        parts = array_elements(die, low, high)
-    elif die.tag in RECORDS:
-        parts = parts_of(die).between(low, high)
-    else:
-        # (where an address has 8 bytes, a number of 8 bytes is accessed as a whole)
-        is_whole = die.cu["address_size"] == 8 and size_of(die) == 8
-        return [f"+{low // 8}" if low >= 32 and not is_whole else ""]
-    found: list[str] = []
-    for name, start, wide, of in parts:
-        if start < high and low < start + wide and len(found) < MOST:
-            inner = field_paths(of, max(low - start, 0), min(high - start, wide), depth + 1)
-            found += [name + it for it in inner]
-    return fold_names(found)[:MOST] or [f"+{low // 8}"]
-
-
-def has_several_fields(die: Die | None, low: int, high: int, depth: int = 0) -> bool:
-    """Whether several fields or elements lie side by side in a value's bits from low up to high. Members of a union lie in one place."""
-    die = bare_type(die)
-    if die is None or depth > DEEPEST or die.tag not in (*RECORDS, "DW_TAG_array_type"):
-        return False
-    is_array = die.tag == "DW_TAG_array_type"
-    own = list(array_elements(die, low, high)) if is_array else parts_of(die).between(low, high)
-    inner = [
-        has_several_fields(of, max(low - start, 0), min(high - start, wide), depth + 1)
-        for _, start, wide, of in own
-    ]
-    if die.tag == "DW_TAG_union_type":
-        return bool(inner) and all(inner)
-    return len(own) > 1 or any(inner)
-
-
-def fold_names(names: list[str]) -> list[str]:
-    """Names that differ in a last index alone become one: `[4].key`, `[5].key`, `[6].key` is `[4..6].key`."""
-    parts = [found for it in names if (found := re.fullmatch(r"(.*)\[(\d+)\]([^\[]*)", it))]
-    if len(names) > 1 and len(parts) == len(names) and len({(it[1], it[3]) for it in parts}) == 1:
-        return [f"{parts[0][1]}[{parts[0][2]}..{parts[-1][2]}]{parts[0][3]}"]
-    return names
 
 
 def value_or_default(compute: Callable[[], A], usual: B) -> A | B:
@@ -573,28 +464,3 @@ def choose_type(several: list[Die], name: str) -> Die | None:
         die for die, own in whole if own.endswith("::" + name)
     ]
     return next(iter(exact), None)
-
-
-def word_path(die: Die | None, name: str, offset: int) -> str:
-    """The names of what lies in the word at an offset of a value."""
-    found = field_paths(die, 8 * offset, 8 * offset + 32)
-    front = os.path.commonprefix(found)
-    front = front[: max(front.rfind("."), front.rfind("["), 0)]
-    return name + ", ".join([found[0], *(it.removeprefix(front) for it in found[1:])])
-
-
-def type_at_path(die: Die | None, path: str) -> Die | None:
-    """The type of what a path as `.slots[2].low` names in a value, or none."""
-    for name, _ in re.findall(r"\.(\w+)|\[(\d+)\]", path):
-        die = bare_type(die)
-        if die is not None and die.tag == "DW_TAG_array_type":
-            die = type_of(die)
-        elif die is not None and die.tag in RECORDS:
-            die = next((of for own, _, _, of in record_parts(die) if own == f".{name}"), None)
-    return die
-
-
-def element_of(die: Die | None) -> Die | None:
-    """The type of an array's elements, or none where it is no array."""
-    die = bare_type(die)
-    return type_of(die) if die is not None and die.tag == "DW_TAG_array_type" else None

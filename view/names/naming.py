@@ -526,7 +526,8 @@ class Naming:
         """What a word is: of a known type or not, and with several fields or elements or with one."""
         if self.program is None:
             return WordKind(False, False)
-        from view.names.fields import has_several_fields, value_or_default
+        from view.names.field_paths import has_several_fields
+        from view.names.fields import value_or_default
 
         found = value_or_default(lambda: self.typed_value(obj, addr), None)
         if found is None:
@@ -560,7 +561,8 @@ class Naming:
     def part_names(self, kind: Die | None, name: str, offset: int) -> tuple[str, str, str]:
         if kind is None:
             return f"{name}{offset:+d}" if offset or not name else name, "", f"{offset:+d}"
-        from view.names.fields import element_of, size_of, word_path
+        from view.names.field_paths import element_of, word_path
+        from view.names.fields import size_of
 
         of = element_of(kind)
         if of is None or not size_of(of):
@@ -574,7 +576,8 @@ class Naming:
         )
 
     def element_names(self, kind: Die, name: str, offset: int, size: int) -> tuple[str, str, str]:
-        from view.names.fields import size_of, word_path
+        from view.names.field_paths import word_path
+        from view.names.fields import size_of
 
         wide = size_of(kind) or 1
         field = word_path(kind, "", offset % wide)

@@ -14,6 +14,7 @@ from view.model.object_keys import BlocksKey
 from view.model.fine_grain import FINE_QUANTUM, fine_objects
 from view.model.foreign_objects import row_of
 from view.model.view import RARE_MISS_DIVISOR, ObjectDetails, View
+from view.model.object_fixes import ObjectFixes
 from view.model.objects import DataObject
 from view.model.stack_overflow import is_outside_code
 from view.model.word_owners import describe_owners
@@ -413,7 +414,9 @@ def prediction(view: View, group: Sequence[PredictedLine]) -> str:
     else:
         seen = observed_false_sharing([it.line for it in group], view.misses)
         much = f"{sum(it.useless or 0 for it in group):,} false-sharing misses instead of {seen:,}"
-    apart = f"; {attribute(size)} separates the threads' words"
+    objects = [view.objects_by_key[key] for key in first.keys if key in view.objects_by_key]
+    is_cpp = any(map(ObjectFixes(view).is_cpp, objects))
+    apart = f"; {attribute(size, is_cpp)} separates the threads' words"
     return f"{what}: with {how}, {much}" + (
         f" (not expected: {first.reason})" if first.reason else apart
     )

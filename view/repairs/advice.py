@@ -19,7 +19,8 @@ STEADY = 100
 LOOKS = 2
 # With a larger quantum than this, and at least so many misses on one line, the advice is to try a smaller one.
 SHORT, MANY = 10, 50
-# An index, and one of elements that share a word.
+# What aligns in C, and below it an index, and one of elements that share a word.
+ATTRIBUTE = re.compile(r"__attribute__\(\(aligned\((\d+)\)\)\)")
 INDEX, PACKED = re.compile(r"\[\d+(?:\.\.\d+)?\]"), re.compile(r"\[\d+\.\.\d+\]")
 
 
@@ -28,9 +29,16 @@ Element = Callable[[str], str]
 SHARED, READ = "several threads", "read-only"
 
 
-def attribute(line: int) -> str:
-    """What aligns a type, a field or a variable, in C and in C++."""
-    return f"__attribute__((aligned({line})))"
+def attribute(line: int, is_cpp: bool = False) -> str:
+    """What aligns a type, a field or a variable."""
+    return f"alignas({line})" if is_cpp else f"__attribute__((aligned({line})))"
+
+
+def in_language(text: str, is_cpp: bool) -> str:
+    """A fix as the language of the object's source has it: in C++ `alignas`, which stands behind a name and before its dimensions."""
+    if not is_cpp:
+        return text
+    return ATTRIBUTE.sub(r"alignas(\1)", text).replace("after its dimensions", "after its name")
 
 
 class FieldGroup(NamedTuple):

@@ -2,6 +2,7 @@
 
 from typing import Iterable, Iterator, NamedTuple, Sequence
 
+from view.names.cpp_storage import StoredValue, held_type, is_empty, stored_value
 from view.names.debug_entries import Die
 from view.names.fields import (
     RECORDS,
@@ -20,6 +21,8 @@ from view.names.fields import (
 MAX_MOVED_RANGES, MAX_MOVED_BYTES = 100_000, 1 << 16
 # Addresses are below it.
 ADDRESS_END = 1 << 32
+# What the allocator of a value is called that a library keeps as bytes.
+ALLOCATOR = "(allocator)"
 # A structure of more fields is left in its order.
 MAX_MEMBERS = 256
 STRUCTS = ("DW_TAG_structure_type", "DW_TAG_class_type")
@@ -64,6 +67,10 @@ class Shape(NamedTuple):
         kind = bare_type(self.die)
         return kind if kind is not None and kind.tag in RECORDS else None
 
+    def held(self) -> "Shape":
+        """The value that a library of C++ keeps in it as bytes, or itself."""
+        return Shape(held_type(self.die)) if self.die is not None and not self.skip else self
+
 
 class Member(NamedTuple):
     """A field of a record: its place and size in bytes."""
@@ -73,6 +80,10 @@ class Member(NamedTuple):
     size: int
     shape: Shape
     die: Die
+
+    def path(self) -> str:
+        """What it adds to a path: nothing if it has no name of its own."""
+        return f".{self.name}" if self.name else ""
 
     def alignment(self) -> int:
         return max(declared_alignment(self.die), alignment_of(self.shape.die))
@@ -89,6 +100,9 @@ def record_members(record: Die) -> list[Member] | None:
     found: list[Member] = []
     if record.tag not in STRUCTS or is_wide(record):
         return None
+    stored = stored_value(record)
+    if stored is not None:
+        return storage_members(record, stored)
     for child in record.iter_children():
         if child.tag == "DW_TAG_inheritance":
             return None
@@ -106,6 +120,24 @@ def record_members(record: Die) -> list[Member] | None:
                 )
             )
     return found if all(it.size for it in found) else None
+
+
+def storage_members(record: Die, stored: StoredValue) -> list[Member] | None:
+    """The bases of a record that keeps a value as bytes, its allocator and the value; none where something else lies in it too."""
+    found: list[Member] = []
+    for child in record.iter_children():
+        kind = type_of(child)
+        if child.tag == "DW_TAG_inheritance" and not is_empty(kind):
+            begin = member_place(child)[0] // 8
+            found.append(
+                Member(die_name(kind) if kind else "", begin, size_of(kind), Shape(kind), child)
+            )
+        elif child.tag == "DW_TAG_member" and child != stored.member:
+            return None
+    for begin, die in stored.values():
+        name = "" if die is stored.die else ALLOCATOR
+        found.append(Member(name, begin, size_of(die), Shape(die), stored.member))
+    return found
 
 
 def wide_records(shape: Shape, depth: int = 0) -> Iterator[str]:
@@ -183,7 +215,7 @@ def lay_out_record(
     record: Die, members: Sequence[Member], change: LayoutChange, path: str
 ) -> NewLayout:
     groups = change.grouped_fields.get(record.offset)
-    own = [(it, lay_out(it.shape, change, f"{path}.{it.name}")) for it in members]
+    own = [(it, lay_out(it.shape, change, path + it.path())) for it in members]
     by_name = {member.name: inner for member, inner in own}
     at, parts, most = 0, [], declared_alignment(record)
     for group in groups or [list(members)]:
@@ -281,7 +313,7 @@ def arrays_in(shape: Shape, begins: list[int], path: str = "", depth: int = 0) -
             yield from arrays_in(
                 member.shape,
                 [at + member.begin for at in begins],
-                f"{path}.{member.name}",
+                path + member.path(),
                 depth + 1,
             )
 
@@ -319,6 +351,6 @@ def records_in(shape: Shape, begins: list[int], path: str = "", depth: int = 0) 
             yield from records_in(
                 member.shape,
                 [at + member.begin for at in begins],
-                f"{path}.{member.name}",
+                path + member.path(),
                 depth + 1,
             )

@@ -30,14 +30,15 @@ class Unpatchable(Exception):
     """A declaration that isn't spelled so that it can be changed line by line."""
 
 
-def add_attribute(text: str, name: str, line: int) -> str:
-    """A declaration with the attribute behind a name and its dimensions. (What is behind a name in parentheses is another declarator's.)"""
+def add_attribute(text: str, name: str, line: int, is_cpp: bool) -> str:
+    """A declaration with the attribute behind a name and its dimensions, in C++ before these. (What is behind a name in parentheses is
+    another declarator's.)"""
     plain = COMMENT.sub(lambda comment: " " * len(comment[0]), text)
     found = list(re.finditer(rf"\b{re.escape(name)}\b((?:\s*\[[^\]]*\])*)(?=\s*[;,={{])", plain))
     if len(found) != 1:
         raise Unpatchable(f"its line doesn't declare {name} in plain words")
-    end = found[0].end()
-    return f"{text[:end]} {attribute(line)}{text[end:]}"
+    end = found[0].start(1) if is_cpp else found[0].end()
+    return f"{text[:end]} {attribute(line, is_cpp)}{text[end:]}"
 
 
 class AlignRecord(NamedTuple):
@@ -47,22 +48,24 @@ class AlignRecord(NamedTuple):
     keyword: str
     name: str
     line: int
+    is_cpp: bool = False
 
     def key(self) -> tuple[str, int, str]:
         return self.place.file, self.place.line, "record"
 
     def apply(self, lines: list[str]) -> None:
         at = self.place.line - 1
-        named = (
-            rf"\b{self.keyword}\s+{re.escape(self.name)}\b(?=\s*(?:final\s*)?(?::[^;]*)?(?:\{{|$))"
-        )
+        # (of a template the arguments stand elsewhere)
+        name = re.escape(self.name.partition("<")[0])
+        named = rf"\b{self.keyword}\s+{name}\b(?=\s*(?:final\s*)?(?::[^;]*)?(?:\{{|$))"
         for pattern in (named, rf"\b{self.keyword}\b(?=\s*(?:\{{|$))"):
             found = re.search(
                 pattern, COMMENT.sub(lambda comment: " " * len(comment[0]), lines[at])
             )
             if found:
                 end = found.start() + len(self.keyword)
-                lines[at] = f"{lines[at][:end]} {attribute(self.line)}{lines[at][end:]}"
+                mark = attribute(self.line, self.is_cpp)
+                lines[at] = f"{lines[at][:end]} {mark}{lines[at][end:]}"
                 return
         raise Unpatchable(f"{self.keyword} {self.name} doesn't begin on its line in plain words")
 
@@ -73,13 +76,14 @@ class AlignVariable(NamedTuple):
     place: SourcePlace
     name: str
     line: int
+    is_cpp: bool = False
 
     def key(self) -> tuple[str, int, str]:
         return self.place.file, self.place.line, self.name
 
     def apply(self, lines: list[str]) -> None:
         at = self.place.line - 1
-        lines[at] = add_attribute(lines[at], self.name, self.line)
+        lines[at] = add_attribute(lines[at], self.name, self.line, self.is_cpp)
 
 
 class OrderFields(NamedTuple):
@@ -89,6 +93,7 @@ class OrderFields(NamedTuple):
     name: str
     groups: list[list[Member]]
     line: int
+    is_cpp: bool = False
 
     def key(self) -> tuple[str, int, str]:
         return self.place.file, self.place.line, "fields"
@@ -133,7 +138,8 @@ class OrderFields(NamedTuple):
             for place, member in enumerate(group):
                 segment = segments[member.name]
                 if number and not place:
-                    segment = add_attribute("\n".join(segment), member.name, self.line).split("\n")
+                    whole = "\n".join(segment)
+                    segment = add_attribute(whole, member.name, self.line, self.is_cpp).split("\n")
                 new += segment
         lines[first + 1 : at] = new
 

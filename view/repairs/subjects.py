@@ -96,6 +96,8 @@ class Subject:
         self.left_out: list[str] = []
         # (beside the object that is looked at; and blocks that the source takes for bytes)
         self.is_beside = self.is_bytes = False
+        # (blocks that a library of C++ aligns as their type is)
+        self.is_aligned_by_type = False
         # (what a thread is called)
         self.owner: Callable[[int], str] = lambda hart: f"hart {hart}"
         # (the names of structs that a call has given, each with what it is for)
@@ -110,6 +112,10 @@ class Subject:
 
     def is_blocks(self) -> bool:
         return not isinstance(self.obj.key, SymbolKey) or self.is_body()
+
+    def is_patchable(self) -> bool:
+        """Whether a change of its type's declaration is all that it takes."""
+        return not self.is_blocks() or self.is_aligned_by_type
 
     def is_body(self) -> bool:
         """Whether it is a variable that a compiler has made of the one block that a pointer points to."""
@@ -127,7 +133,8 @@ class Subject:
         part = path.removesuffix("[]")
         if not self.is_blocks() or self.is_body():
             return self.name.removesuffix(".body") + part
-        name = record_name(self.shape)[1] if self.shape and self.shape.record() else ""
+        held = self.shape.held() if self.shape else None
+        name = record_name(held)[1] if held and held.record() else ""
         return name + part if name else part.lstrip(".") or f"the block made at {self.site()}"
 
     def wrapper_name(self, path: str) -> str:
@@ -261,6 +268,10 @@ def blocks_subject(
     of = value_or_default(lambda: view.naming.type_of_block(example), None)
     shape = Shape(of) if of is not None and size_of(of) else None
     found = Subject(obj, view.label(obj), join_ranges(ranges), shape)
+    # (a library that keeps a value as bytes allocates by the type, too)
+    found.is_aligned_by_type = view.naming.blocks.is_aligned_by_type(example.sites) or (
+        shape is not None and shape.held() != shape
+    )
     found.is_bytes = shape is None and view.naming.blocks.is_byte_block(example)
     return found
 

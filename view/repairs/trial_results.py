@@ -13,7 +13,7 @@ from view.repairs.subjects import Subject
 MIN_OWN_SHARE_DIVISOR, MIN_ACCESS_SHARE_DIVISOR = 10, 1000
 # Two repairs of the same data are about as good whose savings differ by less than one in so many.
 ALIKE_DIVISOR = 50
-ALIGNMENT = re.compile(r"align(?:ed)?\((\d+)\)")
+ALIGNMENT = re.compile(r"align(?:ed|as)?\((\d+)\)")
 # Where words in which threads use different bytes have one in so many of the accesses to what threads share, words can't decide.
 MIXED_SHARE_DIVISOR = 4
 

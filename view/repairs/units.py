@@ -2,7 +2,7 @@
 
 from typing import Callable, Iterator, Literal, NamedTuple, Sequence
 
-from view.names.fields import RUST_LANGUAGE, attribute_value, type_name
+from view.names.fields import RUST_LANGUAGE, is_cpp, language_of, type_name
 from view.repairs.advice import attribute
 from view.repairs.groupings import Pattern, field_groupings
 from view.repairs.layouts import (
@@ -81,6 +81,7 @@ def move_words(subject: Subject, change: LayoutChange) -> tuple[list[MovedRange]
 def aligned_alloc_text(subject: Subject, line: int) -> str:
     """How blocks come to begin on a line. The libraries of C++ and Rust align what they allocate as its type is."""
     is_plain = subject.is_blocks() and (subject.is_body() or subject.name.startswith("block "))
+    is_plain = is_plain and not subject.is_aligned_by_type
     is_plain = is_plain and not (subject.shape and is_rust(subject.shape))
     return f", allocated with `aligned_alloc({line}, ..)`" if is_plain else ""
 
@@ -95,7 +96,7 @@ def is_rust(shape: Shape) -> bool:
     """Whether a type is one of Rust."""
     if shape.die is None:
         return False
-    return bool(attribute_value(shape.die.cu.get_top_DIE(), "language", 0) == RUST_LANGUAGE)
+    return language_of(shape.die) == RUST_LANGUAGE
 
 
 def own_lines_code(shape: Shape, line: int, wrapper: str) -> str:
@@ -109,7 +110,10 @@ def own_lines_code(shape: Shape, line: int, wrapper: str) -> str:
         return f"{'' if is_own else 'wrap it in '}`#[repr(align({line}))] {own}`{place_text(place)}"
     if place:
         keyword, name = record_name(shape)
-        return f"`{keyword} {attribute(line)} {name}".rstrip() + f"`{place_text(place)}"
+        return (
+            f"`{keyword} {attribute(line)} {name.partition('<')[0]}".rstrip()
+            + f"`{place_text(place)}"
+        )
     return (
         f"wrap it in `struct {attribute(line)} {wrapper} {{"
         f" {field_declaration(shape, 'value')}; }};`"
@@ -118,19 +122,20 @@ def own_lines_code(shape: Shape, line: int, wrapper: str) -> str:
 
 def element_option(subject: Subject, array: Array, line: int) -> Option:
     """Each element of an array on its own line."""
-    change, record = LayoutChange(line), array.shape.record()
-    how = own_lines_code(array.shape, line, subject.wrapper_name(array.path))
+    change, held = LayoutChange(line), array.shape.held()
+    record = held.record()
+    how = own_lines_code(held, line, subject.wrapper_name(array.path))
     place = user_declaration(record) if record is not None else None
     edits: list[Edit] | None = None
     if record is not None and place:
         change.aligned_records.add(record.offset)
-        edits = (
-            None if subject.is_blocks() else [AlignRecord(place, *record_name(array.shape), line)]
-        )
+        if subject.is_patchable():
+            edits = [AlignRecord(place, *record_name(held), line, is_cpp(record))]
     else:
         change.wrapped_arrays.add(array.path)
     wide = array.shape.size()
-    sizes = size_change_text(wide, round_up(wide, line), subject.size() == wide)
+    new = round_up(lay_out(array.shape, change).size, line)
+    sizes = size_change_text(wide, new, subject.size() == wide)
     return Option(
         "elements",
         f"give {elements_text(subject, array)} its own line: {how}"
@@ -196,7 +201,9 @@ def fields_option(
     )
     old, new = record.shape.size(), lay_out(record.shape, change).size
     edits: list[Edit] | None = (
-        [OrderFields(place, name, groups, line)] if place and not subject.is_blocks() else None
+        [OrderFields(place, name, groups, line, is_cpp(record.die))]
+        if place and subject.is_patchable()
+        else None
     )
     return Option(
         "fields", f"{how}, {size_change_text(old, new, subject.size() == old)}", change, edits
@@ -208,6 +215,12 @@ def line_option(subject: Subject, line: int) -> Option:
     if subject.is_body():
         how = f"allocate {subject.path_name('')} on its own lines: `aligned_alloc({line}, ..)`"
         return Option("line", how, LayoutChange(line), None)
+    if subject.is_aligned_by_type:
+        which = (
+            f"each block made at {subject.site()}" if subject.is_beside else "each of these blocks"
+        )
+        how = f"allocate {which} on its own lines: `new (std::align_val_t({line}))`, or an allocator that does"
+        return Option("line", how, LayoutChange(line), None)
     if subject.is_blocks():
         how = (
             f"allocate each {'block made at ' + subject.site() if subject.is_beside else 'of these blocks'}"
@@ -216,13 +229,15 @@ def line_option(subject: Subject, line: int) -> Option:
         )
         return Option("line", how, LayoutChange(line), None)
     place = user_declaration(subject.die) if subject.die is not None else None
-    edits: list[Edit] | None = [AlignVariable(place, subject.name, line)] if place else None
+    edits: list[Edit] | None = (
+        [AlignVariable(place, subject.name, line, is_cpp(subject.die))] if place else None
+    )
     return Option("line", subject.name + place_text(place), LayoutChange(line), edits)
 
 
 def is_declared(shape: Shape) -> bool:
-    """Whether a type is a record that the program declares."""
-    record = shape.record()
+    """Whether a type is a record that the program declares, or a library's that keeps one."""
+    record = shape.held().record()
     return record is not None and user_declaration(record) is not None
 
 
@@ -257,6 +272,7 @@ def units_of(subject: Subject, uses: WordUses, line: int) -> Iterator[Unit]:
             ]
             if options:
                 yield Unit(subject, options)
-    # (all variables get lines of their own together)
-    if subject.is_blocks() or not subject.is_beside:
+    # (all variables get lines of their own together, and blocks that are aligned by their type by this)
+    is_by_type = subject.is_aligned_by_type and shape is not None and is_declared(shape)
+    if subject.is_blocks() and not is_by_type or not (subject.is_blocks() or subject.is_beside):
         yield Unit(subject, [line_option(subject, line)])

@@ -11,13 +11,8 @@ HERE = os.path.dirname(os.path.abspath(__file__))
 sys.path.insert(0, os.path.dirname(os.path.dirname(HERE)))
 
 from view.faults import Fault  # noqa: E402
-from view.names.fields import (  # noqa: E402
-    Program,
-    has_several_fields,
-    size_of,
-    type_name,
-    word_path,
-)
+from view.names.field_paths import has_several_fields, word_path  # noqa: E402
+from view.names.fields import Program, size_of, type_name  # noqa: E402
 from view.names.native import data_symbols  # noqa: E402
 from view.names.source_lines import Sources  # noqa: E402
 
