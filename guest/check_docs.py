@@ -29,12 +29,13 @@ FILES = [
 BLOCK = "    "
 MANUAL = "docs/predator.1"
 # What commands need, by a pattern that they contain: tools of this machine, `view` for the packages of view/,
-# and `recorders` for what `predator native --build` builds.
+# `recorders` for what `predator native --build` builds, and `c++` for what guests in C++ are built with.
 NEEDS = {
     r"\bpredator view ": ["view"],
     r"\bpredator (native|view) (-- )?\./": ["recorders"],
     r"\bpredator campaign |\bfirst\.campaign/": ["snakemake"],
     r"\bguest/build\.sh ": ["clang", "ld.lld"],
+    r"\bpool\.(elf|patch)": ["c++"],
     r"\bllvm-symbolizer ": ["llvm-symbolizer"],
     r"\bgcc ": ["gcc"],
 }
@@ -55,8 +56,8 @@ def run(command, work):
 
 
 def is_installed(tool):
-    """Whether a tool is installed; of `view` whether its packages are, of `recorders` whether they are
-    built."""
+    """Whether a tool is installed; of `view` and `c++` whether their packages are, of `recorders` whether they
+    are built."""
     probes = {
         "view": ["/usr/bin/python3", "-c", "import elftools, jinja2"],
         "recorders": [
@@ -67,6 +68,7 @@ def is_installed(tool):
             "--",
             "true",
         ],
+        "c++": ["bash", "-c", f"echo '#include <thread>' | {TOP}/guest/c++ -x c++ -fsyntax-only -"],
     }
     if tool not in probes:
         return shutil.which(tool) is not None

@@ -49,8 +49,10 @@ class ObjectFixes:
             variable = program.variable(example.addr) if isinstance(example, Symbol) else None
             return list(variable.dies if variable else program.functions.get("main", []))
 
-        is_known = isinstance(program, Program)
-        return is_known and any(is_cpp(it) for it in value_or_default(lambda: dies(program), []))
+        if not isinstance(program, Program):
+            return False
+        known = program
+        return any(is_cpp(it) for it in value_or_default(lambda: dies(known), []))
 
     def choose_in_c(self, obj: DataObject, words: list[WordUse]) -> str:
         if self.is_small():
