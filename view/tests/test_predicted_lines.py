@@ -42,7 +42,7 @@ class PredictedLines(unittest.TestCase):
         )
         self.assertEqual(len(group_predicted_lines(found)), 2)
         view.misses, view.objects_by_key = native, {
-            key: SimpleNamespace(name=f"o{key}") for key in range(5)
+            key: SimpleNamespace(name=f"o{key}", example=None) for key in range(5)
         }
         self.assertIn(
             "o0, o1, o2 and 2 more: with lines starting at 0x00001020, 10 false-sharing misses instead of 9; ",
