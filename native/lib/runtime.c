@@ -20,7 +20,8 @@ __thread unsigned depth LOCAL;
 __thread unsigned long steps LOCAL;
 volatile int holder, recording;
 static int records_all, stopped;
-static volatile int busy;
+static volatile int
+    busy; /* 1 while a thread looks at the places, 2 where another one waits for it */
 static volatile int ends_by; /* the signal that is to end the program */
 static void end_now(void);
 static long quantum = 100, own_process;
@@ -30,15 +31,20 @@ ALL(DEFINED)
 
 /* ---- Turns ---- */
 
+/* (who waits sleeps: a thread with a real-time priority would keep the one that it waits for from
+ * the processor) */
 void enter(void)
 {
     inside++;
-    while (__sync_lock_test_and_set(&busy, 1))
-        CALL(SYS_sched_yield, 0, 0, 0, 0);
+    if (__sync_bool_compare_and_swap(&busy, 0, 1))
+        return;
+    while (__atomic_exchange_n(&busy, 2, __ATOMIC_ACQUIRE) != 0)
+        CALL(SYS_futex, &busy, FUTEX_WAIT_PRIVATE, 2, 0);
 }
 void leave(void)
 {
-    __sync_lock_release(&busy);
+    if (__atomic_exchange_n(&busy, 0, __ATOMIC_RELEASE) == 2)
+        CALL(SYS_futex, &busy, FUTEX_WAKE_PRIVATE, 1, 0);
     inside--;
 }
 
@@ -57,10 +63,13 @@ int next_of(int me)
 void give(int hart)
 {
     trace_turns++;
-    if (hart >= 0)
-        harts[hart].turn = 1;
+    /* (who sees its turn has to see that it is the holder) */
     __atomic_store_n(&holder, hart, __ATOMIC_RELEASE);
-    if (hart >= 0)
+    if (hart < 0)
+        return;
+    spin_ends(&harts[hart]);
+    __atomic_store_n(&harts[hart].turn, 1, __ATOMIC_SEQ_CST);
+    if (__atomic_load_n(&harts[hart].sleeps, __ATOMIC_SEQ_CST))
         CALL(SYS_futex, &harts[hart].turn, FUTEX_WAKE_PRIVATE, 1, 0);
 }
 
@@ -158,16 +167,23 @@ static void look_at_holder(int me, Look *last)
     leave();
 }
 
-void rest(int me)
+static void sleep_for_turn(int me)
 {
     Look last = {.ran = -1};
-    while (__atomic_load_n(&harts[me].turn, __ATOMIC_ACQUIRE) == 0 &&
-           __atomic_load_n(&holder, __ATOMIC_ACQUIRE) != me) {
+    __atomic_store_n(&harts[me].sleeps, 1, __ATOMIC_SEQ_CST);
+    while (__atomic_load_n(&harts[me].turn, __ATOMIC_SEQ_CST) == 0) {
         struct timespec each = {0, patience < 50000000 ? patience : 50000000};
         SysRes waited = CALL(SYS_futex, &harts[me].turn, FUTEX_WAIT_PRIVATE, 0, &each);
         if (sr_isError(waited) && sr_Err(waited) == ETIMEDOUT)
             look_at_holder(me, &last);
     }
+    harts[me].sleeps = 0;
+}
+
+void rest(int me)
+{
+    if (!spin(&harts[me]))
+        sleep_for_turn(me);
     harts[me].turn = 0;
     left = quantum;
     if (ends_by)
@@ -180,7 +196,8 @@ void pass(void)
     if (ends_by && holder == me)
         end_now();
     enter();
-    harts[me].state = WANTS;
+    if (harts[me].state != WANTS) /* (a line that nobody writes is read by all at once) */
+        harts[me].state = WANTS;
     next = next_of(me);
     if (holder < 0 || (holder == me && next != me))
         give(next);
@@ -392,6 +409,7 @@ static void in_child(void)
     int me = self;
     trace_leave();
     memset(harts, 0, sizeof harts);
+    spin_forked();
     busy = calls_of_trace = recording = ends_by = 0;
     own_process = CALL(SYS_getpid, 0, 0, 0, 0).value;
     if (me >= 0)
@@ -430,6 +448,7 @@ void __attribute__((constructor)) begin(void)
     trace_near = number_of("PREDATOR_NEAR", 0, 16, 0);
     trace_pcs = trace_pcs || trace_near;
     first_thread();
+    spin_begin();
     if (path && *path && !(trace_begin(path, table && *table ? table : 0) && trace_start()))
         _Exit(125);
     tell_first_stack();

@@ -1,5 +1,5 @@
 /* What the parts of the runtime share: runtime.c has the turns and the beginning and end of the
-   whole, accesses.c what the compiler calls, waits.c what waits for other threads, c11.c the same
+   whole, spin.c how a thread waits for its turn without the kernel, accesses.c what the compiler calls, waits.c what waits for other threads, c11.c the same
    by the names of C11, blocks.c the functions that make blocks. */
 #ifndef PREDATOR_RUNTIME_H
 #define PREDATOR_RUNTIME_H
@@ -24,13 +24,15 @@
 #define SHOWN __attribute__((visibility("default")))
 #define LOCAL __attribute__((tls_model("initial-exec")))
 
+/* (on a line of its own, since another processor may be reading it) */
+#define ALONE __attribute__((aligned(64)))
+
 enum { FREE, WANTS, WAITS, AWAY, ENDED };
 typedef struct {
     int state;
     const void *at;      /* what it waits for */
     unsigned long since; /* and in what order */
     int timed;           /* waits for a time too, and looks at it in its turns */
-    unsigned turn;       /* 1 once the turn was given to it */
     int detached;
     int tid;                             /* the system's number of it */
     const volatile unsigned long *steps; /* its own */
@@ -38,6 +40,8 @@ typedef struct {
     void *(*start)(void *);
     int (*start_c11)(void *); /* or this one */
     void *argument;
+    unsigned turn ALONE; /* 1 once the turn was given to it */
+    unsigned spins, sleeps; /* how it waits for that */
 } Hart;
 
 #define MOST_PLACES                                                                                \
@@ -63,6 +67,10 @@ void leave(void);
 int next_of(int hart); /* who has the turn behind a hart, or -1 */
 void give(int hart);
 void rest(int hart);           /* waits for the turn */
+int spin(Hart *);              /* the same without the kernel, for a moment */
+void spin_ends(Hart *);        /* the turn was given to it */
+void spin_begin(void);
+void spin_forked(void); /* no other thread is there any more */
 void pass(void);               /* gives it to the next one that wants it */
 void wait_for(const void *at); /* until another thread wakes those that wait there */
 int wake(const void *at,
