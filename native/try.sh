@@ -414,6 +414,7 @@ expect_between "pipe: killed: accesses" 300000 1000000000 "$("$judge" accesses f
 
 # The second way, the instructions of accesses, and how all ends that is ended.
 . "$here/tries/built.sh"
+. "$here/tries/turns.sh"
 . "$here/tries/pcs.sh"
 . "$here/tries/nameless.sh"
 . "$here/tries/ends.sh"

@@ -1,6 +1,7 @@
 /* What the parts of the runtime share: runtime.c has the turns and the beginning and end of the
-   whole, spin.c how a thread waits for its turn without the kernel, accesses.c what the compiler calls, waits.c what waits for other threads, c11.c the same
-   by the names of C11, blocks.c the functions that make blocks. */
+   whole, spin.c how a thread waits for its turn without the kernel, accesses.c what the compiler
+   calls, waits.c what waits for other threads, c11.c the same by the names of C11, blocks.c the
+   functions that make blocks. */
 #ifndef PREDATOR_RUNTIME_H
 #define PREDATOR_RUNTIME_H
 
@@ -40,7 +41,7 @@ typedef struct {
     void *(*start)(void *);
     int (*start_c11)(void *); /* or this one */
     void *argument;
-    unsigned turn ALONE; /* 1 once the turn was given to it */
+    unsigned turn ALONE;    /* 1 once the turn was given to it */
     unsigned spins, sleeps; /* how it waits for that */
 } Hart;
 
@@ -66,11 +67,11 @@ void enter(void); /* the places are looked at and changed between these two */
 void leave(void);
 int next_of(int hart); /* who has the turn behind a hart, or -1 */
 void give(int hart);
-void rest(int hart);           /* waits for the turn */
-int spin(Hart *);              /* the same without the kernel, for a moment */
-void spin_ends(Hart *);        /* the turn was given to it */
+void rest(int hart);    /* waits for the turn */
+int spin(Hart *);       /* the same without the kernel, for a moment */
+void spin_ends(Hart *); /* the turn was given to it */
 void spin_begin(void);
-void spin_forked(void); /* no other thread is there any more */
+void spin_forked(void);        /* no other thread is there any more */
 void pass(void);               /* gives it to the next one that wants it */
 void wait_for(const void *at); /* until another thread wakes those that wait there */
 int wake(const void *at,
