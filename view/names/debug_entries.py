@@ -30,6 +30,9 @@ class Unit(Protocol):
     def iter_DIEs(self) -> Iterator["Die"]:
         ...
 
+    def iter_DIE_children(self, die: "Die") -> Iterator["Die"]:
+        ...
+
 
 class Die(Protocol):
     """An entry of a unit: a type, a variable, a field or a function. A type that is void or unknown is none."""
@@ -38,6 +41,7 @@ class Die(Protocol):
     attributes: Mapping[str, Attribute]
     cu: Unit
     offset: int
+    size: int
     # (the whole of a program's debug information, to which `Program` adds itself)
     dwarfinfo: Any
 

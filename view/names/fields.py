@@ -13,6 +13,7 @@ from typing import Any, Callable, Iterable, Iterator, NamedTuple, Sequence, Type
 
 from view.faults import Fault
 from view.names.debug_entries import Die, Unit
+from view.names.debug_places import read_debug_information
 from view.names.source_lines import PACKAGES
 
 try:
@@ -389,13 +390,7 @@ class Program:
         except ELFError as error:
             raise Fault(f"{path} isn't an ELF file ({error})") from error
         # (by pyelftools; none without debug information)
-        self.dwarf: Any = None
-        with contextlib.suppress(Exception):
-            self.dwarf = (
-                self.elf.get_dwarf_info()
-                if self.elf.has_dwarf_info() and self.elf.get_section_by_name(".debug_info")
-                else None
-            )
+        self.dwarf, self.places = read_debug_information(self.elf)
         if self.dwarf is not None:
             self.dwarf.program = self
 
@@ -476,7 +471,9 @@ class Program:
         where = die.attributes.get("DW_AT_location")
         if where is None or where.form not in ("DW_FORM_exprloc", "DW_FORM_block1"):
             return None
-        for operation in DWARFExprParser(die.cu.structs).parse_expr(where.value)[:1]:
+        operations = DWARFExprParser(die.cu.structs).parse_expr(where.value)
+        # (an address with DW_OP_stack_value behind it is what a pointer holds)
+        for operation in operations if len(operations) == 1 else []:
             if operation.op_name == "DW_OP_addr":
                 return int(operation.args[0])
             if operation.op_name in ("DW_OP_addrx", "DW_OP_GNU_addr_index"):

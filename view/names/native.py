@@ -190,13 +190,11 @@ class NativeFile:
         """The variable at an address of the file."""
         if addr not in self.variables:
             self.variables[addr] = None
-            name = self.names.get(addr, "")
-            plain = last_name(demangle([name])[0]) if name[:2] in ("_Z", "_R") else ""
             with contextlib.suppress(Exception):
                 self.variables[addr] = next(
                     (
                         variable
-                        for variable in self.defined_variables(name, plain)
+                        for variable in self.likely_variables(addr)
                         if self.program().address(variable.dies[0]) == addr
                     ),
                     None,
@@ -212,11 +210,18 @@ class NativeFile:
         ]
         return choose_type([self.program().dwarf.get_DIE_from_refaddr(it) for it in places], text)
 
-    def defined_variables(self, *names: str) -> Iterator["NativeVariable"]:
-        """The variables of some names that have a place."""
-        for offset, text in self.program().named(*names):
-            if "DW_TAG_variable" in text and "DW_AT_location" in text:
-                yield NativeVariable(self.program().dwarf.get_DIE_from_refaddr(offset), self)
+    def likely_variables(self, addr: int) -> Iterator["NativeVariable"]:
+        """The variables that debug information may have at an address: by the place itself, or else by the symbol's name."""
+        places, name = self.program().places, self.names.get(addr, "")
+        if places is not None and name:
+            for die in places.entries_with(addr):
+                if die.tag == "DW_TAG_variable":
+                    yield NativeVariable(die, self)
+        if places is None or places.has_other_addresses():
+            plain = last_name(demangle([name])[0]) if name[:2] in ("_Z", "_R") else ""
+            for offset, text in self.program().named(name, plain):
+                if "DW_TAG_variable" in text and "DW_AT_location" in text:
+                    yield NativeVariable(self.program().dwarf.get_DIE_from_refaddr(offset), self)
 
 
 class NativeVariable(Variable):
