@@ -1,11 +1,10 @@
 """What llvm-objdump prints of instructions, and where functions begin."""
 
-import json
-import os
 import re
 import struct
-import subprocess
 from typing import NamedTuple, Sequence
+
+from view.names.symbolizer import symbolize
 
 # A function is looked through from its start up to an instruction that lies so far in it.
 FAR = 1 << 16
@@ -25,14 +24,9 @@ class DisassemblyRow(NamedTuple):
 
 def function_starts(file: str, addresses: Sequence[int]) -> dict[int, int]:
     """Where the function of each address begins, by llvm-symbolizer, and else the address itself."""
-    asked = "".join(f'"{file}" {it:#x}\n' for it in addresses)
-    words = ["llvm-symbolizer", "--output-style=JSON", "--inlines"]
-    ran = subprocess.run(
-        words, input=os.fsencode(asked), stdout=subprocess.PIPE, stderr=subprocess.DEVNULL
-    )
     found = {it: it for it in addresses}
-    for addr, row in zip(addresses, ran.stdout.decode("utf-8", "replace").splitlines()):
-        symbols = json.loads(row).get("Symbol", [])
+    for addr, answer in zip(addresses, symbolize((file, it) for it in addresses)):
+        symbols = answer.get("Symbol", [])
         start = symbols[-1].get("StartAddress", "") if symbols else ""
         if start and 0 <= addr - int(start, 16) <= FAR:
             found[addr] = int(start, 16)

@@ -3,11 +3,9 @@ program or of a library that it loaded, and their debug information says the res
 
 import contextlib
 import functools
-import json
 import os
 import re
 import struct
-import subprocess
 from typing import Iterable, Iterator, NamedTuple
 
 from view.faults import Fault
@@ -24,6 +22,7 @@ from view.reading.reports import Block, Report, Symbol, name_bytes
 from view.reading.reports import Site as CallSite
 from view.names.control_flow import instructions_before
 from view.names.source_lines import SourceLine, Sources, parse_frames
+from view.names.symbolizer import symbolize
 
 from elftools.elf.elffile import ELFFile
 from elftools.elf.sections import SymbolTableSection
@@ -402,6 +401,7 @@ class NativeProgram:
             return None
         return f"{own.path} has no symbol {obj.name} at {at:#x}"
 
+    @functools.cache
     def site_mismatch(self, site: CallSite) -> str | None:
         """What of a call site isn't in the address map, or none."""
         own = self.map.sites.get(site.addr)
@@ -509,23 +509,7 @@ class NativeSources(Sources):
 
     def symbolize(self, addresses: Iterable[tuple[NativeFile, int]]) -> list[list[SourceLine]]:
         """What debug information says of addresses of files."""
-        rows = "".join(f'"{own.debug}" {addr:#x}\n' for own, addr in addresses)
-        words = [self.tool, "--output-style=JSON", "--inlines"]
-        ran = (
-            subprocess.run(
-                words, input=os.fsencode(rows), stdout=subprocess.PIPE, stderr=subprocess.DEVNULL
-            )
-            if rows
-            else None
-        )
-        return (
-            [
-                parse_frames(json.loads(row))
-                for row in ran.stdout.decode("utf-8", "replace").splitlines()
-            ]
-            if ran
-            else []
-        )
+        return [*map(parse_frames, symbolize((own.debug, addr) for own, addr in addresses))]
 
     def near(self, address: int) -> SourceLine | None:
         """The same by the file's own addresses: an instruction's number says nothing of those before it."""

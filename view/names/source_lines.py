@@ -1,13 +1,12 @@
 """Where instructions stand in the sources, by llvm-symbolizer."""
 
-import json
 import os
 import re
 import shutil
-import subprocess
 from typing import Any, Iterable, NamedTuple, Sequence
 
 from view.faults import Fault
+from view.names.symbolizer import symbolize
 
 PACKAGES = "apt-get install llvm python3-pyelftools python3-jinja2"
 
@@ -86,10 +85,8 @@ class Sources:
         self.places: dict[int, list[SourceLine]] = {}
         self.texts: dict[str, list[str]] = {}
         self.folders = [*folders, "", os.path.dirname(os.path.abspath(program))]
-        tool = shutil.which("llvm-symbolizer")
-        if tool is None:
+        if shutil.which("llvm-symbolizer") is None:
             raise Fault(f"llvm-symbolizer isn't installed: {PACKAGES}", 127)
-        self.tool = tool
 
     def find(self, addresses: Iterable[int]) -> None:
         """Looks some addresses up in one call."""
@@ -103,15 +100,8 @@ class Sources:
         )
         if not wanted:
             return
-        ran = subprocess.run(
-            [self.tool, f"--obj={self.program}", "--output-style=JSON", "--inlines"],
-            input="".join(f"{it:#x}\n" for it in wanted).encode(),
-            stdout=subprocess.PIPE,
-            stderr=subprocess.DEVNULL,
-        )
-        for row in ran.stdout.decode("utf-8", "replace").splitlines():
-            answer = json.loads(row)
-            self.places[int(answer["Address"], 16)] = parse_frames(answer)
+        for addr, answer in zip(wanted, symbolize((self.program, it) for it in wanted)):
+            self.places[addr] = parse_frames(answer)
 
     def frames(self, address: int) -> list[SourceLine]:
         """The functions inlined at an address, the innermost first."""
