@@ -1,17 +1,18 @@
 """Where variables lie in the frames of functions, and where frames lie: by debug information, and by what instructions use through the
 stack pointer.
 
-A frame is known by its top, the stack pointer before the call of its function."""
+A frame is known by its top, the stack pointer before the call of its function; and where the function aligns the stack pointer anew, by
+that pointer from then on, from which debug information counts there too."""
 
 import bisect
 import functools
 import re
 import shutil
 import subprocess
-from typing import Any, Iterator, NamedTuple
+from typing import Any, Iterable, Iterator, NamedTuple, Sequence
 
 from view.names.debug_entries import Die
-from view.names.disassembly import DISASSEMBLY_ROW, RISCV_EXTENSIONS
+from view.names.disassembly import DISASSEMBLY_ROW, RISCV_EXTENSIONS, DisassemblyRow
 from view.names.fields import (
     Program,
     attribute_value,
@@ -31,6 +32,10 @@ OPERAND = re.compile(r"(?:^|[\s,*])(-?(?:0x[0-9a-f]+|\d+))?\((%rsp|%rbp|sp|s0)\)
 # Instructions that write below the stack pointer, and those that use no memory.
 PUSHES, NO_MEMORY = ("push", "call"), ("lea", "nop", "addi", "j")
 ADDRESS_BYTES = 8
+# Instructions that align the stack pointer anew, that move it by a number, and those before which it has moved.
+ALIGNS = re.compile(r"andq? \$-(\d+), %rsp|andi sp, sp, -(\d+)")
+MOVES = re.compile(r"(?:subq?|addq?) \$-?\d+, %rsp|addi sp, sp, -\d+")
+BODY = re.compile(r"(?:call|j|b(?:eq|ne|lt|ge)).*|.*\((?:%rsp|sp)\).*")
 # The tables that say where a frame's top is, and a row of them as llvm-dwarfdump prints it.
 UNWIND_TABLES = (".eh_frame", ".debug_frame")
 UNWIND_ROW = re.compile(r"^ +0x([0-9a-f]+): CFA=([A-Z0-9]+)(?:\+(\d+))?", re.MULTILINE)
@@ -38,6 +43,8 @@ UNWIND_REGISTERS = {"RSP": 7, "RBP": 6, "X2": 2, "X8": 8}
 FRAME_BASE = "DW_OP_call_frame_cfa"
 # The top of each frame is a multiple of this.
 FRAME_ALIGNMENT = 16
+# The stack pointer is aligned by one of the first instructions.
+MAX_PROLOGUE = 64
 # Unwind tables of more bytes aren't read, nor functions of more bytes disassembled.
 MAX_TABLE_BYTES, MAX_FUNCTION_BYTES = 1 << 20, 1 << 16
 # (the innermost function at an address may be one that is inlined there)
@@ -62,6 +69,13 @@ class StackOperand(NamedTuple):
     is_push: bool
 
 
+class AlignedStack(NamedTuple):
+    """From an instruction of a function on the stack pointer has moved to a multiple of a number, and stays."""
+
+    begin: int
+    alignment: int
+
+
 class Local(NamedTuple):
     """A variable of a function, how far it lies above the frame's top, and its size."""
 
@@ -78,6 +92,20 @@ def stack_operand(name: str, operands: str, pointer: int) -> StackOperand | None
     return StackOperand(REGISTERS[found[2]], int(found[1] or "0", 0), False) if found else None
 
 
+def aligned_stack(rows: Sequence[DisassemblyRow]) -> AlignedStack | None:
+    """Where the first instructions of a function have aligned the stack pointer anew and made room, or none where they don't."""
+    found: AlignedStack | None = None
+    for at, row in enumerate(rows[:MAX_PROLOGUE]):
+        text = f"{row.name} {row.operands.strip()}"
+        if found is None and (aligns := ALIGNS.fullmatch(text)) and at + 1 < len(rows):
+            found = AlignedStack(rows[at + 1].addr, int(aligns[1] or aligns[2]))
+        elif found is not None and MOVES.fullmatch(text) and at + 1 < len(rows):
+            return found._replace(begin=rows[at + 1].addr)
+        elif BODY.fullmatch(text) and found is not None:
+            break
+    return found
+
+
 def inner_variables(die: Die) -> Iterator[Die]:
     """The variables of a function, those of its blocks and of functions that are inlined there too."""
     for child in die.iter_children():
@@ -90,18 +118,32 @@ def inner_variables(die: Die) -> Iterator[Die]:
 class FrameFunction:
     """A function: where its code lies, how to find its frame's top from there, and its variables."""
 
-    def __init__(self, begin: int, rules: list[FrameRule], operands: dict[int, StackOperand]):
+    def __init__(
+        self,
+        begin: int,
+        rules: list[FrameRule],
+        operands: dict[int, StackOperand],
+        pointer: int,
+        aligned: AlignedStack | None = None,
+    ) -> None:
         self.begin, self.rules, self.operands = begin, rules, operands
+        self.pointer, self.aligned = pointer, aligned
         self.name, self.locals = "", list[Local]()
 
     def frame_top(self, pc: int, addr: int, is_write: bool) -> int | None:
         """The top of the frame whose memory at an address an instruction uses, or none where that isn't told."""
         at = bisect.bisect_right(self.rules, pc, key=lambda rule: rule.begin) - 1
-        operand = self.operands.get(pc)
-        if at < 0 or operand is None or operand.register != self.rules[at].register:
+        operand, aligned = self.operands.get(pc), self.aligned
+        if operand is None:
             return None
-        top = addr - operand.distance + self.rules[at].distance
-        is_right = (is_write or not operand.is_push) and top % FRAME_ALIGNMENT == 0
+        if aligned is not None:
+            is_there = pc >= aligned.begin and operand.register == self.pointer
+            top, alignment = addr - operand.distance, aligned.alignment
+        else:
+            is_there = at >= 0 and operand.register == self.rules[at].register
+            top = addr - operand.distance + (self.rules[at].distance if is_there else 0)
+            alignment = FRAME_ALIGNMENT
+        is_right = is_there and (is_write or not operand.is_push) and top % alignment == 0
         # (a wide access is several of a word each, of which the first is where the instruction says)
         return top if is_right else None
 
@@ -120,11 +162,13 @@ class FrameFunction:
         return None if is_aligned or not distances else -max(distances)
 
     def add_locals(self, die: Die) -> None:
-        base = self.base_place(die)
+        # (of a stack that is aligned anew debug information counts from the stack pointer itself)
+        base = 0 if self.aligned else self.base_place(die)
+        counts_from = f"DW_OP_breg{self.pointer}" if self.aligned else "DW_OP_fbreg"
         self.name = next((it for it in map(die_text, origins(die)) if it), "")
         for variable in inner_variables(die) if base is not None else ():
             operation = first_operation(variable, "location")
-            if operation is None or operation.op_name != "DW_OP_fbreg":
+            if operation is None or operation.op_name != counts_from:
                 continue
             size = next((size_of(of) for it in origins(variable) if (of := type_of(it))), 0)
             if size:
@@ -176,8 +220,8 @@ class Frames:
         )
         return self.rules[first:last]
 
-    def operands(self, begin: int, end: int) -> dict[int, StackOperand]:
-        """What each instruction of some code uses of the stack."""
+    def instructions(self, begin: int, end: int) -> list[DisassemblyRow]:
+        """The instructions of some code."""
         more = RISCV_EXTENSIONS if self.pointer == STACK_POINTER["EM_RISCV"] else []
         words = [f"--start-address={begin:#x}", f"--stop-address={end:#x}", self.path]
         ran = subprocess.run(
@@ -186,7 +230,11 @@ class Frames:
             stderr=subprocess.DEVNULL,
         )
         rows = map(DISASSEMBLY_ROW.match, ran.stdout.decode("utf-8", "replace").split("\n"))
-        found = ((int(it[1], 16), stack_operand(it[2], it[3], self.pointer)) for it in rows if it)
+        return [DisassemblyRow(int(it[1], 16), it[2], it[3]) for it in rows if it]
+
+    def operands(self, rows: Iterable[DisassemblyRow]) -> dict[int, StackOperand]:
+        """What each instruction uses of the stack."""
+        found = ((it.addr, stack_operand(it.name, it.operands, self.pointer)) for it in rows)
         return {at: operand for at, operand in found if operand}
 
     def begin_of(self, addr: int) -> int | None:
@@ -214,6 +262,10 @@ class Frames:
             die = die.get_parent()
         if die is None:
             return None
-        found = FrameFunction(begin, self.rules_of(begin, end), self.operands(begin, end))
+        rows = self.instructions(begin, end)
+        found = FrameFunction(
+            *(begin, self.rules_of(begin, end), self.operands(rows), self.pointer),
+            aligned_stack(rows),
+        )
         found.add_locals(die)
         return found if found.locals else None
