@@ -222,9 +222,10 @@ class OfThisMachine(unittest.TestCase):
                 self.build("aligned.c", compiler, *flags)
                 found, text = self.look("aligned", "--no-fine")
                 self.assertEqual(found[0]["name"], "sums", (compiler, level))
-                self.assertIn("struct pair, aligned.c:25 (in run, on the stack of", text)
+                self.assertIn("struct pair, aligned.c:24 (in run, on the stack of", text)
                 self.assertIn("thread 1: .first; thread 2: .second", text)
-                self.assertIn("put `__attribute__((aligned(64)))` after second", found[0]["fix"])
+                fix = found[0]["fix"].replace("`", "")
+                self.assertIn(f"put {test_followed.LINE} after second", fix)
                 self.assertLess(found[0]["tried"]["after"]["false_sharing"], 10)
 
     def test_a_hash_table(self):
