@@ -1,4 +1,5 @@
-/* Four threads of different real-time priorities take one lock in turns. Without the right to have them it says so, and runs as it is. */
+/* Four threads of different real-time priorities take one lock in turns. Without the right to have
+ * them it says so, and runs as it is. */
 #include <pthread.h>
 #include <sched.h>
 #include <stdio.h>

@@ -42,7 +42,8 @@ class DebugPlaces:
         at = bisect.bisect_right(self.begins, offset) - 1
         if not 0 <= at < len(self.begins) - 1:
             raise ValueError(f"no unit has {offset:#x}")
-        return self.dwarf.get_CU_at(self.begins[at])
+        unit: Unit = self.dwarf.get_CU_at(self.begins[at])
+        return unit
 
     def has_other_addresses(self) -> bool:
         """Whether expressions may name addresses by their place in a table (DW_OP_addrx)."""

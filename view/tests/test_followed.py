@@ -425,6 +425,18 @@ class Followed(Following):
             before["screen"],
         )
 
+    def test_aligned(self):
+        """Variables of a stack that their function aligns anew."""
+        self.follow(
+            "aligned",
+            [
+                "group the fields of struct pair (aligned.c:10), each group on its own lines: first (hart 1);"
+                f" second (hart 2); put {LINE} after second"
+            ],
+            [("    int first, second;\n", f"    int first {LINE};\n    int second {LINE};\n")],
+            words=("--explain", "1"),
+        )
+
     def test_no_layout_helps(self):
         for name in ("broker", "ledger", "mailbox"):
             program = self.build(name, self.source(name))

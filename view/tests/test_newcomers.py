@@ -214,6 +214,57 @@ class OfThisMachine(unittest.TestCase):
         self.assertEqual(status, 2)
         self.assertIn("'contexts' may lie on a stack, where nothing has a name without pcs", said)
 
+    def test_variables_of_a_frame_that_is_aligned(self):
+        """Where a function aligns the stack pointer anew they have their names too."""
+        for compiler, level in (("gcc", "-O0"), ("gcc", "-O2"), ("clang", "-O1")):
+            if shutil.which(compiler) is not None:
+                flags = ("-gdwarf-4", level, "-fno-inline", "-pthread")
+                self.build("aligned.c", compiler, *flags)
+                found, text = self.look("aligned", "--no-fine")
+                self.assertEqual(found[0]["name"], "sums", (compiler, level))
+                self.assertIn("struct pair, aligned.c:24 (in run, on the stack of", text)
+                self.assertIn("thread 1: .first; thread 2: .second", text)
+                fix = found[0]["fix"].replace("`", "")
+                self.assertIn(f"put {test_followed.LINE} after second", fix)
+                self.assertLess(found[0]["tried"]["after"]["false_sharing"], 10)
+
+    def test_a_hash_table(self):
+        """The arrays of locks, counts and buckets that are indexed alike become one."""
+        self.build("buckets.c", "gcc", "-g", "-O2", "-pthread")
+        found, _ = self.look("buckets", "--no-fine")
+        self.assertIn("join table.locks, table.counts and table.buckets", found[0]["fix"])
+        self.assertIn("struct entry *buckets[4];", found[0]["fix"])
+        before, after = (found[0]["tried"][it]["false_sharing"] for it in ("before", "after"))
+        self.assertLess(after * 4, before)
+
+    @unittest.skipIf(shutil.which("rustc") is None, "rustc is missing")
+    def test_rust(self):
+        """A vector has its types' names and its fields; the fix that is named comes out once it is made."""
+        self.build("counts.rs", "rustc", "-g", "-O")
+        found, text = self.look("counts", "--no-fine")
+        self.assertEqual(
+            found[0]["name"], "Vec<counts::Counts> made at counts.rs:19 (counts::main)"
+        )
+        self.assertIn("thread 1: [0]; thread 2: [1]", text)
+        self.assertRegex(text, r"\[0\]\.taken +thread 1 .*\[1\]\.dropped +thread 2 ")
+        self.assertIn("counts.rs:14 (counts::count < closure at counts.rs:22)", text)
+        self.assertIn("give each element its own line: `#[repr(align(64))]", found[0]["fix"])
+        source = os.path.join(self.folder, "counts.rs")
+        with open(source, encoding="utf-8") as file:
+            aligned = file.read().replace("struct Counts", "#[repr(align(64))] struct Counts", 1)
+        with open(source, "w", encoding="utf-8") as file:
+            file.write(aligned)
+        command = ["rustc", "-g", "-O", "counts.rs", "-o", "counts"]
+        subprocess.run(command, cwd=self.folder, check=True)
+        self.look("counts", "--no-fine")
+        with open(os.path.join(self.folder, "json"), encoding="utf-8") as file:
+            total = json.load(file)["total"]
+        missed, foretold = (
+            sum(it[own] for own in test_followed.MISSES)
+            for it in (total, found[0]["tried"]["after"])
+        )
+        self.assertLessEqual(abs(missed - foretold) * 10, foretold)
+
     def test_a_run_of_which_nothing_was_recorded(self):
         words = ("native", shutil.which("true"), "--fail-above", "0")
         status, _, said = view(*words, program=PROGRAM, cwd=self.folder)
