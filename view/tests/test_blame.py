@@ -304,8 +304,8 @@ class OfThisMachine(Compiled):
         self.assertEqual(os.listdir(left), [])
         return text
 
-    def judge(self, text):
-        self.shows(text, "stack of thread 0, used in on_stack", "(in_plain)")
+    def judge(self, text, stack):
+        self.shows(text, stack, "(in_plain)")
         self.assertRegex(
             joined(text),
             r"[0-9] memory of data file, used at nameless\.c:[0-9]+ \(in_file\) where ",
@@ -327,16 +327,17 @@ class OfThisMachine(Compiled):
         )
 
     def test_by_valgrind(self):
+        # (valgrind's instructions are the program's, which say where the variable lies)
         program = self.compiled("nameless")
-        self.judge(self.shown(program, "--top", "4"))
-        self.judge(self.shown(program, "native", "--top=4", "--no-predicted", "--"))
+        stack = "own: unsigned int[32], nameless.c:46 (in main, on the stack of thread 0)"
+        self.judge(self.shown(program, "--top", "4"), stack)
+        self.judge(self.shown(program, "native", "--top=4", "--no-predicted", "--"), stack)
 
     def test_by_the_compiler(self):
         # (which of the two records it the program's file says)
         library = os.path.join(TOP, "native", "out", "lib")
-        self.judge(
-            self.shown(self.compiled("nameless", "-fsanitize=thread", f"-L{library}"), "--top", "4")
-        )
+        program = self.compiled("nameless", "-fsanitize=thread", f"-L{library}")
+        self.judge(self.shown(program, "--top", "4"), "stack of thread 0, used in on_stack")
 
 
 @unittest.skipUnless(
