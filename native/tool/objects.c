@@ -244,7 +244,8 @@ static void make_block(Addr addr, SizeT size, const Addr *own)
     }
     if (unrecorded_count == unrecorded_room) {
         unrecorded_room = unrecorded_room ? 2 * unrecorded_room : 4096;
-        unrecorded = VG_(realloc)("predator.unrecorded", unrecorded, unrecorded_room * sizeof *unrecorded);
+        unrecorded =
+            VG_(realloc)("predator.unrecorded", unrecorded, unrecorded_room * sizeof *unrecorded);
     }
     unrecorded[unrecorded_count++] = addr;
 }
