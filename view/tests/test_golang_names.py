@@ -1,7 +1,6 @@
 """The names of code, call sites and memory of a stripped program of Go."""
 
 import functools
-import json
 import os
 import sys
 import unittest
@@ -100,12 +99,7 @@ class Names(OfBytes):
                 {},
             )
         ]
-        with mock.patch(
-            "view.names.native.subprocess.run",
-            return_value=mock.Mock(
-                stdout="\n".join(map(json.dumps, (*answers, *answers))).encode()
-            ),
-        ):
+        with mock.patch("view.names.native.symbolize", return_value=[*answers, *answers]):
             sources = NativeSources(native)
             sources.find([TEXT, TEXT + 16, TEXT + 24, TEXT + 144, TEXT + 164, TEXT + 176])
         self.assertEqual(sources.frames(TEXT), [SourceLine("own", "/own.c", 3)])
@@ -113,10 +107,7 @@ class Names(OfBytes):
         self.assertEqual(sources.frames(TEXT + 24), [SourceLine("main.plain", B, 6)])
         self.assertEqual(sources.frames(TEXT + 144), [SourceLine("own", "/own.c", 3)])
         self.assertEqual(sources.frames(TEXT + 164), [SourceLine("own", "", 0)])
-        with mock.patch(
-            "view.names.native.subprocess.run",
-            return_value=mock.Mock(stdout=json.dumps(answers[1]).encode()),
-        ):
+        with mock.patch("view.names.native.symbolize", return_value=[answers[1]]):
             sources = NativeSources(native)
             self.assertEqual(sources.frames(TEXT + 144), [SourceLine("recorded", "r.c", 1)])
             native.map.sites = {}
