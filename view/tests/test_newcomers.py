@@ -183,9 +183,7 @@ class OfThisMachine(unittest.TestCase):
         self.assertNotIn("new_allocator", text)
         self.assertNotIn("()()", text)
         fixes = [it["fix"].replace("`", "") for it in found if it["tried"]]
-        self.assertTrue(
-            any(f"struct {test_followed.LINE} Worker (pool.cpp:8)" in it for it in fixes), fixes
-        )
+        self.assertTrue(any("struct alignas(64) Worker (pool.cpp:8)" in it for it in fixes), fixes)
 
     def test_a_ring(self):
         """What threads contend for only in short turns has its fix by another recording of the same program."""
